@@ -1,0 +1,3 @@
+pub mod Signed
+pub mod FloorLaws
+pub mod Twos

@@ -1,0 +1,60 @@
+-- Books and questions written as bytes, for the worked sums: the layouts of specs/, the other way round.
+use Prim.Native.Nat.{ℕ, suc, _+_}
+use mathlib.Core.List.{List, [], _∷_, _++_, map}
+use lib.ListN.{length}
+use lib.IntN.{ℤ, pos}
+use Rattle.rules.specs.Lists.{join}
+use Rattle.rules.specs.Bytes.{bytesOf, signedBytesOf}
+use Rattle.rules.specs.Book.{Row}
+use Rattle.rules.specs.declared.Value.{Value}
+use Rattle.rules.specs.declared.Value.the-variants.{Fixed, Percent}
+
+abbrev pub nameBytes : List ℕ → List ℕ
+nameBytes s = length s ∷ s
+
+abbrev pub recordBytes : ℕ → List ℕ → List ℕ
+recordBytes kind body = bytesOf 2 (suc (length body)) ++ (kind ∷ body)
+
+abbrev pub bookBytes : List (List ℕ) → List ℕ
+bookBytes rs = bytesOf 4 (5 + length (join rs)) ++ (1 ∷ join rs)
+
+abbrev pub articleBytes : List ℕ → List ℕ → List ℕ
+articleBytes n scheme = recordBytes 1 (nameBytes n ++ nameBytes scheme)
+
+abbrev pub valueBytes : Value → List ℕ
+valueBytes (Fixed c) = 1 ∷ signedBytesOf 4 (c .0)
+valueBytes (Percent h) = 0 ∷ signedBytesOf 4 (h .0)
+
+abbrev pub rowBytes : Row → List ℕ
+rowBytes r =
+    recordBytes 2
+    (nameBytes (r .article)
+    ++ (nameBytes (r .condition)
+    ++ (r .sort
+    ∷ r .level
+    ∷ r .rule
+    ∷ (bytesOf 4 (r .text)
+    ++ (valueBytes (r .value) ++ (r .currency ++ (bytesOf 4 (r .from) ++ (bytesOf 4 (r .to) ++ (bytesOf 4 (r .upTo) ++ bytesOf 2 (r .rounding))))))))))
+
+abbrev pub roundingBytes : ℕ → ℕ → ℕ → List ℕ
+roundingBytes n way step = recordBytes 3 (bytesOf 2 n ++ (way ∷ (bytesOf 4 step ++ (signedBytesOf 4 (pos 0) ++ signedBytesOf 4 (pos 0)))))
+
+abbrev pub packBytes : List ℕ → List ℕ → ℕ → List ℤ → List (List ℕ) → List ℕ
+packBytes article condition present values units =
+    recordBytes 4 (nameBytes article ++ (nameBytes condition ++ (present ∷ (join (map (signedBytesOf 4) values) ++ join units))))
+
+abbrev pub schemeBytes : List ℕ → List ℕ → List ℕ → ℕ → ℕ → ℕ → ℕ → List ℕ
+schemeBytes id numberSeparator valueSeparator visibility hidden unselected trim =
+    recordBytes 5 (nameBytes id ++ (nameBytes numberSeparator ++ (nameBytes valueSeparator ++ (visibility ∷ hidden ∷ unselected ∷ trim ∷ []))))
+
+abbrev pub propertyBytes : ℕ → ℕ → List ℕ → List ℕ
+propertyBytes width state value = width ∷ state ∷ nameBytes value
+
+abbrev pub countedBytes : List (List ℕ) → List ℕ
+countedBytes xs = length xs ∷ join xs
+
+abbrev pub questionBytes : List ℕ → ℕ → List ℕ → ℕ → ℕ → List (List ℕ) → List (List ℕ) → List ℕ
+questionBytes article sort currency date quantity granted properties = bytesOf 4 (4 + length rest) ++ rest
+  where
+    rest : List ℕ
+    rest = 1 ∷ (nameBytes article ++ (sort ∷ (currency ++ (bytesOf 4 date ++ (bytesOf 4 quantity ++ (countedBytes (map nameBytes granted) ++ countedBytes properties))))))

@@ -1,0 +1,43 @@
+-- "From rows to a total": the exact amount of a row, and its rounding.
+use Prim.Native.Nat.{ℕ, _*_}
+use mathlib.Core.Bool.{Bool}
+use lib.IntN.{ℤ, pos, negℤ, _+ℤ_, _*ℤ_}
+use Rattle.integers.specs.Floor.{floor}
+use Rattle.rules.specs.declared.Cents.{Cents}
+use Rattle.rules.specs.declared.Value.{Value}
+use Rattle.rules.specs.declared.Value.the-variants.{Fixed, Percent}
+use Rattle.rules.specs.declared.Way.{Way}
+use Rattle.rules.specs.declared.Way.the-variants.{Down, Up, Commercial}
+use Rattle.rules.specs.declared.Rounding.{Rounding}
+use Rattle.rules.specs.declared.Fraction.{Fraction}
+
+-- an amount is its value; a percentage is a share of what it is of, in cents
+unfoldable pub exact : Value → ℤ → Fraction
+exact (Fixed c) of = record { top = c .0; bottom = 1 }
+exact (Percent h) of = record { top = h .0 *ℤ of; bottom = 10000 }
+
+-- the greatest whole number not above z / n is `floor z n`; this is the least one not below it
+unfoldable pub ceiling : ℤ → ℕ → ℤ
+ceiling z n = negℤ (floor (negℤ z) n)
+
+-- the whole number nearest to z / n, halves to the greater
+unfoldable pub nearest : ℤ → ℕ → ℤ
+nearest z n = floor (z *ℤ pos 2 +ℤ pos n) (n * 2)
+
+-- how many steps z / n is, n counting the parts of a step
+unfoldable pub stepsBy : Way → ℤ → ℕ → ℤ
+stepsBy Down z n = floor z n
+stepsBy Up z n = ceiling z n
+stepsBy Commercial z n = nearest z n
+
+-- an amount and some cents more
+abbrev pub plus : Fraction → Cents → Fraction
+plus x c = record { top = x .top +ℤ c .0 *ℤ pos (x .bottom); bottom = x .bottom }
+
+-- an amount brought to a multiple of the step
+unfoldable pub multipleBy : Way → ℕ → Fraction → ℤ
+multipleBy way step x = stepsBy way (x .top) (x .bottom * step) *ℤ pos step
+
+-- some cents are added before, and some after
+unfoldable pub rounded : Rounding → Fraction → ℤ
+rounded r x = multipleBy (r .way) (r .step) (plus x (r .before)) +ℤ r .after .0

@@ -1,0 +1,75 @@
+-- "The price book": how numbers and names stand in bytes, for every layout.
+use Prim.Native.Nat.{ℕ, zero, suc, _+_, _*_, _-_, _/_, _%_, _^_}
+use mathlib.Core.Bool.{Bool, true, false, _&&_, _||_, not, cond}
+use mathlib.Core.List.{List, [], _∷_, _++_}
+use mathlib.Core.Option.{Option, some, none}
+use lib.Dec.{eqb, leb, ltb}
+use lib.IntN.{ℤ, pos, negsuc}
+use Rattle.rules.specs.Lists.{between, all, any}
+use Rattle.rules.specs.Letters.{letter}
+use Rattle.rules.specs.Layout.{Layout, _>>=_, give, giveIf, _such_, bytes, byte}
+
+-- ---- numbers, the highest byte first
+
+-- the number whose bytes are those of n, and then these
+abbrev pub bigFrom : ℕ → List ℕ → ℕ
+bigFrom n [] = n
+bigFrom n (b ∷ bs) = bigFrom (n * 256 + b) bs
+
+abbrev pub big : List ℕ → ℕ
+big bs = bigFrom 0 bs
+
+-- a number of k bytes, read with a sign: the upper half of the range stands for the numbers below zero
+abbrev pub signedOf : ℕ → ℕ → ℤ
+signedOf k n = cond (ltb n (2 ^ (8 * k - 1))) (pos n) (negsuc (2 ^ (8 * k) - 1 - n))
+
+abbrev pub number : ℕ → Layout ℕ
+number k = do
+  bs ← bytes k
+  give (big bs)
+
+abbrev pub signed : ℕ → Layout ℤ
+signed k = do
+  n ← number k
+  give (signedOf k n)
+
+-- and written: the k bytes of a number
+abbrev pub bytesOf : ℕ → ℕ → List ℕ
+bytesOf zero n = []
+bytesOf (suc k) n = (n / 256 ^ k) % 256 ∷ bytesOf k n
+
+abbrev pub twos : ℕ → ℤ → ℕ
+twos k (pos n) = n
+twos k (negsuc n) = 2 ^ (8 * k) - 1 - n
+
+abbrev pub signedBytesOf : ℕ → ℤ → List ℕ
+signedBytesOf k z = bytesOf k (twos k z)
+
+-- at most n either side of zero
+abbrev pub eitherSide : ℕ → ℤ → Bool
+eitherSide n (pos m) = leb m n
+eitherSide n (negsuc m) = ltb m n
+
+-- ---- letters and names
+
+-- one byte, of a few
+abbrev pub oneOf : List ℕ → Layout ℕ
+oneOf bs = byte such λ b. any (eqb b) bs
+
+-- the printable bytes of Latin-1
+abbrev pub nameByte : ℕ → Bool
+nameByte b = between 32 126 b || between 160 255 b
+
+-- a length byte from lo to hi, and that many printable bytes
+abbrev pub name : ℕ → ℕ → Layout (List ℕ)
+name lo hi = do
+  n ← byte such between lo hi
+  bytes n such all nameByte
+
+-- a currency's letters
+abbrev pub capitals : List ℕ → Bool
+capitals bs = all (between (letter "A") (letter "Z")) bs
+
+-- "Which row is chosen": small letters of a granted name become capitals
+abbrev pub raise : ℕ → ℕ
+raise b = cond (between (letter "a") (letter "z") b) (b - 32) b

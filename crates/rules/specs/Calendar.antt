@@ -1,0 +1,118 @@
+-- "Calendar": the outcome of each day of a period, and the longest stretches of days with one outcome.
+use Prim.Native.Nat.{ℕ, zero, suc, _+_, _*_}
+use mathlib.Core.Bool.{Bool, true, false, _&&_, cond}
+use mathlib.Core.List.{List, [], _∷_, _++_, map}
+use mathlib.Core.Option.{Option, some, none}
+use lib.Dec.{eqb, leb}
+use lib.ListN.{length, drop}
+use lib.IntN.{ℤ, pos, negsuc}
+use Rattle.rules.specs.Lists.{same, join}
+use Rattle.rules.specs.Bytes.{bytesOf, signedBytesOf}
+use Rattle.rules.specs.Days.{isDay, daysTo}
+use Rattle.rules.specs.Book.{Record, articleOf}
+use Rattle.rules.specs.BookLayout.{records}
+use Rattle.rules.specs.Question.{Question, questionOf, on, noCurrency}
+use Rattle.rules.specs.Lines.{total}
+use Rattle.rules.specs.Refusals.{Result, done, refused, _>>=_, orRefuse, refuseUnless, numberOf, orZero, lentAfter}
+use Rattle.rules.specs.Price.{Priced, priced}
+use Rattle.rules.specs.declared.Written.{Written}
+use Rattle.rules.specs.declared.Stretch as Declared
+
+-- ---- the outcome of a day
+
+-- 0 with a currency and a unit total; or a refusal, with zeros
+pub record Outcome : Type 0 where
+  pub refusal : ℕ
+  pub currency : List ℕ
+  pub unit : ℤ
+
+unfoldable pub outcomeOf : Result Priced → Outcome
+outcomeOf r = record { refusal = numberOf r; currency = orZero noCurrency (λ p. p .currency) r; unit = orZero (pos 0) (λ p. total (p .lines)) r }
+
+-- each day is priced alone
+unfoldable pub outcome : List Record → Question → ℕ → Outcome
+outcome book q d = outcomeOf (priced book (on q d))
+
+abbrev pub sameInt : ℤ → ℤ → Bool
+sameInt (pos a) (pos b) = eqb a b
+sameInt (pos a) (negsuc b) = false
+sameInt (negsuc a) (pos b) = false
+sameInt (negsuc a) (negsuc b) = eqb a b
+
+unfoldable pub sameOutcome : Outcome → Outcome → Bool
+sameOutcome a b = eqb (a .refusal) (b .refusal) && (same (a .currency) (b .currency) && sameInt (a .unit) (b .unit))
+
+-- ---- stretches
+
+pub record Stretch : Type 0 where
+  pub first : ℕ
+  pub last : ℕ
+  pub outcome : Outcome
+
+-- a day before a stretch makes it longer, or is a stretch of its own
+abbrev pub longer : Bool → ℕ → Outcome → Stretch → List Stretch → List Stretch
+longer true d o s ss = record { first = d; last = s .last; outcome = s .outcome } ∷ ss
+longer false d o s ss = record { first = d; last = d; outcome = o } ∷ s ∷ ss
+
+abbrev pub before : ℕ → Outcome → List Stretch → List Stretch
+before d o [] = record { first = d; last = d; outcome = o } ∷ []
+before d o (s ∷ ss) = longer (sameOutcome o (s .outcome)) d o s ss
+
+unfoldable pub stretches : (ℕ → Outcome) → List ℕ → List Stretch
+stretches f [] = []
+stretches f (d ∷ ds) = before d (f d) (stretches f ds)
+
+-- the 20 bytes of a stretch
+abbrev pub stretchBytes : Stretch → List ℕ
+stretchBytes s = bytesOf 4 (s .first) ++ (bytesOf 4 (s .last) ++ (s .outcome .refusal ∷ (s .outcome .currency ++ signedBytesOf 8 (s .outcome .unit))))
+
+unfoldable pub stretchesBytes : List Stretch → List ℕ
+stretchesBytes ss = join (map stretchBytes ss)
+
+-- ---- the call: refusals 1, 2, 9, 3, 10, 7
+
+abbrev pub mostDays : ℕ
+mostDays = 1096
+
+-- the days of a period, both ends among them
+unfoldable pub periodTo : ℕ → ℕ → Option (List ℕ)
+periodTo start end = cond (isDay end && leb start end) (daysTo mostDays start end) none
+
+-- how much room the answer takes is for the caller's form to say: 20 bytes, or one record, for each stretch
+unfoldable pub calendarIn : ℕ → List ℕ → List ℕ → ℕ → ℕ → Result (List Stretch)
+calendarIn size bookBytes questionBytes end room = do
+  book ← orRefuse 1 (records bookBytes)
+  q ← orRefuse 2 (questionOf questionBytes)
+  days ← orRefuse 9 (periodTo (q .date) end)
+  _ ← orRefuse 3 (articleOf book (q .article))
+  let ss = stretches (outcome book q) days
+  _ ← refuseUnless 10 (leb (length ss) 1200)
+  _ ← refuseUnless 7 (leb (size * length ss) room)
+  done ss
+
+-- ---- as bytes
+
+abbrev pub calendar : List ℕ → List ℕ → ℕ → ℕ → Result (List Stretch)
+calendar bookBytes questionBytes end room = calendarIn 20 bookBytes questionBytes end room
+
+unfoldable pub shownBytes : Result (List Stretch) → Written
+shownBytes r = record { length = orZero 0 (λ ss. 20 * length ss) r; number = numberOf r }
+
+abbrev pub lentAfterCalendar : Result (List Stretch) → List ℕ → List ℕ
+lentAfterCalendar r lent = lentAfter stretchesBytes r lent
+
+-- ---- as a lent list of records
+
+abbrev pub calendarList : List ℕ → List ℕ → ℕ → ℕ → Result (List Stretch)
+calendarList bookBytes questionBytes end room = calendarIn 1 bookBytes questionBytes end room
+
+unfoldable pub shownRecords : Result (List Stretch) → Written
+shownRecords r = record { length = orZero 0 length r; number = numberOf r }
+
+abbrev pub listed : Stretch → Declared.Stretch
+listed s =
+    record { first = s .first; last = s .last; unit = s .outcome .unit; refusal = s .outcome .refusal; currency = s .outcome .currency }
+
+unfoldable pub lentAfterList : Result (List Stretch) → List Declared.Stretch → List Declared.Stretch
+lentAfterList (done ss) lent = map listed ss ++ drop (length ss) lent
+lentAfterList (refused n) lent = lent

@@ -1,0 +1,109 @@
+-- "From rows to a total": which components bring a line, in which order, and the amount of each line.
+use Prim.Native.Nat.{ℕ}
+use mathlib.Core.Bool.{Bool, true, false, _&&_, cond}
+use mathlib.Core.List.{List, [], _∷_, _++_, map}
+use mathlib.Core.Option.{Option, some, none, Option·map}
+use lib.Dec.{eqb}
+use lib.IntN.{ℤ, pos, _+ℤ_}
+use Rattle.rules.specs.Lists.{keep, gather, join}
+use Rattle.rules.specs.Bytes.{bytesOf, signedBytesOf, eitherSide}
+use Rattle.rules.specs.Book.{Record, Row, base, surcharge, discount, rows, roundings, roundingFor}
+use Rattle.rules.specs.Question.{Question, Grant, grants}
+use Rattle.rules.specs.Choice.{component, choose}
+use Rattle.rules.specs.Amounts.{exact, rounded}
+use Rattle.rules.specs.declared.Rounding.{Rounding}
+use Rattle.rules.specs.declared.Total.{Total}
+use Rattle.rules.specs.declared.Total.the-variants.{InRange, OutOfRange}
+
+-- ---- which components, and in which order
+
+-- a component of the asked article and sort: its level, its condition, and the place of that among the granted names, 0 for none
+pub record Slot : Type 0 where
+  pub level : ℕ
+  pub place : ℕ
+  pub condition : List ℕ
+
+-- at a level, first the unconditioned component, then that of each granted name
+abbrev pub slotsAt : List Grant → ℕ → List Slot
+slotsAt gs level = record { level = level; place = 0; condition = [] } ∷ map (λ g. record { level = level; place = g .place; condition = g .name }) gs
+
+-- base, then surcharges, then discounts
+unfoldable pub slots : List Grant → List Slot
+slots gs = slotsAt gs base ++ (slotsAt gs surcharge ++ slotsAt gs discount)
+
+-- ---- the chosen rows
+
+pub record Chosen : Type 0 where
+  pub place : ℕ
+  pub row : Row
+
+-- the rows of a component
+unfoldable pub rowsAt : List Row → Question → Slot → List Row
+rowsAt rs q s = component (q .article) (q .sort) (s .level) (s .condition) rs
+
+unfoldable pub chosenAt : List Row → Question → Slot → Option Chosen
+chosenAt rs q s = Option·map (λ r. record { place = s .place; row = r }) (choose (q .date) (q .quantity) (q .currency) (rowsAt rs q s))
+
+unfoldable pub chosen : List Row → Question → List Chosen
+chosen rs q = gather (chosenAt rs q) (slots (grants (q .granted)))
+
+-- ---- the lines
+
+-- a chosen row with its amount in cents
+pub record Line : Type 0 where
+  pub place : ℕ
+  pub row : Row
+  pub amount : ℤ
+
+abbrev pub sum : List ℤ → ℤ
+sum [] = pos 0
+sum (z ∷ zs) = z +ℤ sum zs
+
+abbrev pub amounts : List Line → List ℤ
+amounts ls = map (λ l. l .amount) ls
+
+unfoldable pub total : List Line → ℤ
+total ls = sum (amounts ls)
+
+abbrev pub ofBase : Line → Bool
+ofBase l = eqb (l .row .level) base
+
+-- what the base lines come to, as listed
+unfoldable pub baseSum : List Line → ℤ
+baseSum ls = total (keep ofBase ls)
+
+-- what a percentage is of: rule 1 the base lines, rule 2 all lines before it
+abbrev pub percentOf : ℕ → List Line → ℤ
+percentOf rule before = cond (eqb rule 1) (baseSum before) (total before)
+
+-- the line that a chosen row brings behind those before it
+unfoldable pub lineAfter : List Rounding → List Line → Chosen → Line
+lineAfter rs before c =
+    record { place = c .place; row = c .row; amount = rounded (roundingFor (c .row .rounding) rs) (exact (c .row .value) (percentOf (c .row .rule) before)) }
+
+unfoldable pub linesAfter : List Rounding → List Line → List Chosen → List Line
+unfolding lineAfter
+linesAfter rs before [] = before
+linesAfter rs before (c ∷ cs) = linesAfter rs (before ++ (lineAfter rs before c ∷ [])) cs
+
+unfoldable pub linesOf : List Record → Question → List Line
+linesOf book q = linesAfter (roundings book) [] (chosen (rows book) q)
+
+-- ---- the running total
+
+-- after each amount the sum is at most a thousand million cents either side of zero
+unfoldable pub staysInRange : ℤ → List ℤ → Bool
+staysInRange sum [] = true
+staysInRange sum (z ∷ zs) = eitherSide 1_000_000_000 (sum +ℤ z) && staysInRange (sum +ℤ z) zs
+
+-- what amounts come to, added one by one
+unfoldable pub totalOf : List ℤ → Total
+totalOf zs = cond (staysInRange (pos 0) zs) (InRange (record { 0 = sum zs })) OutOfRange
+
+-- ---- the 14 bytes of a line
+
+abbrev pub lineBytes : Line → List ℕ
+lineBytes l = bytesOf 4 (l .row .text) ++ (l .row .level ∷ l .place ∷ signedBytesOf 8 (l .amount))
+
+unfoldable pub linesBytes : List Line → List ℕ
+linesBytes ls = join (map lineBytes ls)

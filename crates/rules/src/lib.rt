@@ -1,0 +1,120 @@
+// The words that definitions and code share: what stands on a price row, and what a caller reads of an answer.
+// Nothing here computes; what is right is said in specs/, and the promises about it are proved in proofs/.
+
+// ---- three sorts of whole number (the third, `Day`, has its own crate)
+
+// Hundredths of a currency's unit.
+pub struct Cents(pub i64);
+
+// Hundredths of a percent.
+pub struct Hundredths(pub i64);
+
+// ---- what a book's records hold
+
+// A price row's value: an amount, or a share of one.
+pub enum Value {
+    Fixed(Cents),
+    Percent(Hundredths),
+}
+
+// Three capitals.
+pub struct Currency(pub u8, pub u8, pub u8);
+
+// Some bytes of a record: where they start in it, and how many they are.
+pub struct Part {
+    pub at: usize,
+    pub size: usize,
+}
+
+// A price record, read by value. Its two names stay in the book.
+pub struct PriceRow {
+    pub article: Part,
+    pub condition: Part,
+    pub sort: u8,
+    pub level: u8,
+    pub rule: u8,
+    pub text: u32,
+    pub value: Value,
+    pub currency: Currency,
+    pub from: u32,
+    pub to: u32,
+    pub upto: u32,
+    pub rounding: u16,
+}
+
+// To which multiple of the step an amount goes.
+pub enum Way {
+    Down,
+    Up,
+    Commercial,
+}
+
+// A rounding record.
+pub struct Rounding {
+    pub number: u16,
+    pub way: Way,
+    pub step: u32,
+    pub before: Cents,
+    pub after: Cents,
+}
+
+// ---- on the way to a price
+
+// An exact amount: top / bottom cents.
+pub struct Fraction {
+    pub top: i64,
+    pub bottom: u64,
+}
+
+// A running total after some lines: where every one of them left it in range, or where one did not.
+pub enum Total {
+    InRange(Cents),
+    OutOfRange,
+}
+
+// ---- what a caller reads
+
+#[repr(C)]
+pub struct PriceAnswer {
+    pub unit: i64,
+    pub total: i64,
+    pub lines: u64,
+    pub unused: u32,
+    pub unused_count: u8,
+    pub number: u8,
+    pub currency: [u8; 3],
+}
+
+// How much a call wrote: bytes, or records of a lent list.
+#[repr(C)]
+pub struct Written {
+    pub length: u64,
+    pub number: u8,
+}
+
+#[repr(C)]
+pub struct Stretch {
+    pub first: u32,
+    pub last: u32,
+    pub unit: i64,
+    pub refusal: u8,
+    pub currency: [u8; 3],
+}
+
+#[repr(C)]
+pub struct PackagingAnswer {
+    pub gross: i64,
+    pub values: [i64; 8],
+    pub number: u8,
+    pub present: u8,
+    pub units: [u8; 9],
+}
+
+// Which book has the text (1 the asked one, 2 the fallback, 0 none), and where in it.
+#[repr(C)]
+pub struct TextAnswer {
+    pub place: u64,
+    pub length: u64,
+    pub number: u8,
+    pub book: u8,
+}
