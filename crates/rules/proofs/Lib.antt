@@ -1,2 +1,10 @@
 pub mod Encode
 pub mod WorkedSums
+pub mod ListLaws
+pub mod BestLaws
+pub mod ChoiceLaws
+pub mod LinesLaws
+pub mod NoPriceLaws
+pub mod DayLaws
+pub mod CalendarLaws
+pub mod Promises
