@@ -5,18 +5,22 @@ use mathlib.Core.Bool.{Bool, true, false, _&&_, _||_, not, cond}
 use mathlib.Core.List.{List, [], _∷_}
 use mathlib.Core.Option.{Option, some, none, Option·some-injective, Option·none-ne-some}
 use native.Mathlib.Omega.{arith}
-use lib.Dec.{T, eqb, ltb, ltb→lt, lt→ltb, eqb→eq, eqb-refl}
-use borrow.Author.Tests.{ltb-true, ltb-false, eqb-true, eqb-false}
+use lib.Dec.{T, eqb, ltb}
+use borrow.Author.Tests.{ltb-true, ltb-false, eqb-true, eqb-false, lt-ltb, eq-eqb}
 use Rattle.rules.specs.Lists.{any, first, pick}
 use Rattle.rules.specs.Book.{Row}
 use Rattle.rules.specs.Choice.{limit, better, step₅}
-use Rattle.rules.proofs.ListLaws.{yes, no, both, or-left, or-right}
+use Rattle.rules.proofs.TestLaws.{yes, no}
 
 -- ---- better is a strict order
 
 -- a comes before b; or they are equal, and x comes after y
 abbrev lex : ℕ → ℕ → ℕ → ℕ → Bool
 lex a b x y = ltb a b || (eqb a b && ltb y x)
+
+or-right : (a b : Bool) → T b → T (a || b)
+or-right true b t = tt
+or-right false b t = t
 
 data Lex (a b x y : ℕ) : Type 0 where
   less : a < b → Lex a b x y
@@ -27,8 +31,8 @@ data NotLex (a b x y : ℕ) : Type 0 where
   notLater : a ≡ b → x ≤ y → NotLex a b x y
 
 of-lex : (a b x y : ℕ) → Lex a b x y → T (lex a b x y)
-of-lex a b x y (less h) = or-left (ltb a b) (eqb a b && ltb y x) (lt→ltb a b h)
-of-lex a b x y (later e h) = or-right (ltb a b) (eqb a b && ltb y x) (both (eqb a b) (ltb y x) (subst (λ (n : ℕ). T (eqb a n)) e (eqb-refl a)) (lt→ltb y x h))
+of-lex a b x y (less h) = rw (lt-ltb a b h) tt
+of-lex a b x y (later e h) = or-right (ltb a b) (eqb a b && ltb y x) (rw (eq-eqb a b e, lt-ltb y x h) tt)
 
 lex-cases : (a b x y : ℕ) (p q r : Bool) → ltb a b ≡ p → eqb a b ≡ q → ltb y x ≡ r → (T (p || (q && r)) → Lex a b x y) × ((T (p || (q && r)) → ⊥) → NotLex a b x y)
 lex-cases a b x y true q r e f g = (λ t. less (ltb-true a b e), λ n. absurd (n tt))

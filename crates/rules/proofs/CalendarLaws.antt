@@ -2,54 +2,54 @@
 use Prim.Native.Nat.{ℕ, zero, suc, _≤_, _<_}
 use mathlib.Core.Path.{_≡_, refl, sym, _∙_, ap, subst}
 use mathlib.Core.Logic.{_≢_}
-use mathlib.Core.Bool.{Bool, true, false, _&&_, cond}
+use mathlib.Core.Bool.{Bool, true, false, _&&_, cond, false≢true}
 use mathlib.Core.List.{List, [], _∷_, _++_}
 use mathlib.Core.Option.{Option, some, none, Option·none-ne-some, Option·some-injective}
 use native.Mathlib.Omega.{arith}
-use lib.Dec.{T, leb, eqb, eqb→eq, eqb-refl}
+use native.Mathlib.Nat.{le-antisymm, le-trans}
+use lib.Dec.{leb, eqb}
 use lib.ListN.{length}
 use lib.IntN.{ℤ, pos, negsuc}
-use borrow.Author.Tests.{le-leb}
+use borrow.Author.Tests.{le-leb, eqb-true, eqb-false, eq-eqb}
 use Rattle.rules.specs.Lists.{same}
 use Rattle.rules.specs.Days.{isDay, next, daysTo, also}
 use Rattle.rules.specs.Calendar.{Outcome, Stretch, sameInt, sameOutcome, longer, before, stretches, mostDays, periodTo}
-use Rattle.rules.proofs.ListLaws.{and-left, and-right, both, same-eq, same-refl}
-use Rattle.rules.proofs.DayLaws.{next-above}
+use Rattle.rules.proofs.TestLaws.{and-left, and-right}
+use Rattle.rules.proofs.ListLaws.{All, same-eq, same-refl}
+use Rattle.rules.proofs.DayLaws.{next-above, next-least, next-is-day, day-most}
 
 -- ---- the test of outcomes is equality
 
-sameInt-eq : (a b : ℤ) → T (sameInt a b) → a ≡ b
-sameInt-eq (pos a) (pos b) t = ap pos (eqb→eq a b t)
-sameInt-eq (pos a) (negsuc b) t = absurd t
-sameInt-eq (negsuc a) (pos b) t = absurd t
-sameInt-eq (negsuc a) (negsuc b) t = ap negsuc (eqb→eq a b t)
+sameInt-eq : (a b : ℤ) → sameInt a b ≡ true → a ≡ b
+sameInt-eq (pos a) (pos b) e = ap pos (eqb-true a b e)
+sameInt-eq (pos a) (negsuc b) e = absurd (false≢true e)
+sameInt-eq (negsuc a) (pos b) e = absurd (false≢true e)
+sameInt-eq (negsuc a) (negsuc b) e = ap negsuc (eqb-true a b e)
 
-sameInt-refl : (a : ℤ) → T (sameInt a a)
-sameInt-refl (pos a) = eqb-refl a
-sameInt-refl (negsuc a) = eqb-refl a
+sameInt-refl : (a : ℤ) → sameInt a a ≡ true
+sameInt-refl (pos a) = eq-eqb a a refl
+sameInt-refl (negsuc a) = eq-eqb a a refl
 
-pub sameOutcome-eq : (a b : Outcome) → T (sameOutcome a b) → a ≡ b
+pub eq-of : (a b : Outcome) → sameOutcome a b ≡ true → a ≡ b
 unfolding sameOutcome
-sameOutcome-eq a b t =
-    let u = and-right (eqb (a .refusal) (b .refusal)) (same (a .currency) (b .currency) && sameInt (a .unit) (b .unit)) t in
+eq-of a b e =
+    let rest = same (a .currency) (b .currency) && sameInt (a .unit) (b .unit) in
+    let u = and-right (eqb (a .refusal) (b .refusal)) rest e in
     λ i.
     record {
-      refusal = eqb→eq (a .refusal) (b .refusal) (and-left (eqb (a .refusal) (b .refusal)) (same (a .currency) (b .currency) && sameInt (a .unit) (b .unit)) t) i;
+      refusal = eqb-true (a .refusal) (b .refusal) (and-left (eqb (a .refusal) (b .refusal)) rest e) i;
       currency = same-eq (a .currency) (b .currency) (and-left (same (a .currency) (b .currency)) (sameInt (a .unit) (b .unit)) u) i;
       unit = sameInt-eq (a .unit) (b .unit) (and-right (same (a .currency) (b .currency)) (sameInt (a .unit) (b .unit)) u) i;
     }
 
-pub sameOutcome-refl : (a : Outcome) → T (sameOutcome a a)
+pub same-outcome : (a b : Outcome) → a ≡ b → sameOutcome a b ≡ true
 unfolding sameOutcome
-sameOutcome-refl a =
-    both (eqb (a .refusal) (a .refusal)) (same (a .currency) (a .currency) && sameInt (a .unit) (a .unit)) (eqb-refl (a .refusal))
-    (both (same (a .currency) (a .currency)) (sameInt (a .unit) (a .unit)) (same-refl (a .currency)) (sameInt-refl (a .unit)))
+same-outcome a b p =
+    subst (λ (x : Outcome). sameOutcome a x ≡ true) p
+    (rw (eq-eqb (a .refusal) (a .refusal) refl, same-refl (a .currency), sameInt-refl (a .unit)))
 
 pub differ-of : (a b : Outcome) → sameOutcome a b ≡ false → a ≢ b
-differ-of a b e p = subst T e (subst (λ (x : Outcome). T (sameOutcome a x)) p (sameOutcome-refl a))
-
-pub eq-of : (a b : Outcome) → sameOutcome a b ≡ true → a ≡ b
-eq-of a b e = sameOutcome-eq a b (subst T (sym e) tt)
+differ-of a b e p = false≢true (sym e ∙ same-outcome a b p)
 
 -- ---- what is to be shown
 
@@ -76,25 +76,28 @@ pub data Days : ℕ → ℕ → List ℕ → Type 0 where
   end : {d : ℕ} → Days d d (d ∷ [])
   day : {d to : ℕ} {ds : List ℕ} → Days (next d) to ds → Days d to (d ∷ ds)
 
-module _ (f : ℕ → Outcome) where
-  -- some days, at least one, each with the outcome o: the first and the last of them
-  pub data Run (o : Outcome) : List ℕ → ℕ → ℕ → Type 0 where
-    one : {d : ℕ} → f d ≡ o → Run o (d ∷ []) d d
-    more : {d : ℕ} {ds : List ℕ} {a z : ℕ} → f d ≡ o → Run o ds a z → Run o (d ∷ ds) d z
-
-  -- the days in order are those of the first stretch, then those of the second, and so on; each day has the outcome of its stretch
-  pub data Cut : List ℕ → List Stretch → Type 0 where
-    nothing : Cut [] []
-    cut : {ds rest : List ℕ} {s : Stretch} {ss : List Stretch} → Run (s .outcome) ds (s .first) (s .last) → Cut rest ss → Cut (ds ++ rest) (s ∷ ss)
+-- from a day to a day, and every day from the one to the other has the outcome
+pub record Holds (f : ℕ → Outcome) (s : Stretch) : Type 0 where
+  pub first-day : isDay (s .first) ≡ true
+  pub last-day : isDay (s .last) ≡ true
+  pub inside : (d : ℕ) → isDay d ≡ true → s .first ≤ d → d ≤ s .last → f d ≡ s .outcome
 
 -- all of it together
-pub record Right (f : ℕ → Outcome) (from to : ℕ) (ds : List ℕ) (ss : List Stretch) : Type 0 where
+pub record Right (f : ℕ → Outcome) (from to : ℕ) (ss : List Stretch) : Type 0 where
   pub tiles : Tiles from to ss
   pub ordered : InOrder ss
   pub differ : Differ ss
-  pub inside : Cut f ds ss
+  pub holds : All (Holds f) ss
 
--- ---- the proofs
+-- ---- they are so
+
+days-order : {from to : ℕ} {ds : List ℕ} → Days from to ds → from ≤ to
+days-order (end {d = d}) = omega arith
+days-order (day {d = d} h) = omega (arith, next-above d, days-order h)
+
+-- the day after a day that is not the last of the period is a day
+next-in-period : (d to : ℕ) → isDay d ≡ true → isDay to ≡ true → next d ≤ to → isDay (next d) ≡ true
+next-in-period d to e g l = next-is-day d e (omega (arith, next-above d, day-most to g))
 
 module _ (f : ℕ → Outcome) where
   differ-longer : (d : ℕ) (o : Outcome) (s : Stretch) (ss : List Stretch) (b : Bool) → sameOutcome o (s .outcome) ≡ b → Differ (s ∷ ss) → Differ (longer b d o s ss)
@@ -145,22 +148,150 @@ module _ (f : ℕ → Outcome) where
   in-order (end {d = d}) = omega arith
   in-order (day {d = d} {to = to} {ds = ds} h) = ordered-before d to (f d) (stretches f ds) (tiles-period h) (in-order h)
 
-  cut-longer : (d : ℕ) (s : Stretch) {ds rest : List ℕ} {ss : List Stretch} (b : Bool) → sameOutcome (f d) (s .outcome) ≡ b
-      → Run f (s .outcome) ds (s .first) (s .last) → Cut f rest ss → Cut f (d ∷ (ds ++ rest)) (longer b d (f d) s ss)
-  cut-longer d s true e r c = cut (more (eq-of (f d) (s .outcome) e) r) c
-  cut-longer d s false e r c = cut (one refl) (cut r c)
+  one-day : (d : ℕ) → isDay d ≡ true → Holds f (record { first = d; last = d; outcome = f d })
+  one-day d e = record { first-day = e; last-day = e; inside = λ k e′ l h. ap f (le-antisymm h l) }
 
-  cut-before : (d : ℕ) {ds : List ℕ} {ss : List Stretch} → Cut f ds ss → Cut f (d ∷ ds) (before d (f d) ss)
-  cut-before d nothing = cut (one refl) nothing
-  cut-before d (cut {s = s} r c) = cut-longer d s (sameOutcome (f d) (s .outcome)) refl r c
+  -- a day and the stretch of its outcome behind it
+  held-longer : (d : ℕ) (s : Stretch) → isDay d ≡ true → s .first ≡ next d → f d ≡ s .outcome → Holds f s → Holds f (record { first = d; last = s .last; outcome = s .outcome })
+  held-longer d s e n o h = record { first-day = e; last-day = h .last-day; inside = λ k e′ l g. go k e′ g (eqb d k) refl l }
+    where
+      go : (k : ℕ) → isDay k ≡ true → k ≤ s .last → (b : Bool) → eqb d k ≡ b → d ≤ k → f k ≡ s .outcome
+      go k e′ g true i l = ap f (sym (eqb-true d k i)) ∙ o
+      go k e′ g false i l =
+          let ne : d ≡ k → ⊥ = eqb-false d k i in
+          h .inside k e′ (subst (λ (m : ℕ). m ≤ k) (sym n) (next-least d k e e′ (omega arith))) g
 
-  pub days-cut : (ds : List ℕ) → Cut f ds (stretches f ds)
+  hold-longer : (d : ℕ) (s : Stretch) (ss : List Stretch) (b : Bool) → isDay d ≡ true → s .first ≡ next d → sameOutcome (f d) (s .outcome) ≡ b
+      → All (Holds f) (s ∷ ss) → All (Holds f) (longer b d (f d) s ss)
+  hold-longer d s ss true e n o h = (held-longer d s e n (eq-of (f d) (s .outcome) o) (h .0), h .1)
+  hold-longer d s ss false e n o h = (one-day d e, h)
+
+  hold-before : (d to : ℕ) (ss : List Stretch) → isDay d ≡ true → Tiles (next d) to ss → All (Holds f) ss → All (Holds f) (before d (f d) ss)
+  hold-before d to [] e t h = absurd t
+  hold-before d to (s ∷ ss) e t h = hold-longer d s ss (sameOutcome (f d) (s .outcome)) e (starts (next d) to s ss t) refl h
+
+  pub all-hold : {from to : ℕ} {ds : List ℕ} → isDay from ≡ true → isDay to ≡ true → Days from to ds → All (Holds f) (stretches f ds)
   unfolding stretches
-  days-cut [] = nothing
-  days-cut (d ∷ ds) = cut-before d (days-cut ds)
+  all-hold e g (end {d = d}) = (one-day d e, tt)
+  all-hold e g (day {d = d} {to = to} {ds = ds} h) =
+      hold-before d to (stretches f ds) e (tiles-period h) (all-hold (next-in-period d to e g (days-order h)) g h)
 
-  pub right : {from to : ℕ} {ds : List ℕ} → Days from to ds → Right f from to ds (stretches f ds)
-  right {ds = ds} h = record { tiles = tiles-period h; ordered = in-order h; differ = neighbours-differ ds; inside = days-cut ds }
+  pub right : {from to : ℕ} {ds : List ℕ} → isDay from ≡ true → isDay to ≡ true → Days from to ds → Right f from to (stretches f ds)
+  right {ds = ds} e g h = record { tiles = tiles-period h; ordered = in-order h; differ = neighbours-differ ds; holds = all-hold e g h }
+
+-- ---- no other list is right
+
+-- a list that starts on a day starts no later than it ends
+start-before-end : (a to : ℕ) (ss : List Stretch) → Tiles a to ss → InOrder ss → a ≤ to
+start-before-end a to [] t o = absurd t
+start-before-end a to (s ∷ []) t o = let e : s .first ≡ a = t .0 in let g : s .last ≡ to = t .1 in let l : s .first ≤ s .last = o in omega arith
+start-before-end a to (s ∷ (u ∷ ss)) t o =
+    let e : s .first ≡ a = t .0 in
+    let l : s .first ≤ s .last = o .0 in
+    let k : next (s .last) ≤ to = start-before-end (next (s .last)) to (u ∷ ss) (t .1) (o .2) in
+    omega (arith, next-above (s .last))
+
+pub not-same : (a b : Outcome) → a ≢ b → sameOutcome a b ≡ false
+not-same a b n = go (sameOutcome a b) refl
+  where
+    go : (x : Bool) → sameOutcome a b ≡ x → sameOutcome a b ≡ false
+    go true e = absurd (n (eq-of a b e))
+    go false e = e
+
+-- the first stretch without its first day
+abbrev rest-of : ℕ → Stretch → Stretch
+rest-of d s = record { first = next d; last = s .last; outcome = s .outcome }
+
+module _ (f : ℕ → Outcome) where
+  first-outcome : (d : ℕ) (s : Stretch) → isDay d ≡ true → s .first ≡ d → s .first ≤ s .last → Holds f s → f d ≡ s .outcome
+  first-outcome d s e n l h = h .inside d e (omega arith) (omega arith)
+
+  -- the stretch is that day alone
+  ends-here : (d : ℕ) (s : Stretch) (ds : List ℕ) (ss : List Stretch) → s .first ≡ d → s .last ≡ d → f d ≡ s .outcome → stretches f ds ≡ ss → Differ (s ∷ ss) → stretches f (d ∷ ds) ≡ s ∷ ss
+  unfolding stretches
+  ends-here d s ds [] n m o e x = ap (before d (f d)) e ∙ (λ i. record { first = sym n i; last = sym m i; outcome = o i } ∷ [])
+  ends-here d s ds (t ∷ ss) n m o e x =
+      ap (before d (f d)) e
+      ∙ ap (λ b. longer b d (f d) t ss) (not-same (f d) (t .outcome) (λ p. x .0 (sym o ∙ p)))
+      ∙ (λ i. record { first = sym n i; last = sym m i; outcome = o i } ∷ t ∷ ss)
+
+  -- the stretch goes on
+  goes-on : (d : ℕ) (s : Stretch) (ds : List ℕ) (ss : List Stretch) → s .first ≡ d → f d ≡ s .outcome → stretches f ds ≡ rest-of d s ∷ ss → stretches f (d ∷ ds) ≡ s ∷ ss
+  unfolding stretches
+  goes-on d s ds ss n o e =
+      ap (before d (f d)) e
+      ∙ ap (λ b. longer b d (f d) (rest-of d s) ss) (same-outcome (f d) (s .outcome) o)
+      ∙ (λ i. record { first = sym n i; last = s .last; outcome = s .outcome } ∷ ss)
+
+  tiles-rest : (d to : ℕ) (s : Stretch) (ss : List Stretch) → Tiles d to (s ∷ ss) → Tiles (next d) to (rest-of d s ∷ ss)
+  tiles-rest d to s [] t = (refl, t .1)
+  tiles-rest d to s (u ∷ ss) t = (refl, t .1)
+
+  ordered-rest : (d : ℕ) (s : Stretch) (ss : List Stretch) → next d ≤ s .last → InOrder (s ∷ ss) → InOrder (rest-of d s ∷ ss)
+  ordered-rest d s [] l o = l
+  ordered-rest d s (u ∷ ss) l o = (l, o .1, o .2)
+
+  differ-rest : (d : ℕ) (s : Stretch) (ss : List Stretch) → Differ (s ∷ ss) → Differ (rest-of d s ∷ ss)
+  differ-rest d s [] x = tt
+  differ-rest d s (u ∷ ss) x = x
+
+  holds-rest : (d : ℕ) (s : Stretch) → isDay (next d) ≡ true → s .first ≤ next d → Holds f s → Holds f (rest-of d s)
+  holds-rest d s e l h = record { first-day = e; last-day = h .last-day; inside = λ k e′ g. h .inside k e′ (le-trans l g) }
+
+  right-rest : (d to : ℕ) (s : Stretch) (ss : List Stretch) → isDay (next d) ≡ true → s .first ≡ d → next d ≤ s .last → Right f d to (s ∷ ss) → Right f (next d) to (rest-of d s ∷ ss)
+  right-rest d to s ss e n l r =
+      record {
+        tiles = tiles-rest d to s ss (r .tiles);
+        ordered = ordered-rest d s ss l (r .ordered);
+        differ = differ-rest d s ss (r .differ);
+        holds = (holds-rest d s e (omega (arith, next-above d)) (r .holds .0), r .holds .1);
+      }
+
+  first-ordered : (s : Stretch) (ss : List Stretch) → InOrder (s ∷ ss) → s .first ≤ s .last
+  first-ordered s [] o = o
+  first-ordered s (u ∷ ss) o = o .0
+
+  right-behind : (d to : ℕ) (s t : Stretch) (ss : List Stretch) → s .last ≡ d → Right f d to (s ∷ (t ∷ ss)) → Right f (next d) to (t ∷ ss)
+  right-behind d to s t ss m r =
+      record {
+        tiles = subst (λ (k : ℕ). Tiles (next k) to (t ∷ ss)) m (r .tiles .1);
+        ordered = r .ordered .2;
+        differ = r .differ .1;
+        holds = r .holds .1;
+      }
+
+  -- behind a stretch that ends before the last day another one follows
+  ended : (d to : ℕ) (s : Stretch) (ds : List ℕ) (ss : List Stretch) → d < to → s .first ≡ d → s .last ≡ d → f d ≡ s .outcome
+      → ((ts : List Stretch) → Right f (next d) to ts → stretches f ds ≡ ts) → Right f d to (s ∷ ss) → stretches f (d ∷ ds) ≡ s ∷ ss
+  ended d to s ds [] l n m o ih r = let e : s .last ≡ to = r .tiles .1 in absurd (omega arith)
+  ended d to s ds (t ∷ ss) l n m o ih r = ends-here d s ds (t ∷ ss) n m o (ih (t ∷ ss) (right-behind d to s t ss m r)) (r .differ)
+
+  pub only-right : {from to : ℕ} {ds : List ℕ} → isDay from ≡ true → isDay to ≡ true → Days from to ds → (ss : List Stretch) → Right f from to ss → stretches f ds ≡ ss
+  only-right e g (end {d = d}) [] r = absurd (r .tiles)
+  only-right e g (end {d = d}) (s ∷ []) r =
+      let n : s .first ≡ d = r .tiles .0 in
+      ends-here d s [] [] n (r .tiles .1) (first-outcome d s e n (r .ordered) (r .holds .0)) (unfold stretches in refl) tt
+  only-right e g (end {d = d}) (s ∷ (t ∷ ss)) r =
+      let n : s .first ≡ d = r .tiles .0 in
+      let l : s .first ≤ s .last = r .ordered .0 in
+      let k : next (s .last) ≤ d = start-before-end (next (s .last)) d (t ∷ ss) (r .tiles .1) (r .ordered .2) in
+      absurd (omega (arith, next-above (s .last)))
+  only-right e g (day {d = d} {to = to} {ds = ds} h) [] r = absurd (r .tiles)
+  only-right e g (day {d = d} {to = to} {ds = ds} h) (s ∷ ss) r =
+      let m : next d ≤ to = days-order h in
+      let e′ : isDay (next d) ≡ true = next-in-period d to e g m in
+      let n : s .first ≡ d = starts f d to s ss (r .tiles) in
+      let l : s .first ≤ s .last = first-ordered s ss (r .ordered) in
+      let o : f d ≡ s .outcome = first-outcome d s e n l (r .holds .0) in
+      go (only-right e′ g h) e′ m n l o (eqb (s .last) d) refl
+    where
+      go : ((ts : List Stretch) → Right f (next d) to ts → stretches f ds ≡ ts) → isDay (next d) ≡ true → next d ≤ to → s .first ≡ d → s .first ≤ s .last → f d ≡ s .outcome
+          → (b : Bool) → eqb (s .last) d ≡ b → stretches f (d ∷ ds) ≡ s ∷ ss
+      go ih e′ m n l o true i = ended d to s ds ss (omega (arith, next-above d)) n (eqb-true (s .last) d i) o ih r
+      go ih e′ m n l o false i =
+          let ne : s .last ≡ d → ⊥ = eqb-false (s .last) d i in
+          let k : next d ≤ s .last = next-least d (s .last) e (r .holds .0 .last-day) (omega arith) in
+          goes-on d s ds ss n o (ih (rest-of d s ∷ ss) (right-rest d to s ss e′ n k r))
 
 -- ---- the period's days
 
@@ -177,53 +308,12 @@ days-to (suc n) from to ds e = go (λ es h. days-to n (next from) to es h) (eqb 
     go ih true h =
         let e′ : _≡_ {A = Option (List ℕ)} (some (from ∷ [])) (some ds) = rw (h, daysTo) at e in
         subst (Days from to) (Option·some-injective (from ∷ []) ds e′)
-        (subst (λ (t : ℕ). Days from t (from ∷ [])) (eqb→eq from to (subst T (sym h) tt)) end)
+        (subst (λ (t : ℕ). Days from t (from ∷ [])) (eqb-true from to h) end)
     go ih false h =
         let e′ : also from (daysTo n (next from) to) ≡ some ds = rw (h, daysTo) at e in
         also-days (daysTo n (next from) to) ds ih e′
 
--- ---- longest: no other stretches cut the days so that neighbours differ
-
-abbrev Apart : Outcome → List Stretch → Type 0
-Apart o [] = Unit {0}
-Apart o (t ∷ ss) = o ≢ t .outcome
-
-apart : (s : Stretch) (ss : List Stretch) → Differ (s ∷ ss) → Apart (s .outcome) ss
-apart s [] h = tt
-apart s (t ∷ ss) h = h .0
-
-behind : (s : Stretch) (ss : List Stretch) → Differ (s ∷ ss) → Differ ss
-behind s [] h = tt
-behind s (t ∷ ss) h = h .1
-
-pub not-same : (a b : Outcome) → a ≢ b → (x : Bool) → sameOutcome a b ≡ x → sameOutcome a b ≡ false
-not-same a b n true e = absurd (n (eq-of a b e))
-not-same a b n false e = e
-
-pub is-same : (a b : Outcome) → a ≡ b → (x : Bool) → sameOutcome a b ≡ x → sameOutcome a b ≡ true
-is-same a b p true e = e
-is-same a b p false e = absurd (differ-of a b e p)
-
-module _ (f : ℕ → Outcome) where
-  alone : (d : ℕ) (o : Outcome) → f d ≡ o → (ss : List Stretch) → Apart o ss → before d (f d) ss ≡ record { first = d; last = d; outcome = o } ∷ ss
-  alone d o e [] n = λ i. record { first = d; last = d; outcome = e i } ∷ []
-  alone d o e (t ∷ ss) n =
-      ap (λ b. longer b d (f d) t ss) (not-same (f d) (t .outcome) (λ p. n (sym e ∙ p)) (sameOutcome (f d) (t .outcome)) refl)
-      ∙ (λ i. record { first = d; last = d; outcome = e i } ∷ t ∷ ss)
-
-  run-is : {o : Outcome} {ds : List ℕ} {a z : ℕ} (rest : List ℕ) (ss : List Stretch) → Run f o ds a z → stretches f rest ≡ ss → Apart o ss
-      → stretches f (ds ++ rest) ≡ record { first = a; last = z; outcome = o } ∷ ss
-  unfolding stretches
-  run-is {o} rest ss (one {d = d} e) h n = ap (before d (f d)) h ∙ alone d o e ss n
-  run-is {o} rest ss (more {d = d} {a = a} {z = z} e r) h n =
-      ap (before d (f d)) (run-is rest ss r h n)
-      ∙ ap (λ b. longer b d (f d) (record { first = a; last = z; outcome = o }) ss) (is-same (f d) o e (sameOutcome (f d) o) refl)
-
-  pub longest : {ds : List ℕ} {ss : List Stretch} → Cut f ds ss → Differ ss → stretches f ds ≡ ss
-  longest nothing h = unfold stretches in refl
-  longest (cut {rest = rest} {s = s} {ss = ss} r c) h = run-is rest ss r (longest c (behind s ss h)) (apart s ss h)
-
--- ---- the calendar call
+-- ---- a period
 
 -- where the period is one, its days are those from the start to the end
 pub period-days : (from to : ℕ) (ds : List ℕ) → periodTo from to ≡ some ds → Days from to ds
@@ -233,6 +323,15 @@ period-days from to ds e = go (isDay to && leb from to) e
     go : (b : Bool) → cond b (daysTo 1096 from to) none ≡ some ds → Days from to ds
     go true e = days-to 1096 from to ds e
     go false e = absurd (Option·none-ne-some ds e)
+
+-- it ends on a day
+pub period-end : (from to : ℕ) (ds : List ℕ) → periodTo from to ≡ some ds → isDay to ≡ true
+unfolding periodTo
+period-end from to ds e = go (isDay to) (leb from to) refl e
+  where
+    go : (a b : Bool) → isDay to ≡ a → cond (a && b) (daysTo mostDays from to) none ≡ some ds → isDay to ≡ true
+    go true b h e = h
+    go false b h e = absurd (Option·none-ne-some ds e)
 
 -- never more stretches than days, and never more than 1,096 days
 longer-count : (b : Bool) (d : ℕ) (o : Outcome) (s : Stretch) (ss : List Stretch) → length (longer b d o s ss) ≤ suc (suc (length ss))

@@ -36,8 +36,8 @@ rowBytes r =
     ∷ (bytesOf 4 (r .text)
     ++ (valueBytes (r .value) ++ (r .currency ++ (bytesOf 4 (r .from) ++ (bytesOf 4 (r .to) ++ (bytesOf 4 (r .upTo) ++ bytesOf 2 (r .rounding))))))))))
 
-abbrev pub roundingBytes : ℕ → ℕ → ℕ → List ℕ
-roundingBytes n way step = recordBytes 3 (bytesOf 2 n ++ (way ∷ (bytesOf 4 step ++ (signedBytesOf 4 (pos 0) ++ signedBytesOf 4 (pos 0)))))
+abbrev pub roundingBytes : ℕ → ℕ → ℕ → ℤ → ℤ → List ℕ
+roundingBytes n way step before after = recordBytes 3 (bytesOf 2 n ++ (way ∷ (bytesOf 4 step ++ (signedBytesOf 4 before ++ signedBytesOf 4 after))))
 
 abbrev pub packBytes : List ℕ → List ℕ → ℕ → List ℤ → List (List ℕ) → List ℕ
 packBytes article condition present values units =

@@ -1,10 +1,14 @@
 pub mod Encode
 pub mod WorkedSums
+pub mod TestLaws
 pub mod ListLaws
+pub mod RefusalLaws
+pub mod GivesLaws
+pub mod DayLaws
 pub mod BestLaws
 pub mod ChoiceLaws
 pub mod LinesLaws
 pub mod NoPriceLaws
-pub mod DayLaws
+pub mod UnusedLaws
 pub mod CalendarLaws
 pub mod Promises

@@ -1,65 +1,25 @@
--- Laws of the words of specs/Lists.antt: tests joined, and lists filtered, searched and gathered.
+-- Laws of the words of specs/Lists.antt: byte strings compared, and lists filtered, searched and gathered.
 use Prim.Native.Nat.{ℕ}
 use mathlib.Core.Path.{_≡_, refl, sym, _∙_, ap}
-use mathlib.Core.Bool.{Bool, true, false, _&&_, _||_, not}
+use mathlib.Core.Bool.{Bool, true, false, _&&_, _||_, false≢true}
 use mathlib.Core.List.{List, [], _∷_, _++_}
 use mathlib.Core.Option.{Option, some, none}
-use lib.Dec.{T, eqb, eqb→eq, eqb-refl}
-use Rattle.rules.specs.Lists.{same, keep, consIf, any, all, first, pick, isSome, gather, consSome, ifSome}
-
--- ---- tests
-
-pub yes : (b : Bool) → T b → b ≡ true
-yes true t = refl
-yes false t = absurd t
-
-pub no : (b : Bool) → (T b → ⊥) → b ≡ false
-no true n = absurd (n tt)
-no false n = refl
-
-pub and-left : (a b : Bool) → T (a && b) → T a
-and-left true b t = tt
-and-left false b t = absurd t
-
-pub and-right : (a b : Bool) → T (a && b) → T b
-and-right true b t = t
-and-right false b t = absurd t
-
-pub both : (a b : Bool) → T a → T b → T (a && b)
-both true b s t = t
-both false b s t = absurd s
-
-pub or-left : (a b : Bool) → T a → T (a || b)
-or-left true b t = tt
-or-left false b t = absurd t
-
-pub or-right : (a b : Bool) → T b → T (a || b)
-or-right true b t = tt
-or-right false b t = t
-
-pub or-assoc : (a b c : Bool) → ((a || b) || c) ≡ (a || (b || c))
-or-assoc true b c = refl
-or-assoc false b c = refl
-
-pub or-false : (a : Bool) → (a || false) ≡ a
-or-false true = refl
-or-false false = refl
-
-pub and-false : (a : Bool) → (a && false) ≡ false
-and-false true = refl
-and-false false = refl
+use lib.Dec.{eqb}
+use borrow.Author.Tests.{eqb-true, eq-eqb}
+use Rattle.rules.specs.Lists.{same, keep, consIf, any, first, pick, isSome, gather, consSome, ifSome}
+use Rattle.rules.proofs.TestLaws.{and-left, and-right, both, or-assoc}
 
 -- ---- byte strings: the test is equality
 
-pub same-eq : (xs ys : List ℕ) → T (same xs ys) → xs ≡ ys
-same-eq [] [] t = refl
-same-eq [] (y ∷ ys) t = absurd t
-same-eq (x ∷ xs) [] t = absurd t
-same-eq (x ∷ xs) (y ∷ ys) t = λ i. eqb→eq x y (and-left (eqb x y) (same xs ys) t) i ∷ same-eq xs ys (and-right (eqb x y) (same xs ys) t) i
+pub same-eq : (xs ys : List ℕ) → same xs ys ≡ true → xs ≡ ys
+same-eq [] [] e = refl
+same-eq [] (y ∷ ys) e = absurd (false≢true e)
+same-eq (x ∷ xs) [] e = absurd (false≢true e)
+same-eq (x ∷ xs) (y ∷ ys) e = λ i. eqb-true x y (and-left (eqb x y) (same xs ys) e) i ∷ same-eq xs ys (and-right (eqb x y) (same xs ys) e) i
 
-pub same-refl : (xs : List ℕ) → T (same xs xs)
-same-refl [] = tt
-same-refl (x ∷ xs) = both (eqb x x) (same xs xs) (eqb-refl x) (same-refl xs)
+pub same-refl : (xs : List ℕ) → same xs xs ≡ true
+same-refl [] = refl
+same-refl (x ∷ xs) = both (eqb x x) (same xs xs) (eq-eqb x x refl) (same-refl xs)
 
 -- ---- filters
 
@@ -107,12 +67,12 @@ module _ {A : Type 0} where
   all-keep P p [] hs = tt
   all-keep P p (x ∷ xs) hs = all-if P (p x) x (keep p xs) (hs .0) (all-keep P p xs (hs .1))
 
-  kept-if : (p : A → Bool) (b : Bool) (x : A) (xs : List A) → p x ≡ b → All (λ y. T (p y)) xs → All (λ y. T (p y)) (consIf b x xs)
-  kept-if p true x xs e hs = (rw e tt, hs)
+  kept-if : (p : A → Bool) (b : Bool) (x : A) (xs : List A) → p x ≡ b → All (λ y. p y ≡ true) xs → All (λ y. p y ≡ true) (consIf b x xs)
+  kept-if p true x xs e hs = (e, hs)
   kept-if p false x xs e hs = hs
 
   -- what a filter keeps passes its test
-  pub kept : (p : A → Bool) (xs : List A) → All (λ y. T (p y)) (keep p xs)
+  pub kept : (p : A → Bool) (xs : List A) → All (λ y. p y ≡ true) (keep p xs)
   kept p [] = tt
   kept p (x ∷ xs) = kept-if p (p x) x (keep p xs) refl (kept p xs)
 

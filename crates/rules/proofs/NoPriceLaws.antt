@@ -4,16 +4,20 @@ use mathlib.Core.Path.{_≡_, refl, sym, _∙_, ap}
 use mathlib.Core.Bool.{Bool, true, false, _&&_, _||_, not, cond}
 use mathlib.Core.List.{List, [], _∷_, _++_, map}
 use mathlib.Core.Option.{Option, some, none, Option·map}
-use lib.Dec.{T, eqb, eqb→eq}
+use lib.Dec.{eqb}
+use borrow.Author.Tests.{eqb-true}
 use lib.IntN.{pos}
 use Rattle.rules.specs.Lists.{same, keep, any, first, isSome, ifSome}
 use Rattle.rules.specs.Book.{Record, Row, base, surcharge, discount, rows}
 use Rattle.rules.specs.Question.{Question, Grant, grants}
 use Rattle.rules.specs.Choice.{component, percentBase, holdsOn, isIn, reaches, better, step₁, step₂, step₃, step₄, step₅, surviving, choose}
-use Rattle.rules.specs.Lines.{Slot, slotsAt, slots, Chosen, rowsAt, chosenAt, chosen, Line, amounts, ofBase, linesOf, staysInRange}
+use Rattle.rules.specs.Lines.{Slot, slotsAt, slots, Chosen, rowsAt, chosenAt, chosen, Line, amounts, ofBase, linesOf, totalOf}
 use Rattle.rules.specs.Refusals.{Result, done, refused, _>>=_, orRefuse, refuseUnless, numberOf}
-use Rattle.rules.specs.Price.{Priced, priced, inOneCurrency}
-use Rattle.rules.proofs.ListLaws.{All, Holds, kept, all-keep, first-holds, first-any, any-append, any-gather, and-left, and-right, and-false, or-false}
+use Rattle.rules.specs.Price.{Priced, priced, inOneCurrency, inRange}
+use Rattle.rules.specs.declared.Total.{Total}
+use Rattle.rules.specs.declared.Total.the-variants.{InRange, OutOfRange}
+use Rattle.rules.proofs.ListLaws.{All, Holds, kept, all-keep, first-holds, first-any, any-append, any-gather}
+use Rattle.rules.proofs.TestLaws.{and-left, and-right, and-true, and-false, or-false}
 use Rattle.rules.proofs.BestLaws.{held, best-taken}
 use Rattle.rules.proofs.LinesLaws.{line-rows}
 
@@ -56,7 +60,7 @@ level-at rs q s =
     (λ r t.
     let u = and-right (same (r .article) (q .article)) (eqb (r .sort) (q .sort) && (eqb (r .level) (s .level) && same (r .condition) (s .condition))) t in
     let v = and-right (eqb (r .sort) (q .sort)) (eqb (r .level) (s .level) && same (r .condition) (s .condition)) u in
-    eqb→eq (r .level) (s .level) (and-left (eqb (r .level) (s .level)) (same (r .condition) (s .condition)) v))
+    eqb-true (r .level) (s .level) (and-left (eqb (r .level) (s .level)) (same (r .condition) (s .condition)) v))
     (rowsAt rs q s) (kept (λ r. same (r .article) (q .article) && (eqb (r .sort) (q .sort) && (eqb (r .level) (s .level) && same (r .condition) (s .condition)))) rs)
 
 -- ---- base lines, slot by slot
@@ -100,10 +104,6 @@ of-level p gs level = ap (λ b. (p (record { level = level; place = 0; condition
         ap (λ b. (p (record { level = level; place = g .place; condition = g .name }) && eqb level base) || b) (rest gs)
         ∙ share (p (record { level = level; place = g .place; condition = g .name })) (any p (map (λ g. record { level = level; place = g .place; condition = g .name }) gs)) (eqb level base)
 
-and-true : (a : Bool) → (a && true) ≡ a
-and-true true = refl
-and-true false = refl
-
 -- only the base level has base lines
 base-slots : (p : Slot → Bool) (gs : List Grant) → any (λ s. p s && eqb (s .level) base) (slots gs) ≡ any p (slotsAt gs base)
 unfolding slots
@@ -135,14 +135,13 @@ pub refused-4 : (book : List Record) (q : Question) → eqb (numberOf (priced bo
 unfolding priced
 refused-4 book q = go (first ofBase (linesOf book q))
   where
-    later : (p : Priced) (five six : Bool)
-        → eqb (numberOf {A = Priced} (refuseUnless 5 five >>= λ _. refuseUnless 6 six >>= λ _. done p)) 4 ≡ false
-    later p true true = refl
-    later p true false = refl
+    later : (p : Priced) (five : Bool) (six : Total) → eqb (numberOf {A = Priced} (refuseUnless 5 five >>= λ _. inRange six >>= λ _. done p)) 4 ≡ false
+    later p true (InRange c) = refl
+    later p true OutOfRange = refl
     later p false six = refl
 
     go : (o : Option Line)
-        → eqb (numberOf {A = Priced} (orRefuse 4 o >>= λ b. refuseUnless 5 (inOneCurrency (b .row .currency) (linesOf book q)) >>= λ _. refuseUnless 6 (staysInRange (pos 0) (amounts (linesOf book q))) >>= λ _. done (record { lines = linesOf book q; currency = b .row .currency }))) 4
+        → eqb (numberOf {A = Priced} (orRefuse 4 o >>= λ b. refuseUnless 5 (inOneCurrency (b .row .currency) (linesOf book q)) >>= λ _. inRange (totalOf (amounts (linesOf book q))) >>= λ _. done (record { lines = linesOf book q; currency = b .row .currency }))) 4
         ≡ not (isSome o)
     go none = refl
-    go (some b) = later (record { lines = linesOf book q; currency = b .row .currency }) (inOneCurrency (b .row .currency) (linesOf book q)) (staysInRange (pos 0) (amounts (linesOf book q)))
+    go (some b) = later (record { lines = linesOf book q; currency = b .row .currency }) (inOneCurrency (b .row .currency) (linesOf book q)) (totalOf (amounts (linesOf book q)))

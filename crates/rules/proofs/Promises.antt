@@ -9,6 +9,7 @@ use lib.IntN.{ℤ, pos, _*ℤ_}
 use lib.ListN.{length}
 use Rattle.rules.specs.Lists.{any}
 use Rattle.rules.specs.Book.{Record, Row, base}
+use Rattle.rules.specs.Days.{isDay}
 use Rattle.rules.specs.Question.{Question, grants}
 use Rattle.rules.specs.Choice.{step₅, choose}
 use Rattle.rules.specs.Lines.{Line, sum, amounts, total, slotsAt}
@@ -51,13 +52,14 @@ one-walk = Choice.one-walk
 -- ---- the calendar
 
 -- The stretches of a period start on its first day, each next one on the day after the one before, and the last ends on the last day;
--- they stand in date order; neighbours differ; and each day inside has the outcome of its stretch.
-pub stretches-right : (f : ℕ → Outcome) (from to : ℕ) (days : List ℕ) → periodTo from to ≡ some days → Calendar.Right f from to days (stretches f days)
-stretches-right f from to days e = Calendar.right f (Calendar.period-days from to days e)
+-- they stand in date order; neighbours differ; and every day from a stretch's first to its last has its outcome.
+pub stretches-right : (f : ℕ → Outcome) (from to : ℕ) (days : List ℕ) → isDay from ≡ true → periodTo from to ≡ some days → Calendar.Right f from to (stretches f days)
+stretches-right f from to days d e = Calendar.right f d (Calendar.period-end from to days e) (Calendar.period-days from to days e)
 
 -- Of no other list is all this true: so the stretches are the longest, and each is listed once.
-pub only-stretches : (f : ℕ → Outcome) (from to : ℕ) (days : List ℕ) (ss : List Stretch) → Calendar.Right f from to days ss → stretches f days ≡ ss
-only-stretches f from to days ss r = Calendar.longest f (r .inside) (r .differ)
+pub only-stretches : (f : ℕ → Outcome) (from to : ℕ) (days : List ℕ) → isDay from ≡ true → periodTo from to ≡ some days
+    → (ss : List Stretch) → Calendar.Right f from to ss → stretches f days ≡ ss
+only-stretches f from to days d e = Calendar.only-right f d (Calendar.period-end from to days e) (Calendar.period-days from to days e)
 
 -- There are at most as many stretches as days, and never more than 1,096.
 pub stretch-count : (f : ℕ → Outcome) (from to : ℕ) (days : List ℕ) → periodTo from to ≡ some days → (length (stretches f days) ≤ length days) × (length days ≤ mostDays)

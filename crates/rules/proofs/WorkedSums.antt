@@ -22,6 +22,11 @@ use Rattle.rules.specs.Lines as Lines
 use Rattle.rules.specs.Price as Price
 use Rattle.rules.specs.Calendar as Calendar
 use Rattle.rules.specs.FinalNumber as FinalNumber
+use Rattle.rules.specs.Refusals as Refusals
+use Rattle.rules.specs.TextBook as TextBook
+use Rattle.rules.specs.Text as LineText
+use Rattle.rules.specs.declared.PriceAnswer.{PriceAnswer}
+use lib.ListN.{replicate}
 use Rattle.rules.specs.Packaging as Packaging
 use Rattle.rules.specs.declared.Value.{Value}
 use Rattle.rules.specs.declared.Value.the-variants.{Fixed, Percent}
@@ -36,6 +41,12 @@ data Call : Type 0 where
   AskGross : Call
   -- the program, with an end date
   AskCalendar : ℕ → Call
+  -- what the caller reads of a price, and the lent bytes, of which there are so many sevens
+  AskBytes : ℕ → Call
+  -- the text of a number, the fallback standing in the question's place
+  AskText : ℕ → Call
+  -- the bytes of a calendar
+  AskStretches : ℕ → Call
 
 data Worked : Type 0 where
   -- the lines' amounts, and the unit total
@@ -43,6 +54,10 @@ data Worked : Type 0 where
   Text : List ℕ → Worked
   Weight : ℤ → Worked
   Refusal : ℕ → Worked
+  -- number, unit total, total, number of lines, unused set and its count, currency; then the lent bytes
+  Read : ℕ → ℤ → ℤ → ℕ → ℕ → ℕ → List ℕ → List ℕ → Worked
+  -- which text book, where in it, and the text
+  InBook : ℕ → ℕ → List ℕ → Worked
 
 record Case : Type 0 where
   call : Call
@@ -118,7 +133,7 @@ book5 = bookOf (in2024 base 1 (fixed (pos 50)) EUR 0 0 ∷ in2024 discount 2 (pe
 
 -- 12.5 percent of 10500 is 1312.5
 abbrev book6 : ℕ → ℕ → List ℕ
-book6 way step = bookOf (in2024 base 1 (fixed (pos 10500)) EUR 0 0 ∷ in2024 surcharge 1 (percent (pos 1250)) EUR 0 7 ∷ []) (roundingBytes 7 way step ∷ [])
+book6 way step = bookOf (in2024 base 1 (fixed (pos 10500)) EUR 0 0 ∷ in2024 surcharge 1 (percent (pos 1250)) EUR 0 7 ∷ []) (roundingBytes 7 way step (pos 0) (pos 0) ∷ [])
 
 abbrev book7 : List ℕ
 book7 = bookOf (in2024 base 1 (fixed (pos 9000)) EUR 9 0 ∷ in2024 base 1 (fixed (pos 8000)) EUR 0 0 ∷ []) []
@@ -173,8 +188,8 @@ abbrev traps : List Case
 traps =
     -- a row still holds on its to date
     case AskPrice (bookOf (baseRow 100 20240101 20240630 ∷ []) []) (ask 20240630 1 []) (Listed (pos 100 ∷ []) (pos 100))
-    -- the row in euro is too small for ten, and yet rules the foreign one out
-    ∷ case AskPrice (bookOf (in2024 base 1 (fixed (pos 100)) EUR 9 0 ∷ in2024 base 1 (fixed (pos 90)) USD 0 0 ∷ []) []) (ask 20240630 10 []) (Refusal 4)
+    -- the row in euro is too small for ten, and yet rules the dearer foreign one out
+    ∷ case AskPrice (bookOf (in2024 base 1 (fixed (pos 100)) EUR 9 0 ∷ in2024 base 1 (fixed (pos 110)) USD 0 0 ∷ []) []) (ask 20240630 10 []) (Refusal 4)
     -- the only row in euro is a percentage at the base level, and rules nothing out
     ∷ case AskPrice (bookOf (in2024 base 1 (percent (pos 100)) EUR 0 0 ∷ in2024 base 1 (fixed (pos 90)) USD 0 0 ∷ []) []) (ask 20240630 1 []) (Listed (pos 90 ∷ []) (pos 90))
     -- a refused day parts two stretches of one price
@@ -183,6 +198,47 @@ traps =
     -- rule 1 leaves the surcharge out
     ∷ case AskPrice (bookOf (in2024 base 1 (fixed (pos 1000)) EUR 0 0 ∷ in2024 surcharge 1 (fixed (pos 500)) EUR 0 0 ∷ in2024 discount 1 (percent (minus 1000)) EUR 0 0 ∷ []) []) (ask 20240630 1 [])
     (Listed (pos 1000 ∷ pos 500 ∷ minus 100 ∷ []) (pos 1400))
+    ∷ []
+
+-- ---- more sums, for what the paper's own do not show
+
+-- text 1 is `A` in the asked book; in the other it is `B`, and text 2 is `C`
+abbrev askedTexts : List ℕ
+askedTexts = 0 ∷ 0 ∷ 0 ∷ 12 ∷ 1 ∷ 0 ∷ 0 ∷ 0 ∷ 1 ∷ 0 ∷ 1 ∷ 65 ∷ []
+
+abbrev otherTexts : List ℕ
+otherTexts = 0 ∷ 0 ∷ 0 ∷ 19 ∷ 1 ∷ 0 ∷ 0 ∷ 0 ∷ 1 ∷ 0 ∷ 1 ∷ 66 ∷ 0 ∷ 0 ∷ 0 ∷ 2 ∷ 0 ∷ 1 ∷ 67 ∷ []
+
+abbrev more : List Case
+more =
+    -- every byte of P1 for two pieces, a repeat and a name that brings nothing among the granted; the rest of the lent bytes stays
+    case (AskBytes 44) bookK (ask 20240630 2 (oak ∷ OAK ∷ text "elm" ∷ []))
+    (Read 0 (pos 10875) (pos 21750) 3 4 1 EUR
+    (0 ∷ 0 ∷ 0 ∷ 0 ∷ 66 ∷ 0 ∷ 0 ∷ 0 ∷ 0 ∷ 0 ∷ 0 ∷ 0 ∷ 39 ∷ 16
+    ∷ 0 ∷ 0 ∷ 0 ∷ 0 ∷ 88 ∷ 1 ∷ 0 ∷ 0 ∷ 0 ∷ 0 ∷ 0 ∷ 0 ∷ 4 ∷ 226
+    ∷ 0 ∷ 0 ∷ 0 ∷ 0 ∷ 68 ∷ 0 ∷ 255 ∷ 255 ∷ 255 ∷ 255 ∷ 255 ∷ 255 ∷ 254 ∷ 137
+    ∷ 7 ∷ 7 ∷ []))
+    -- one byte too few: zeros, and no byte written
+    ∷ case (AskBytes 41) bookK (ask 20240630 1 (oak ∷ [])) (Read 7 (pos 0) (pos 0) 0 0 0 noUnit (replicate 41 7))
+    -- of two rows alike the later start, of two with one start the first
+    ∷ case AskPrice (bookOf (baseRow 1 20240101 20241231 ∷ baseRow 2 20240201 20241231 ∷ baseRow 3 20240201 20241231 ∷ []) []) (ask 20240630 1 []) (Listed (pos 2 ∷ []) (pos 2))
+    -- 95 and 4 are 99, down to 90, less 1
+    ∷ case AskPrice (bookOf (in2024 base 1 (fixed (pos 95)) EUR 0 7 ∷ []) (roundingBytes 7 0 10 (pos 4) (minus 1) ∷ [])) (ask 20240630 1 []) (Listed (pos 89 ∷ []) (pos 89))
+    -- below zero, down goes away from it
+    ∷ case AskPrice (bookOf (in2024 base 1 (fixed (minus 95)) EUR 0 7 ∷ []) (roundingBytes 7 0 10 (pos 0) (pos 0) ∷ [])) (ask 20240630 1 []) (Listed (minus 100 ∷ []) (minus 100))
+    -- a foreign amount; a total just in range, and one past it
+    ∷ case AskPrice (bookOf (in2024 base 1 (fixed (pos 100)) EUR 0 0 ∷ in2024 surcharge 1 (fixed (pos 1)) USD 0 0 ∷ []) []) (ask 20240630 1 []) (Refusal 5)
+    ∷ case AskPrice (bookOf (in2024 base 1 (fixed (pos 100_000_000)) EUR 0 0 ∷ in2024 surcharge 1 (percent (pos 90_000)) EUR 0 0 ∷ []) []) (ask 20240630 1 []) (Listed (pos 100_000_000 ∷ pos 900_000_000 ∷ []) (pos 1_000_000_000))
+    ∷ case AskPrice (bookOf (in2024 base 1 (fixed (pos 100_000_000)) EUR 0 0 ∷ in2024 surcharge 1 (percent (pos 90_001)) EUR 0 0 ∷ []) []) (ask 20240630 1 []) (Refusal 6)
+    -- a text of both books is the asked book's, one of the other is the fallback's
+    ∷ case (AskText 1) askedTexts otherTexts (InBook 1 11 (text "A"))
+    ∷ case (AskText 2) askedTexts otherTexts (InBook 2 18 (text "C"))
+    ∷ case (AskText 3) askedTexts otherTexts (Refusal 12)
+    -- the 20 bytes of a stretch
+    ∷ case (AskStretches 20240630) bookK (ask 20240629 1 (oak ∷ []))
+    (Text (1 ∷ 52 ∷ 216 ∷ 245 ∷ 1 ∷ 52 ∷ 216 ∷ 246 ∷ 0 ∷ 69 ∷ 85 ∷ 82 ∷ 0 ∷ 0 ∷ 0 ∷ 0 ∷ 0 ∷ 0 ∷ 42 ∷ 123 ∷ []))
+    -- pounds against kilograms
+    ∷ case AskGross (bookBytes (articleBytes A1 [] ∷ weights A1 [] 112 2000 15000 2 ∷ packBytes (text "*") OAK 0 (replicate 8 (pos 0)) (noUnit ∷ noUnit ∷ text "LBR" ∷ []) ∷ [])) (ask 20240630 1 (oak ∷ [])) (Refusal 11)
     ∷ []
 
 -- ---- what the rules give
@@ -199,18 +255,32 @@ abbrev readGross : Result Packed → Worked
 readGross (done p) = Weight (p .gross)
 readGross (refused n) = Refusal n
 
+abbrev readCall : PriceAnswer × List ℕ → Worked
+readCall p = Read (p .0 .number) (p .0 .unit) (p .0 .total) (p .0 .lines) (p .0 .unused) (p .0 .«unused_count») (p .0 .currency) (p .1)
+
+abbrev readFound : Result LineText.Found → Worked
+readFound (done f) = InBook (LineText.bookOf f) (LineText.foundEntry f .start) (LineText.foundEntry f .text)
+readFound (refused n) = Refusal n
+
+abbrev readStretches : Result (List Calendar.Stretch) → Worked
+readStretches (done ss) = Text (Calendar.stretchesBytes ss)
+readStretches (refused n) = Refusal n
+
 abbrev by : Call → List ℕ → List ℕ → Worked
 by AskPrice b q = readPrice (price b q 1000)
 by AskNumber b q = readText (finalNumber b q 1000)
 by AskGross b q = readGross (packaging b q)
 by (AskCalendar end) b q = Text (output (b ++ (q ++ bytesOf 4 end)))
+by (AskBytes room) b q = readCall (Price.priceCall b q (replicate room 7))
+by (AskText n) b q = readFound (LineText.text b q n)
+by (AskStretches end) b q = readStretches (Calendar.calendar b q end 1000)
 
 -- (the line below names what computes: whoever unfolds `found` unfolds all of it)
 found : Case → Worked
-unfolding price Floor.floor BookLayout.records Book.articleOf Book.schemeOf Book.packOf Book.roundingFor Question.questionOf Question.on Question.grants Choice.component Choice.step₁ Choice.step₂ Choice.step₃ Choice.step₄ Choice.step₅ Choice.surviving Choice.choose Days.isDay Days.next Days.daysTo Amounts.exact Amounts.ceiling Amounts.nearest Amounts.stepsBy Amounts.multipleBy Amounts.rounded Lines.slots Lines.rowsAt Lines.chosenAt Lines.chosen Lines.total Lines.baseSum Lines.lineAfter Lines.linesAfter Lines.linesOf Lines.linesBytes Lines.staysInRange Price.priced Price.unusedOf Price.answerOf finalNumber FinalNumber.finalNumberOf FinalNumber.numberBy packaging Packaging.used Packaging.packedOf output asked digits Calendar.calendarIn Calendar.periodTo Calendar.outcome Calendar.outcomeOf Calendar.stretches Calendar.sameOutcome
+unfolding price Floor.floor BookLayout.records Book.articleOf Book.schemeOf Book.packOf Book.roundingFor Question.questionOf Question.on Question.grants Choice.component Choice.step₁ Choice.step₂ Choice.step₃ Choice.step₄ Choice.step₅ Choice.surviving Choice.choose Days.isDay Days.next Days.daysTo Amounts.exact Amounts.ceiling Amounts.nearest Amounts.stepsBy Amounts.multipleBy Amounts.rounded Lines.slots Lines.rowsAt Lines.chosenAt Lines.chosen Lines.total Lines.baseSum Lines.lineAfter Lines.linesAfter Lines.linesOf Lines.linesBytes Lines.totalOf Price.priced Price.unusedOf Price.answerOf finalNumber FinalNumber.finalNumberOf FinalNumber.numberBy packaging Packaging.used Packaging.packedOf output asked digits Calendar.calendarIn Calendar.stretchesBytes Price.shown Refusals.lentAfter LineText.text TextBook.entries Calendar.periodTo Calendar.outcome Calendar.outcomeOf Calendar.stretches Calendar.sameOutcome
 found c = by (c .call) (c .book) (c .question)
 
 -- Every sum that was worked by hand, and every trap, comes out of the rules as the paper has it.
-worked-sums : map found (sums ++ traps) ≡ map (λ c. c .worked) (sums ++ traps)
+worked-sums : map found (sums ++ (traps ++ more)) ≡ map (λ c. c .worked) (sums ++ (traps ++ more))
 unfolding found
 worked-sums = refl

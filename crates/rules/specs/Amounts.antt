@@ -11,7 +11,7 @@ use Rattle.rules.specs.declared.Way.the-variants.{Down, Up, Commercial}
 use Rattle.rules.specs.declared.Rounding.{Rounding}
 use Rattle.rules.specs.declared.Fraction.{Fraction}
 
--- an amount is its value; a percentage is a share of what it is of, in cents
+-- a fixed value is the amount itself; h hundredths of a percent of some cents are h times them over 10,000
 unfoldable pub exact : Value → ℤ → Fraction
 exact (Fixed c) of = record { top = c .0; bottom = 1 }
 exact (Percent h) of = record { top = h .0 *ℤ of; bottom = 10000 }
@@ -24,7 +24,7 @@ ceiling z n = negℤ (floor (negℤ z) n)
 unfoldable pub nearest : ℤ → ℕ → ℤ
 nearest z n = floor (z *ℤ pos 2 +ℤ pos n) (n * 2)
 
--- how many steps z / n is, n counting the parts of a step
+-- an amount measured in steps, made whole by way
 unfoldable pub stepsBy : Way → ℤ → ℕ → ℤ
 stepsBy Down z n = floor z n
 stepsBy Up z n = ceiling z n

@@ -51,7 +51,7 @@ pub record Row : Type 0 where
   pub upTo : ℕ
   pub rounding : ℕ
 
--- kind 4; the values stand in the order of the presence bits: width, height, depth, volume, tare, net, items, packs; the units are those of length, volume, weight
+-- kind 4; eight values, in the order of the presence bits, and the units of length, volume and weight
 pub record Pack : Type 0 where
   pub article : List ℕ
   pub condition : List ℕ
@@ -108,8 +108,8 @@ roundings rs = gather asRounding rs
     asRounding (PackagingRecord p) = none
     asRounding (SchemeRecord s) = none
 
-abbrev pub packs : List Record → List Pack
-packs rs = gather asPack rs
+abbrev pub packagings : List Record → List Pack
+packagings rs = gather asPack rs
   where
     asPack : Record → Option Pack
     asPack (ArticleRecord a) = none
@@ -137,9 +137,9 @@ unfoldable pub schemeOf : List Record → List ℕ → Option Scheme
 schemeOf book id = first (λ s. same (s .id) id) (schemes book)
 
 unfoldable pub packOf : List Record → List ℕ → List ℕ → Option Pack
-packOf book article condition = first (λ p. same (p .article) article && same (p .condition) condition) (packs book)
+packOf book article condition = first (λ p. same (p .article) article && same (p .condition) condition) (packagings book)
 
--- "From rows to a total": number 0, or one that no record has, rounds to the nearest cent and adds nothing
+-- "From rows to a total": number 0, which no record has, and any other that none has, round to the nearest cent and add nothing
 abbrev pub plain : Rounding
 plain = record { number = 0; way = Commercial; step = 1; before = record { 0 = pos 0 }; after = record { 0 = pos 0 } }
 

@@ -6,10 +6,10 @@ use mathlib.Core.Option.{Option, some, none}
 use lib.Dec.{eqb, leb}
 use lib.ListN.{length, getD}
 use lib.IntN.{ℤ, pos, negsuc}
-use Rattle.rules.specs.Lists.{same, between, any}
+use Rattle.rules.specs.Lists.{same, between, any, all}
 use Rattle.rules.specs.Letters.{text, letter}
 use Rattle.rules.specs.Layout.{Layout, _>>=_, give, giveIf, _such_, must, bytes, byte, times, whole, framed, repeated}
-use Rattle.rules.specs.Bytes.{number, signed, name, nameByte, oneOf, capitals, eitherSide}
+use Rattle.rules.specs.Bytes.{number, signed, name, nameByte, oneOf, head, capitals, eitherSide}
 use Rattle.rules.specs.Book.{Record, ArticleRecord, PriceRecord, RoundingRecord, PackagingRecord, SchemeRecord, sale, purchase, base, surcharge, discount}
 use Rattle.rules.specs.declared.Value.{Value}
 use Rattle.rules.specs.declared.Value.the-variants.{Fixed, Percent}
@@ -36,7 +36,7 @@ abbrev pub inBounds : Value → Bool
 inBounds (Fixed c) = eitherSide 100_000_000 (c .0)
 inBounds (Percent h) = eitherSide 100_000 (h .0)
 
--- dates are any numbers here: a row whose date is no day is in the book and never chosen
+-- any numbers are dates here; step 2 of the choice drops rows whose dates are no days
 abbrev pub priceBody : Layout Record
 priceBody = do
   article ← name 1 40
@@ -80,10 +80,11 @@ roundingBody = do
 abbrev pub has : ℕ → ℕ → Bool
 has i present = eqb ((present / 2 ^ i) % 2) 1
 
--- from bit i on, a value that is not present is 0
-abbrev pub zeroUnlessPresent : ℕ → ℕ → List ℤ → Bool
-zeroUnlessPresent present i [] = true
-zeroUnlessPresent present i (v ∷ vs) = (has i present || eitherSide 0 v) && zeroUnlessPresent present (suc i) vs
+abbrev pub eight : List ℕ
+eight = 0 ∷ 1 ∷ 2 ∷ 3 ∷ 4 ∷ 5 ∷ 6 ∷ 7 ∷ []
+
+abbrev pub zeroUnlessPresent : ℕ → List ℤ → Bool
+zeroUnlessPresent present values = all (λ i. has i present || eitherSide 0 (getD values i (pos 0))) eight
 
 abbrev pub lengthUnits : List (List ℕ)
 lengthUnits = text "CMT" ∷ text "FOT" ∷ text "INH" ∷ text "MMT" ∷ text "MTR" ∷ []
@@ -113,7 +114,7 @@ packagingBody = do
   physical ← times 6 (signed 4 such eitherSide 10_000_000)
   counts ← times 2 (signed 4 such eitherSide 10_000)
   let values = physical ++ counts
-  _ ← must (zeroUnlessPresent present 0 values)
+  _ ← must (zeroUnlessPresent present values)
   lengthUnit ← unitFor (has 0 present || (has 1 present || has 2 present)) lengthUnits
   volumeUnit ← unitFor (has 3 present) volumeUnits
   weightUnit ← unitFor (has 4 present || has 5 present) weightUnits
@@ -172,15 +173,9 @@ oneRecord = do
 abbrev pub mostBytes : ℕ
 mostBytes = 4_194_304
 
--- the head that a book and a text book share: the length that was lent, not above the limit, and the version
-abbrev pub head : ℕ → Layout ℕ
-head lent = do
-  _ ← number 4 such eqb lent
-  _ ← must (leb lent mostBytes)
-  oneOf (1 ∷ [])
-
 abbrev pub bookLayout : ℕ → Layout (List Record)
 bookLayout lent = do
+  _ ← must (leb lent mostBytes)
   _ ← head lent
   repeated oneRecord
 

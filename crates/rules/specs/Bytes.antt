@@ -50,11 +50,17 @@ abbrev pub eitherSide : ℕ → ℤ → Bool
 eitherSide n (pos m) = leb m n
 eitherSide n (negsuc m) = ltb m n
 
--- ---- letters and names
-
 -- one byte, of a few
 abbrev pub oneOf : List ℕ → Layout ℕ
 oneOf bs = byte such λ b. any (eqb b) bs
+
+-- the head of a layout: the length of the whole as it was lent, and version 1
+abbrev pub head : ℕ → Layout ℕ
+head lent = do
+  _ ← number 4 such eqb lent
+  oneOf (1 ∷ [])
+
+-- ---- letters and names
 
 -- the printable bytes of Latin-1
 abbrev pub nameByte : ℕ → Bool

@@ -78,41 +78,40 @@ mostDays = 1096
 unfoldable pub periodTo : ℕ → ℕ → Option (List ℕ)
 periodTo start end = cond (isDay end && leb start end) (daysTo mostDays start end) none
 
--- how much room the answer takes is for the caller's form to say: 20 bytes, or one record, for each stretch
-unfoldable pub calendarIn : ℕ → List ℕ → List ℕ → ℕ → ℕ → Result (List Stretch)
-calendarIn size bookBytes questionBytes end room = do
+-- `form` is what would be written: bytes, or a list of records
+unfoldable pub calendarIn : {B : Type 0} → (List Stretch → List B) → List ℕ → List ℕ → ℕ → ℕ → Result (List Stretch)
+calendarIn form bookBytes questionBytes end room = do
   book ← orRefuse 1 (records bookBytes)
   q ← orRefuse 2 (questionOf questionBytes)
   days ← orRefuse 9 (periodTo (q .date) end)
   _ ← orRefuse 3 (articleOf book (q .article))
   let ss = stretches (outcome book q) days
   _ ← refuseUnless 10 (leb (length ss) 1200)
-  _ ← refuseUnless 7 (leb (size * length ss) room)
+  _ ← refuseUnless 7 (leb (length (form ss)) room)
   done ss
 
 -- ---- as bytes
 
 abbrev pub calendar : List ℕ → List ℕ → ℕ → ℕ → Result (List Stretch)
-calendar bookBytes questionBytes end room = calendarIn 20 bookBytes questionBytes end room
+calendar bookBytes questionBytes end room = calendarIn stretchesBytes bookBytes questionBytes end room
 
 unfoldable pub shownBytes : Result (List Stretch) → Written
-shownBytes r = record { length = orZero 0 (λ ss. 20 * length ss) r; number = numberOf r }
+shownBytes r = record { length = orZero 0 (λ ss. length (stretchesBytes ss)) r; number = numberOf r }
 
 abbrev pub lentAfterCalendar : Result (List Stretch) → List ℕ → List ℕ
 lentAfterCalendar r lent = lentAfter stretchesBytes r lent
 
 -- ---- as a lent list of records
 
-abbrev pub calendarList : List ℕ → List ℕ → ℕ → ℕ → Result (List Stretch)
-calendarList bookBytes questionBytes end room = calendarIn 1 bookBytes questionBytes end room
-
-unfoldable pub shownRecords : Result (List Stretch) → Written
-shownRecords r = record { length = orZero 0 length r; number = numberOf r }
-
 abbrev pub listed : Stretch → Declared.Stretch
 listed s =
     record { first = s .first; last = s .last; unit = s .outcome .unit; refusal = s .outcome .refusal; currency = s .outcome .currency }
 
+abbrev pub calendarList : List ℕ → List ℕ → ℕ → ℕ → Result (List Stretch)
+calendarList bookBytes questionBytes end room = calendarIn (map listed) bookBytes questionBytes end room
+
+unfoldable pub shownRecords : Result (List Stretch) → Written
+shownRecords r = record { length = orZero 0 length r; number = numberOf r }
+
 unfoldable pub lentAfterList : Result (List Stretch) → List Declared.Stretch → List Declared.Stretch
-lentAfterList (done ss) lent = map listed ss ++ drop (length ss) lent
-lentAfterList (refused n) lent = lent
+lentAfterList r lent = lentAfter (map listed) r lent

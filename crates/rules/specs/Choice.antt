@@ -10,7 +10,7 @@ use Rattle.rules.specs.Book.{Row, base}
 use Rattle.rules.specs.declared.Value.{Value}
 use Rattle.rules.specs.declared.Value.the-variants.{Fixed, Percent}
 
--- the rows of one article, sort, level and condition; a row's names stand as they are
+-- what one row is chosen from; a row's names stand as they are
 unfoldable pub component : List ℕ → ℕ → ℕ → List ℕ → List Row → List Row
 component article sort level condition rows =
     keep (λ r. same (r .article) article && (eqb (r .sort) sort && (eqb (r .level) level && same (r .condition) condition))) rows

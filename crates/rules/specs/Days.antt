@@ -30,11 +30,16 @@ lastDay = date 9999 12 31
 abbrev pub leap : ℕ → Bool
 leap y = (eqb (y % 4) 0 && not (eqb (y % 100) 0)) || eqb (y % 400) 0
 
-abbrev pub daysIn : ℕ → ℕ → ℕ
-daysIn y m = getD (31 ∷ cond (leap y) 29 28 ∷ 31 ∷ 30 ∷ 31 ∷ 30 ∷ 31 ∷ 31 ∷ 30 ∷ 31 ∷ 30 ∷ 31 ∷ []) (m - 1) 0
+-- the lengths of a year's months
+abbrev pub monthLengths : ℕ → List ℕ
+monthLengths y = 31 ∷ cond (leap y) 29 28 ∷ 31 ∷ 30 ∷ 31 ∷ 30 ∷ 31 ∷ 31 ∷ 30 ∷ 31 ∷ 30 ∷ 31 ∷ []
 
+abbrev pub daysIn : ℕ → ℕ → ℕ
+daysIn y m = getD (monthLengths y) (m - 1) 0
+
+-- between the ends, in a month, on one of its days
 unfoldable pub isDay : ℕ → Bool
-isDay d = between 1 9999 (yearOf d) && (between 1 12 (monthOf d) && between 1 (daysIn (yearOf d) (monthOf d)) (dayOf d))
+isDay d = between firstDay lastDay d && (between 1 12 (monthOf d) && between 1 (daysIn (yearOf d) (monthOf d)) (dayOf d))
 
 -- the day after: in the same month, or the first of the next month, or the first of the next year
 unfoldable pub next : ℕ → ℕ

@@ -36,6 +36,7 @@ shownOf s p = stated s (p .state) p
 
 -- ---- the number
 
+-- left empty, it is one blank
 abbrev pub separatorOf : List ℕ → List ℕ
 separatorOf [] = text " "
 separatorOf (c ∷ cs) = c ∷ cs
@@ -48,7 +49,7 @@ behind number s (v ∷ vs) = number ++ (separatorOf (s .numberSeparator) ++ join
 unfoldable pub numberBy : List ℕ → List Property → Scheme → List ℕ
 numberBy number ps s = behind number s (gather (shownOf s) ps)
 
--- without a scheme, the base number alone
+-- without a scheme, the base number alone; no scheme's id is empty, so an empty name finds none
 unfoldable pub finalNumberOf : List Record → Question → Article → List ℕ
 finalNumberOf book q a = ifSome (schemeOf book (a .scheme)) (q .article) (numberBy (q .article) (q .properties))
 

@@ -5,7 +5,7 @@ use mathlib.Core.List.{List, [], _∷_, _++_, map}
 use mathlib.Core.Option.{Option, some, none, Option·map}
 use lib.Dec.{eqb}
 use lib.IntN.{ℤ, pos, _+ℤ_}
-use Rattle.rules.specs.Lists.{keep, gather, join}
+use Rattle.rules.specs.Lists.{keep, gather, join, all}
 use Rattle.rules.specs.Bytes.{bytesOf, signedBytesOf, eitherSide}
 use Rattle.rules.specs.Book.{Record, Row, base, surcharge, discount, rows, roundings, roundingFor}
 use Rattle.rules.specs.Question.{Question, Grant, grants}
@@ -91,14 +91,18 @@ linesOf book q = linesAfter (roundings book) [] (chosen (rows book) q)
 
 -- ---- the running total
 
--- after each amount the sum is at most a thousand million cents either side of zero
-unfoldable pub staysInRange : ℤ → List ℤ → Bool
-staysInRange sum [] = true
-staysInRange sum (z ∷ zs) = eitherSide 1_000_000_000 (sum +ℤ z) && staysInRange (sum +ℤ z) zs
+-- what the lines come to after the first, after the second, and so on
+abbrev pub running : ℤ → List ℤ → List ℤ
+running before [] = []
+running before (z ∷ zs) = (before +ℤ z) ∷ running (before +ℤ z) zs
 
--- what amounts come to, added one by one
+-- in cents, either side of zero
+abbrev pub mostTotal : ℕ
+mostTotal = 1_000_000_000
+
+-- what amounts come to, if it is in range after each of them
 unfoldable pub totalOf : List ℤ → Total
-totalOf zs = cond (staysInRange (pos 0) zs) (InRange (record { 0 = sum zs })) OutOfRange
+totalOf zs = cond (all (eitherSide mostTotal) (running (pos 0) zs)) (InRange (record { 0 = sum zs })) OutOfRange
 
 -- ---- the 14 bytes of a line
 

@@ -1,5 +1,5 @@
 -- Lists and tests that compute: the few words in which the rules are written.
-use Prim.Native.Nat.{ℕ, zero, suc, _+_}
+use Prim.Native.Nat.{ℕ, _+_, _^_}
 use mathlib.Core.Bool.{Bool, true, false, _&&_, _||_, not, cond}
 use mathlib.Core.List.{List, [], _∷_, _++_, map}
 use mathlib.Core.Option.{Option, some, none}
@@ -11,6 +11,11 @@ same [] [] = true
 same [] (y ∷ ys) = false
 same (x ∷ xs) [] = false
 same (x ∷ xs) (y ∷ ys) = eqb x y && same xs ys
+
+-- the bits of these numbers, each once
+abbrev pub bitSet : List ℕ → ℕ
+bitSet [] = 0
+bitSet (i ∷ is) = 2 ^ i + bitSet is
 
 -- lo ≤ n ≤ hi
 abbrev pub between : ℕ → ℕ → ℕ → Bool

@@ -6,10 +6,11 @@ use mathlib.Core.Option.{Option, some, none}
 use lib.ListN.{length, getD, replicate}
 use lib.IntN.{ℤ, pos, _+ℤ_, _*ℤ_}
 use lib.Signed.{nonNeg}
-use Rattle.rules.specs.Lists.{same, all, any, first, gather, ifSome, join}
+use Rattle.rules.specs.Lists.{same, all, any, keep, first, gather, ifSome, join, bitSet}
 use Rattle.rules.specs.Book.{Record, Pack, articleOf, packOf}
-use Rattle.rules.specs.BookLayout.{records, has, noUnit, star}
+use Rattle.rules.specs.BookLayout.{records, has, eight, noUnit, star}
 use Rattle.rules.specs.Question.{Question, Grant, grants, questionOf}
+use Rattle.rules.specs.Lines.{sum}
 use Rattle.rules.specs.Refusals.{Result, done, refused, _>>=_, orRefuse, refuseUnless, numberOf, orZero}
 use Rattle.rules.specs.declared.PackagingAnswer.{PackagingAnswer}
 
@@ -23,24 +24,30 @@ orElse (some p) o = some p
 abbrev pub packFor : List Record → List ℕ → Grant → Option Pack
 packFor book article g = orElse (packOf book article (g .name)) (packOf book star (g .name))
 
+-- the unconditioned record, and one for each granted name that has any
 unfoldable pub used : List Record → Question → Pack → List Pack
 used book q p = p ∷ gather (packFor book (q .article)) (grants (q .granted))
 
--- ---- values: width 0, height 1, depth 2, volume 3, tare 4, net 5, items 6, packs 7
+-- ---- values, by their places
 
-abbrev pub eight : List ℕ
-eight = 0 ∷ 1 ∷ 2 ∷ 3 ∷ 4 ∷ 5 ∷ 6 ∷ 7 ∷ []
+abbrev pub tare : ℕ
+tare = 4
+
+abbrev pub net : ℕ
+net = 5
+
+abbrev pub items : ℕ
+items = 6
 
 abbrev pub presentIn : List Pack → ℕ → Bool
 presentIn us i = any (λ p. has i (p .present)) us
 
 -- the sum over the used records; a value that one lacks is 0 in the book
 abbrev pub valueIn : List Pack → ℕ → ℤ
-valueIn [] i = pos 0
-valueIn (p ∷ us) i = getD (p .values) i (pos 0) +ℤ valueIn us i
+valueIn us i = sum (map (λ p. getD (p .values) i (pos 0)) us)
 
 abbrev pub grossIn : List Pack → ℤ
-grossIn us = cond (presentIn us 4 && (presentIn us 5 && presentIn us 6)) (valueIn us 4 +ℤ valueIn us 5 *ℤ valueIn us 6) (pos 0)
+grossIn us = cond (all (presentIn us) (tare ∷ net ∷ items ∷ [])) (valueIn us tare +ℤ valueIn us net *ℤ valueIn us items) (pos 0)
 
 -- ---- units: of length 0, volume 1, weight 2
 
@@ -62,10 +69,6 @@ unitsAgree us i = all (λ u. not (isGiven u) || same u (unitIn us i)) (unitsGive
 
 -- ---- the answer
 
-abbrev pub bits : (ℕ → Bool) → List ℕ → ℕ
-bits p [] = 0
-bits p (i ∷ is) = cond (p i) (2 ^ i) 0 + bits p is
-
 pub record Packed : Type 0 where
   pub present : ℕ
   pub values : List ℤ
@@ -73,7 +76,7 @@ pub record Packed : Type 0 where
   pub gross : ℤ
 
 unfoldable pub packedOf : List Pack → Packed
-packedOf us = record { present = bits (presentIn us) eight; values = map (valueIn us) eight; units = map (unitIn us) three; gross = grossIn us }
+packedOf us = record { present = bitSet (keep (presentIn us) eight); values = map (valueIn us) eight; units = map (unitIn us) three; gross = grossIn us }
 
 -- the call: refusals 1, 2, 3, 8, 11; signs are tested on the sums alone
 unfoldable pub packaging : List ℕ → List ℕ → Result Packed

@@ -1,18 +1,21 @@
 -- The price call: refusals 1, 2, 3, 4, 5, 6, 7 ("Numbers a caller can get"), and what is answered ("From rows to a total").
-use Prim.Native.Nat.{ℕ, zero, suc, _+_, _-_, _^_}
+use Prim.Native.Nat.{ℕ, zero, suc, _-_}
 use mathlib.Core.Bool.{Bool, true, false, _&&_, _||_, not}
 use mathlib.Core.List.{List, [], _∷_, _++_, map}
 use mathlib.Core.Option.{Option, some, none}
 use lib.Dec.{eqb, leb}
 use lib.ListN.{length}
 use lib.IntN.{ℤ, pos, _*ℤ_}
-use Rattle.rules.specs.Lists.{same, all, any, first, keep}
+use Rattle.rules.specs.Lists.{same, all, any, first, keep, bitSet}
 use Rattle.rules.specs.Book.{Record, articleOf}
 use Rattle.rules.specs.BookLayout.{records}
 use Rattle.rules.specs.Question.{Question, Grant, grants, questionOf, noCurrency}
 use Rattle.rules.specs.Choice.{isPercent}
-use Rattle.rules.specs.Lines.{Line, amounts, total, ofBase, linesOf, linesBytes, staysInRange}
+use Rattle.rules.specs.Lines.{Line, amounts, total, ofBase, linesOf, linesBytes, totalOf}
 use Rattle.rules.specs.Refusals.{Result, done, refused, _>>=_, orRefuse, refuseUnless, numberOf, orZero, lentAfter}
+use Rattle.rules.specs.declared.Cents.{Cents}
+use Rattle.rules.specs.declared.Total.{Total}
+use Rattle.rules.specs.declared.Total.the-variants.{InRange, OutOfRange}
 use Rattle.rules.specs.declared.PriceAnswer.{PriceAnswer}
 
 -- ---- the price of an article that the book has
@@ -25,6 +28,11 @@ pub record Priced : Type 0 where
 abbrev pub inOneCurrency : List ℕ → List Line → Bool
 inOneCurrency c ls = all (λ l. isPercent (l .row .value) || same (l .row .currency) c) ls
 
+-- a total that left its range is refusal 6
+abbrev pub inRange : Total → Result Cents
+inRange (InRange c) = done c
+inRange OutOfRange = refused 6
+
 -- on one day: refusals 4, 5 and 6
 unfoldable pub priced : List Record → Question → Result Priced
 priced book q = do
@@ -32,7 +40,7 @@ priced book q = do
   b ← orRefuse 4 (first ofBase ls)
   let currency = b .row .currency
   _ ← refuseUnless 5 (inOneCurrency currency ls)
-  _ ← refuseUnless 6 (staysInRange (pos 0) (amounts ls))
+  _ ← inRange (totalOf (amounts ls))
   done (record { lines = ls; currency = currency })
 
 -- ---- granted names that brought no line
@@ -42,8 +50,7 @@ unusedOf q ls = keep (λ g. not (any (λ l. eqb (l .place) (g .place)) ls)) (gra
 
 -- their places as a set of bits, the lowest for place 1
 abbrev pub setOf : List Grant → ℕ
-setOf [] = 0
-setOf (g ∷ gs) = 2 ^ (g .place - 1) + setOf gs
+setOf gs = bitSet (map (λ g. g .place - 1) gs)
 
 -- ---- the call
 
@@ -87,3 +94,7 @@ shown r =
 
 abbrev pub lentAfterPrice : Result Answer → List ℕ → List ℕ
 lentAfterPrice r lent = lentAfter written r lent
+
+-- all that the call does: what is read of it, and what is then in the lent output
+abbrev pub priceCall : List ℕ → List ℕ → List ℕ → PriceAnswer × List ℕ
+priceCall bookBytes questionBytes lent = let r = price bookBytes questionBytes (length lent) in (shown r, lentAfterPrice r lent)

@@ -4,14 +4,11 @@ use mathlib.Core.Bool.{Bool, true, false, cond}
 use mathlib.Core.List.{List, [], _∷_, _++_, map}
 use mathlib.Core.Option.{Option, some, none}
 use lib.Dec.{eqb, leb, ltb}
-use lib.ListN.{length, take}
+use lib.ListN.{length, take, drop}
 use lib.IntN.{ℤ, pos, negsuc}
 use Rattle.rules.specs.Lists.{join, joinWith}
 use Rattle.rules.specs.Letters.{text, letter}
-use Rattle.rules.specs.Layout.{bytes}
 use Rattle.rules.specs.Bytes.{big}
-use Rattle.rules.specs.BookLayout.{records}
-use Rattle.rules.specs.Question.{questionOf}
 use Rattle.rules.specs.Refusals.{Result, done, refused, _>>=_, orRefuse, refuseUnless}
 use Rattle.rules.specs.Calendar.{calendar, mostDays, Stretch}
 
@@ -49,20 +46,23 @@ printed (refused n) = text "refusal " ++ (decimal n ++ text "\n")
 abbrev pub mostInput : ℕ
 mostInput = 65_536
 
--- the part in front that is as long as its first four bytes say, and what is behind it
-abbrev pub ownLength : List ℕ → Option (List ℕ × List ℕ)
-ownLength s = cond (leb 4 (length s)) (bytes (big (take 4 s)) s) none
+-- how long the part in front says it is
+abbrev pub ownLength : List ℕ → ℕ
+ownLength s = big (take 4 s)
 
--- a book, a question and an end date; each is split off and judged before the next, so that the call's order 1, 2, 9 stands
+-- an end date of another length is read as 0, which is no day
+abbrev pub endOf : List ℕ → ℕ
+endOf s = cond (eqb (length s) 4) (big s) 0
+
+-- a book, a question and an end date, one behind the other. What is cut is shorter than it says, so the call itself refuses it in its own order;
+-- the room is for a stretch on every day, so 7 is never met
 unfoldable pub asked : List ℕ → Result (List Stretch)
 asked input = do
   _ ← refuseUnless 1 (leb (length input) mostInput)
-  book ← orRefuse 1 (ownLength input)
-  _ ← orRefuse 1 (records (book .0))
-  question ← orRefuse 2 (ownLength (book .1))
-  _ ← orRefuse 2 (questionOf (question .0))
-  _ ← refuseUnless 9 (eqb (length (question .1)) 4)
-  calendar (book .0) (question .0) (big (question .1)) (20 * mostDays)
+  let book = take (ownLength input) input
+  let behind = drop (ownLength input) input
+  let question = take (ownLength behind) behind
+  calendar book question (endOf (drop (ownLength behind) behind)) (20 * mostDays)
 
 unfoldable pub output : List ℕ → List ℕ
 output input = printed (asked input)

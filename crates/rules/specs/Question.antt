@@ -1,18 +1,17 @@
 -- "The price book", the question: which bytes are one, and how its granted names count.
 use Prim.Native.Nat.{ℕ, zero, suc, _+_}
 use mathlib.Core.Bool.{Bool, true, false, _&&_, _||_, not, cond}
-use mathlib.Core.List.{List, [], _∷_, _++_, map}
+use mathlib.Core.List.{List, [], _∷_, map}
 use mathlib.Core.Option.{Option, some, none}
 use lib.Dec.{eqb, leb}
-use lib.ListN.{length, take, drop}
+use lib.ListN.{length}
 use Rattle.rules.specs.Lists.{same, between, all, any, keep}
 use Rattle.rules.specs.Letters.{letter}
 use Rattle.rules.specs.Layout.{Layout, _>>=_, give, giveIf, _such_, bytes, byte, times, whole}
-use Rattle.rules.specs.Bytes.{number, name, oneOf, capitals, raise, bytesOf}
+use Rattle.rules.specs.Bytes.{number, name, oneOf, head, capitals, raise}
 use Rattle.rules.specs.Days.{isDay}
 use Rattle.rules.specs.Book.{sale, purchase}
 
--- state 0 valued, 1 hidden, 2 unselected
 pub record Property : Type 0 where
   pub width : ℕ
   pub state : ℕ
@@ -52,46 +51,20 @@ property = do
   value ← valueFor width state
   give (record { width = width; state = state; value = value })
 
--- a question is its subject, the date, and its wishes
-pub record Subject : Type 0 where
-  pub article : List ℕ
-  pub sort : ℕ
-  pub currency : Option (List ℕ)
-
-pub record Wishes : Type 0 where
-  pub quantity : ℕ
-  pub granted : List (List ℕ)
-  pub properties : List Property
-
-abbrev pub subject : ℕ → Layout Subject
-subject lent = do
-  _ ← number 4 such eqb lent
-  _ ← oneOf (1 ∷ [])
+-- unlike a row's, a question's date must be a day
+abbrev pub questionLayout : ℕ → Layout Question
+questionLayout lent = do
+  _ ← head lent
   article ← name 1 40
   sort ← oneOf (sale ∷ purchase ∷ [])
   currency ← bytes 3 such λ c. capitals c || same c noCurrency
-  give (record { article = article; sort = sort; currency = askedOf currency })
-
-abbrev pub wishes : Layout Wishes
-wishes = do
+  date ← number 4 such isDay
   quantity ← number 4 such between 1 100_000
   conditions ← byte such between 0 32
   granted ← times conditions (name 1 20)
   count ← byte such between 0 32
   properties ← times count property
-  give (record { quantity = quantity; granted = granted; properties = properties })
-
-abbrev pub asking : Subject → ℕ → Wishes → Question
-asking s d w =
-    record { article = s .article; sort = s .sort; currency = s .currency; date = d; quantity = w .quantity; granted = w .granted; properties = w .properties }
-
--- unlike a row's, a question's date must be a day
-abbrev pub questionLayout : ℕ → Layout Question
-questionLayout lent = do
-  s ← subject lent
-  date ← number 4 such isDay
-  w ← wishes
-  give (asking s date w)
+  give (record { article = article; sort = sort; currency = askedOf currency; date = date; quantity = quantity; granted = granted; properties = properties })
 
 unfoldable pub questionOf : List ℕ → Option Question
 questionOf s = whole (questionLayout (length s)) s
@@ -100,14 +73,6 @@ questionOf s = whole (questionLayout (length s)) s
 
 unfoldable pub on : Question → ℕ → Question
 on q d = record { article = q .article; sort = q .sort; currency = q .currency; date = d; quantity = q .quantity; granted = q .granted; properties = q .properties }
-
--- where the date stands: behind length, version, article, sort and currency
-abbrev pub dateAt : Question → ℕ
-dateAt q = 10 + length (q .article)
-
--- a question's bytes with another day in that place
-unfoldable pub redated : ℕ → ℕ → List ℕ → List ℕ
-redated at d s = take at s ++ (bytesOf 4 d ++ drop (at + 4) s)
 
 -- ---- "Which row is chosen": granted names
 

@@ -4,7 +4,7 @@
 --    2  the question is none                                  8  the article has no unconditioned packaging
 --    3  the book has no record of the article                 9  the period ends on no day, before it starts, or is too long
 --    4  there is no base line                                10  too many stretches
---    5  a line of an amount is in another currency           11  packaging units clash, or a value falls below zero
+--    5  a fixed line is not in the base currency             11  packaging units clash, or a value falls below zero
 --    6  the running total leaves its range                   12  neither text book has the number
 use Prim.Native.Nat.{ℕ}
 use mathlib.Core.Bool.{Bool, true, false}
@@ -42,11 +42,11 @@ abbrev pub orZero : {A B : Type 0} → B → (A → B) → Result A → B
 orZero z f (done a) = f a
 orZero z f (refused n) = z
 
--- new bytes over the front of the old ones; those behind stay
-abbrev pub over : List ℕ → List ℕ → List ℕ
+-- what is new over the front of what was there; the rest stays
+abbrev pub over : {B : Type 0} → List B → List B → List B
 over new old = new ++ drop (length new) old
 
 -- what the call writes goes over the front; a refused call writes nothing
-unfoldable pub lentAfter : {A : Type 0} → (A → List ℕ) → Result A → List ℕ → List ℕ
+unfoldable pub lentAfter : {A B : Type 0} → (A → List B) → Result A → List B → List B
 lentAfter bytes (done a) lent = over (bytes a) lent
 lentAfter bytes (refused n) lent = lent

@@ -39,6 +39,10 @@ abbrev pub foundEntry : Found → Entry
 foundEntry (InAsked e) = e
 foundEntry (InFallback e) = e
 
+-- the part that is handed back; a refused call hands back an empty one
+unfoldable pub part : Result Found → List ℕ
+part r = orZero [] (λ f. foundEntry f .text) r
+
 unfoldable pub shown : Result Found → TextAnswer
 shown r =
     record {

@@ -3,10 +3,11 @@ use Prim.Native.Nat.{ℕ, _-_}
 use mathlib.Core.Bool.{Bool, true, false}
 use mathlib.Core.List.{List, [], _∷_}
 use mathlib.Core.Option.{Option, some, none}
+use lib.Dec.{leb}
 use lib.ListN.{length}
-use Rattle.rules.specs.Layout.{Layout, _>>=_, give, bytes, whole, repeated, left}
-use Rattle.rules.specs.Bytes.{number}
-use Rattle.rules.specs.BookLayout.{head}
+use Rattle.rules.specs.Layout.{Layout, _>>=_, give, must, bytes, whole, repeated, left}
+use Rattle.rules.specs.Bytes.{number, head}
+use Rattle.rules.specs.BookLayout.{mostBytes}
 
 -- a text, its number, and the place in the book where it starts
 pub record Entry : Type 0 where
@@ -25,6 +26,7 @@ entry lent = do
 
 abbrev pub textLayout : ℕ → Layout (List Entry)
 textLayout lent = do
+  _ ← must (leb lent mostBytes)
   _ ← head lent
   repeated (entry lent)
 

@@ -1,0 +1,5 @@
+pub mod LayoutLaws
+pub mod SequenceLaws
+pub mod NumberLaws
+pub mod StoreLaws
+pub mod NameLaws

@@ -1,0 +1,33 @@
+-- `layout::names::all_name_bytes` meets its contract: the flag and what is left are the whole answer, by the laws `scan-..`.
+use Prim.Native.Nat.{_-_}
+use mathlib.Core.Path.{_≡_}
+use mathlib.Core.Bool.{_&&_}
+use lib.ListN.{length, drop}
+use Rattle.rules.specs.Lists.{all}
+use Rattle.rules.specs.Bytes.{nameByte}
+use borrow.Author.Needs.{needs}
+use Rattle.layout.proofs.NameLaws.{scan-start, scan-again, scan-end}
+use Rattle.layout.proofs.names.all_name_bytes.Statement.{statement}
+use Rattle.layout.proofs.names.all_name_bytes.Tie as tie
+
+ruleset laws = (needs, scan-start, scan-again, scan-end)
+
+abbrev Inv-loop : tie.InvT-loop
+Inv-loop s ok₀ i₀ ok i = (ok && all nameByte (drop i s)) ≡ all nameByte s
+
+abbrev μ-loop : tie.MeasureT-loop
+μ-loop s ok₀ i₀ ok i = length s - i
+
+pub all-name-bytes-spec : {M : Type 1} → statement M
+all-name-bytes-spec =
+    tie.close
+    (tie.spec
+    Inv-loop
+    μ-loop
+    (λ c. search laws)  -- loop-holds
+    (λ c. search needs)  -- shared-slice-read-is-name-byte
+    (λ c κs. search laws)  -- is-name-byte-requires
+    (λ c. search needs)  -- add-i
+    (λ c. search needs)  -- loop-less
+    (λ c. search laws)  -- loop-again
+    (λ c. search laws))  -- returns

@@ -1,0 +1,95 @@
+-- What every value that a layout gives is sure to have, and with it what an accepted question has.
+use Prim.Native.Nat.{ℕ, zero, suc, _≤_}
+use mathlib.Core.Path.{_≡_, refl, sym, ap, subst}
+use mathlib.Core.Bool.{Bool, true, false, _&&_, _||_}
+use mathlib.Core.List.{List, [], _∷_}
+use mathlib.Core.Option.{Option, some, none, Option·none-ne-some, Option·some-injective}
+use lib.ListN.{length}
+use Rattle.rules.specs.Lists.{same, between}
+use Rattle.rules.specs.Layout.{Layout, andThen, _>>=_, give, giveIf, _such_, bytes, byte, times, whole, wholly}
+use Rattle.rules.specs.Bytes.{number, name, oneOf, head, capitals}
+use Rattle.rules.specs.Days.{isDay}
+use Rattle.rules.specs.Book.{sale, purchase}
+use Rattle.rules.specs.Question.{Question, noCurrency, property, questionLayout, questionOf}
+use Rattle.rules.proofs.TestLaws.{between-low, between-high}
+
+pub record Gives {A : Type 0} (m : Layout A) (P : A → Type 0) : Type 0 where
+  pub sure : (s : List ℕ) (v : A) (t : List ℕ) → m s ≡ some (v, t) → P v
+
+module _ {A B : Type 0} where
+  pub and-then : (o : Option (A × List ℕ)) (f : A → Layout B) {y : B × List ℕ} → andThen o f ≡ some y → (x : A × List ℕ) × (o ≡ some x) × (f (x .0) (x .1) ≡ some y)
+  and-then none f {y} e = absurd (Option·none-ne-some y e)
+  and-then (some x) f e = (x, refl, e)
+
+  -- a field that is sure of P, and then what is sure of Q where P holds
+  pub gives-field : (m : Layout A) (f : A → Layout B) {P : A → Type 0} {Q : B → Type 0} → Gives m P → ((a : A) → P a → Gives (f a) Q) → Gives (m >>= f) Q
+  gives-field m f h k =
+      record {
+        sure = λ s v t e. let x = and-then (m s) f e in k (x .0 .0) (h .sure s (x .0 .0) (x .0 .1) (x .1)) .sure (x .0 .1) v t (x .2);
+      }
+
+module _ {A : Type 0} where
+  -- of a field that does not matter
+  pub gives-any : (m : Layout A) → Gives m (λ a. Unit {0})
+  gives-any m = record { sure = λ s v t e. tt }
+
+  pub gives-value : (a : A) {P : A → Type 0} → P a → Gives (give a) P
+  gives-value a {P} p = record { sure = λ s v t e. subst P (ap (λ (x : A × List ℕ). x .0) (Option·some-injective (a, s) (v, t) e)) p }
+
+  pub gives-if : (p : A → Bool) (a : A) → Gives (giveIf (p a) a) (λ x. p x ≡ true)
+  gives-if p a = go (p a) refl
+    where
+      go : (b : Bool) → p a ≡ b → Gives (giveIf b a) (λ x. p x ≡ true)
+      go true h = gives-value a h
+      go false h = record { sure = λ s v t e. absurd (Option·none-ne-some (v, t) e) }
+
+  -- a field with a test passes it
+  pub gives-such : (m : Layout A) (p : A → Bool) → Gives (m such p) (λ x. p x ≡ true)
+  gives-such m p = gives-field m (λ a. giveIf (p a) a) (gives-any m) (λ a t. gives-if p a)
+
+pub gives-times : {A : Type 0} (n : ℕ) (m : Layout A) → Gives (times n m) (λ xs. length xs ≡ n)
+gives-times zero m = gives-value [] refl
+gives-times (suc n) m =
+    gives-field m (λ a. times n m >>= λ rest. give (a ∷ rest)) (gives-any m) λ a t.
+    gives-field (times n m) (λ rest. give (a ∷ rest)) (gives-times n m) λ rest e.
+    gives-value (a ∷ rest) (ap suc e)
+
+-- ---- a question
+
+pub record Sound (q : Question) : Type 0 where
+  pub date : isDay (q .date) ≡ true
+  pub quantity₁ : 1 ≤ q .quantity
+  pub quantity₂ : q .quantity ≤ 100000
+  pub granted : length (q .granted) ≤ 32
+  pub properties : length (q .properties) ≤ 32
+
+gives-question : (lent : ℕ) → Gives (questionLayout lent) Sound
+gives-question lent =
+    gives-field (head lent) _ (gives-any (head lent)) λ version _.
+    gives-field (name 1 40) _ (gives-any (name 1 40)) λ article _.
+    gives-field (oneOf (sale ∷ purchase ∷ [])) _ (gives-any (oneOf (sale ∷ purchase ∷ []))) λ sort _.
+    gives-field (bytes 3 such λ c. capitals c || same c noCurrency) _ (gives-any (bytes 3 such λ c. capitals c || same c noCurrency)) λ currency _.
+    gives-field (number 4 such isDay) _ (gives-such (number 4) isDay) λ date d.
+    gives-field (number 4 such between 1 100_000) _ (gives-such (number 4) (between 1 100_000)) λ quantity h.
+    gives-field (byte such between 0 32) _ (gives-such byte (between 0 32)) λ conditions c.
+    gives-field (times conditions (name 1 20)) _ (gives-times conditions (name 1 20)) λ granted g.
+    gives-field (byte such between 0 32) _ (gives-such byte (between 0 32)) λ count n.
+    gives-field (times count property) _ (gives-times count property) λ properties p.
+    gives-value _
+    (record {
+      date = d;
+      quantity₁ = between-low 1 100_000 quantity h;
+      quantity₂ = between-high 1 100_000 quantity h;
+      granted = subst (λ (k : ℕ). k ≤ 32) (sym g) (between-high 0 32 conditions c);
+      properties = subst (λ (k : ℕ). k ≤ 32) (sym p) (between-high 0 32 count n);
+    })
+
+whole-some : {A : Type 0} (o : Option (A × List ℕ)) {a : A} → wholly o ≡ some a → (t : List ℕ) × (o ≡ some (a, t))
+whole-some none {a} e = absurd (Option·none-ne-some a e)
+whole-some (some (x, [])) {a} e = ([], ap (λ (y : _). some (y, [])) (Option·some-injective x a e))
+whole-some (some (x, b ∷ s)) {a} e = absurd (Option·none-ne-some a e)
+
+-- An accepted question asks for a day, for 1 to 100,000 pieces, and has at most 32 granted names and 32 properties.
+pub question-sound : (s : List ℕ) (q : Question) → questionOf s ≡ some q → Sound q
+unfolding questionOf
+question-sound s q e = let x = whole-some (questionLayout (length s) s) e in gives-question (length s) .sure s q (x .0) (x .1)
