@@ -1,7 +1,7 @@
 -- `floor z d` is the one whole number q with q·d ≤ z < q·d + d, and how code comes to it.
 use Prim.Native.Nat.{ℕ, zero, suc, _+_, _*_, _/_, _<_, _≤_}
 use mathlib.Core.Path.{_≡_, refl, sym, ap, _∙_, subst}
-use native.Mathlib.Nat.{div-mul-le-self, lt-div-mul-add, mul-comm, suc-mul, mul-le-mul-right, add-comm, add-zero, mul-one, one-mul, mul-zero, zero-mul, zero-add, add-mul, le-of-suc-le-suc, lt-of-mul-lt-mul-right}
+use native.Mathlib.Nat.{div-le-self, div-mul-le-self, lt-div-mul-add, mul-comm, suc-mul, mul-le-mul-right, add-comm, add-zero, mul-one, one-mul, mul-zero, zero-mul, zero-add, add-mul, le-of-suc-le-suc, lt-of-mul-lt-mul-right}
 use native.Mathlib.Omega.{arith}
 use lib.IntN.{ℤ, pos, negsuc, natAbs, _+ℤ_, _-ℤ_, _*ℤ_}
 use lib.Signed.{_≤ℤ_, _<ℤ_}
@@ -30,6 +30,12 @@ floor-greatest z k d p h = cancel-mul k (floor z d) d (lt-of (omega (arith, le-i
 pub floor-unique : (z q : ℤ) (d : ℕ) → 0 < d → (q *ℤ pos d) ≤ℤ z → z <ℤ (q *ℤ pos d +ℤ pos d) → q ≡ floor z d
 floor-unique z q d p h k =
     eq-parts q (floor z d) (omega (arith, le-in (floor-greatest z q d p h), le-in (cancel-mul (floor z d) q d (lt-of (omega (arith, le-in (floor-le z d p), lt-in k))))))
+
+-- it is no further from zero
+pub floor-abs : (z : ℤ) (d : ℕ) → natAbs (floor z d) ≤ natAbs z
+unfolding floor
+floor-abs (pos a) d = div-le-self a d
+floor-abs (negsuc a) d = omega (arith, div-le-self a d)
 
 -- how code comes to it: at a number that is not negative, and, by -1 - n, at one that is
 pub floor-pos : (n : ℤ) (d : ℕ) → pos 0 ≤ℤ n → pos (natAbs n / d) ≡ floor n d

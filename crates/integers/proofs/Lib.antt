@@ -1,3 +1,3 @@
 pub mod Signed
 pub mod FloorLaws
-pub mod Twos
+pub mod Multiples

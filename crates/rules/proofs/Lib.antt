@@ -10,5 +10,7 @@ pub mod ChoiceLaws
 pub mod LinesLaws
 pub mod NoPriceLaws
 pub mod UnusedLaws
+pub mod RoundingLaws
 pub mod CalendarLaws
+pub mod CallLaws
 pub mod Promises

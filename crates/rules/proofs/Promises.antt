@@ -1,38 +1,65 @@
 -- What the rules promise, each under a name and in plain words. The proofs stand in the files of laws beside this one.
-use Prim.Native.Nat.{ℕ, _≤_, _<_}
-use mathlib.Core.Path.{_≡_, refl}
+use Prim.Native.Nat.{ℕ, _≤_, _<_, _^_}
+use mathlib.Core.Path.{_≡_, refl, sym, _∙_, ap, subst}
 use mathlib.Core.Bool.{Bool, true, false, not}
-use mathlib.Core.List.{List, [], _∷_, map}
-use mathlib.Core.Option.{Option, some, none}
+use mathlib.Core.List.{List, [], _∷_}
+use mathlib.Core.Option.{Option, some, none, Option·some-injective}
+use lib.Count.{ones}
 use lib.Dec.{eqb}
 use lib.IntN.{ℤ, pos, _*ℤ_}
-use lib.ListN.{length}
+use lib.ListN.{length, replicate}
 use Rattle.rules.specs.Lists.{any}
-use Rattle.rules.specs.Book.{Record, Row, base}
-use Rattle.rules.specs.Days.{isDay}
-use Rattle.rules.specs.Question.{Question, grants}
+use Rattle.rules.specs.Days.{isDay, next, lastDay}
+use Rattle.rules.specs.Book.{Record, Article, Row, base, articleOf}
+use Rattle.rules.specs.BookLayout.{records}
+use Rattle.rules.specs.Question.{Question, grants, questionOf, noCurrency}
 use Rattle.rules.specs.Choice.{step₅, choose}
+use Rattle.rules.specs.Amounts.{multipleBy}
 use Rattle.rules.specs.Lines.{Line, sum, amounts, total, slotsAt}
-use Rattle.rules.specs.Refusals.{numberOf}
-use Rattle.rules.specs.Price.{Priced, priced, answerOf}
-use Rattle.rules.specs.Calendar.{Outcome, Stretch, stretches, outcome, periodTo, mostDays}
+use Rattle.rules.specs.Refusals.{Result, done, refused, numberOf, lentAfter}
+use Rattle.rules.specs.Price as Price
+use Rattle.rules.specs.Price.{Answer, answerOf, price, unusedOf, setOf}
+use Rattle.rules.specs.Calendar as Calendars
+use Rattle.rules.specs.Calendar.{Outcome, Stretch, stretches, outcome, periodTo, mostDays, calendarIn}
+use Rattle.rules.specs.FinalNumber as FinalNumber
+use Rattle.rules.specs.Packaging as Packaging
+use Rattle.rules.specs.Text as Text
+use Rattle.rules.specs.declared.Way.{Way}
+use Rattle.rules.specs.declared.Fraction.{Fraction}
+use Rattle.rules.specs.declared.Stretch as Declared
+use Rattle.rules.proofs.DayLaws as Days
+use Rattle.rules.proofs.GivesLaws.{question-sound}
 use Rattle.rules.proofs.BestLaws as Best
 use Rattle.rules.proofs.ChoiceLaws as Choice
 use Rattle.rules.proofs.NoPriceLaws as NoPrice
+use Rattle.rules.proofs.UnusedLaws as Unused
+use Rattle.rules.proofs.RoundingLaws as Rounding
 use Rattle.rules.proofs.CalendarLaws as Calendar
+use Rattle.rules.proofs.CallLaws as Calls
 
 -- ---- the price
 
 -- The amounts that a salesperson reads out, line by line, sum to the unit total; and the total is the quantity times that.
-pub amounts-sum : (q : Question) (p : Priced)
-    → (sum (amounts (answerOf q p .lines)) ≡ answerOf q p .unit) × (answerOf q p .total ≡ pos (q .quantity) *ℤ answerOf q p .unit)
+pub amounts-sum : (b s : List ℕ) (room : ℕ) (a : Answer) (q : Question) → price b s room ≡ done a → questionOf s ≡ some q
+    → (sum (amounts (a .lines)) ≡ a .unit) × (a .total ≡ pos (q .quantity) *ℤ a .unit)
 unfolding answerOf total
-amounts-sum q p = (refl, refl)
+amounts-sum b s room a q e f =
+    let x = Calls.price-answered b s room a e in
+    let same : x .question ≡ q = Option·some-injective (x .question) q (sym (x .is-question) ∙ f) in (
+      ap (λ (k : Answer). sum (amounts (k .lines))) (sym (x .is)) ∙ ap (λ (k : Answer). k .unit) (x .is),
+      ap (λ (k : Answer). k .total) (sym (x .is)) ∙ ap (λ (n : Question). pos (n .quantity) *ℤ total (x .at .lines)) same ∙ ap (λ (k : Answer). pos (q .quantity) *ℤ k .unit) (x .is),
+    )
 
 -- "No price" is said exactly when, of the base rows without a condition and of those under each granted name, none survives the steps of choice.
-pub no-price : (book : List Record) (q : Question)
-    → eqb (numberOf (priced book q)) 4 ≡ not (any (λ s. NoPrice.anyLeft (NoPrice.leftAt book q s)) (slotsAt (grants (q .granted)) base))
-no-price book q = rw (NoPrice.refused-4 book q, NoPrice.base-line book q)
+pub no-price : (b s : List ℕ) (room : ℕ) (book : List Record) (q : Question) (a : Article)
+    → records b ≡ some book → questionOf s ≡ some q → articleOf book (q .article) ≡ some a
+    → eqb (numberOf (price b s room)) 4 ≡ not (any (λ s. NoPrice.anyLeft (NoPrice.leftAt book q s)) (slotsAt (grants (q .granted)) base))
+no-price b s room book q a e f g = Calls.call-4 b s room e f g ∙ rw (NoPrice.refused-4 book q, NoPrice.base-line book q)
+
+-- The count of granted names that brought no line is the number of ones in their set, and 32 bits hold that set.
+pub unused-count : (s : List ℕ) (q : Question) (ls : List Line) → questionOf s ≡ some q
+    → (ones (setOf (unusedOf q ls)) ≡ length (unusedOf q ls)) × (setOf (unusedOf q ls) < 2 ^ 32)
+unused-count s q ls e = (Unused.unused-count q ls, Unused.unused-below 32 q ls (question-sound s q e .granted))
 
 -- ---- the choice of a row
 
@@ -40,21 +67,60 @@ no-price book q = rw (NoPrice.refused-4 book q, NoPrice.base-line book q)
 pub best-row : (rows : List Row) (r : Row) → step₅ rows ≡ some r → Best.Best r rows
 best-row = Best.best
 
--- A row of which that is true is the one that step 5 takes.
+-- A row of which that is true is the one that step 5 takes; and it takes one if any row is left.
 pub only-best-row : (rows : List Row) (r : Row) → Best.Best r rows → step₅ rows ≡ some r
 only-best-row rows r b = Best.best-taken b
 
--- One walk over a component's rows gives what the five steps give: it keeps whether the asked currency was seen, the best row in it, and the best row in any.
+pub some-row : (r : Row) (rows : List Row) → (b : Row) × (step₅ (r ∷ rows) ≡ some b)
+some-row r rows = let x = Best.held r rows in (x .0, Best.best-taken (x .2))
+
+-- One walk over a component's rows gives what the five steps give. It keeps whether a row that holds that day is in the asked currency, for
+-- whatever quantity; and, of those that reach the quantity, the best in that currency and the best in any.
 pub one-walk : (date quantity : ℕ) (asked : Option (List ℕ)) (rows : List Row)
     → Choice.taken (Choice.walk date quantity asked Choice.start rows) ≡ choose date quantity asked rows
 one-walk = Choice.one-walk
 
+-- ---- amounts
+
+-- Down gives the greatest multiple of the step that is not above the amount, up the least that is not below it, commercial the nearest, and of two
+-- equally near ones the greater.
+pub rounding-right : (way : Way) (step : ℕ) (x : Fraction) → 0 < x .bottom → 0 < step → Rounding.Rounded way step x (multipleBy way step x)
+rounding-right = Rounding.rounded-means
+
+-- No other number is that.
+pub only-rounding : (way : Way) (step : ℕ) (x : Fraction) → 0 < x .bottom → 0 < step → (m : ℤ) → Rounding.Rounded way step x m → m ≡ multipleBy way step x
+only-rounding = Rounding.rounded-unique
+
+-- ---- days
+
+-- Behind every day but the last comes a day, a greater number, and no day stands between.
+pub next-day : (d : ℕ) → isDay d ≡ true → d < lastDay → Days.NextDay d (next d)
+next-day = Days.next-day
+
+-- Of two days the later one, which is reached by going on day by day, has the greater number; and the greater one is reached.
+pub later-is-greater : (d e : ℕ) → Days.Later d e → d < e
+later-is-greater = Days.later-greater
+
+pub greater-is-later : (d e : ℕ) → isDay d ≡ true → isDay e ≡ true → d < e → Days.Later d e
+greater-is-later = Days.greater-later
+
 -- ---- the calendar
 
--- The stretches of a period start on its first day, each next one on the day after the one before, and the last ends on the last day;
--- they stand in date order; neighbours differ; and every day from a stretch's first to its last has its outcome.
-pub stretches-right : (f : ℕ → Outcome) (from to : ℕ) (days : List ℕ) → isDay from ≡ true → periodTo from to ≡ some days → Calendar.Right f from to (stretches f days)
-stretches-right f from to days d e = Calendar.right f d (Calendar.period-end from to days e) (Calendar.period-days from to days e)
+-- The stretches of an answered calendar start on the question's day, each next one on the day after the one before, and the last ends on the end date;
+-- they stand in date order; neighbours differ; and every day from a stretch's first to its last has its outcome: that of the day priced alone.
+pub calendar-right : {B : Type 0} (form : List Stretch → List B) (b s : List ℕ) (end room : ℕ) (ss : List Stretch) (book : List Record) (q : Question)
+    → records b ≡ some book → questionOf s ≡ some q → calendarIn form b s end room ≡ done ss → Calendar.Right (outcome book q) (q .date) end ss
+calendar-right form b s end room ss book q e f g =
+    let x = Calls.calendar-answered form b s end room ss g in
+    let day = question-sound s (x .question) (x .is-question) .date in
+    let r : Calendar.Right (outcome (x .book) (x .question)) (x .question .date) end (stretches (outcome (x .book) (x .question)) (x .days)) =
+    Calendar.right (outcome (x .book) (x .question)) day (Calendar.period-end (x .question .date) end (x .days) (x .is-period))
+    (Calendar.period-days (x .question .date) end (x .days) (x .is-period)) in
+    let same-book : x .book ≡ book = Option·some-injective (x .book) book (sym (x .is-book) ∙ e) in
+    let same-question : x .question ≡ q = Option·some-injective (x .question) q (sym (x .is-question) ∙ f) in
+    subst (λ (k : List Record). Calendar.Right (outcome k q) (q .date) end ss) same-book
+    (subst (λ (n : Question). Calendar.Right (outcome (x .book) n) (n .date) end ss) same-question
+    (subst (λ (l : List Stretch). Calendar.Right (outcome (x .book) (x .question)) (x .question .date) end l) (x .is) r))
 
 -- Of no other list is all this true: so the stretches are the longest, and each is listed once.
 pub only-stretches : (f : ℕ → Outcome) (from to : ℕ) (days : List ℕ) → isDay from ≡ true → periodTo from to ≡ some days
@@ -64,3 +130,34 @@ only-stretches f from to days d e = Calendar.only-right f d (Calendar.period-end
 -- There are at most as many stretches as days, and never more than 1,096.
 pub stretch-count : (f : ℕ → Outcome) (from to : ℕ) (days : List ℕ) → periodTo from to ≡ some days → (length (stretches f days) ≤ length days) × (length days ≤ mostDays)
 stretch-count f from to days e = (Calendar.stretch-count f days, Calendar.period-count from to days e)
+
+-- ---- refusals
+
+-- Beside a refusal's number stand zeros, and no lent byte changes: for the price,
+pub refused-price : (n : ℕ) (lent : List ℕ)
+    → (Price.shown (refused n) ≡ record { unit = pos 0; total = pos 0; lines = 0; unused = 0; «unused_count» = 0; number = n; currency = noCurrency }) × (Price.lentAfterPrice (refused n) lent ≡ lent)
+unfolding Price.shown lentAfter
+refused-price n lent = (refl, refl)
+
+-- for the calendar in both its forms,
+pub refused-calendar : (n : ℕ) (lent : List ℕ) (list : List Declared.Stretch)
+    → (Calendars.shownBytes (refused n) ≡ record { length = 0; number = n }) × (Calendars.lentAfterCalendar (refused n) lent ≡ lent)
+    × (Calendars.shownRecords (refused n) ≡ record { length = 0; number = n }) × (Calendars.lentAfterList (refused n) list ≡ list)
+unfolding Calendars.shownBytes Calendars.shownRecords Calendars.lentAfterList lentAfter
+refused-calendar n lent list = (refl, refl, refl, refl)
+
+-- for the final article number,
+pub refused-number : (n : ℕ) (lent : List ℕ) → (FinalNumber.shown (refused n) ≡ record { length = 0; number = n }) × (FinalNumber.lentAfterNumber (refused n) lent ≡ lent)
+unfolding FinalNumber.shown lentAfter
+refused-number n lent = (refl, refl)
+
+-- for the packaging data,
+pub refused-packaging : (n : ℕ)
+    → Packaging.shown (refused n) ≡ record { gross = pos 0; values = replicate 8 (pos 0); number = n; present = 0; units = replicate 9 0 }
+unfolding Packaging.shown
+refused-packaging n = refl
+
+-- and for a line's text, whose part is then empty.
+pub refused-text : (n : ℕ) → (Text.shown (refused n) ≡ record { place = 0; length = 0; number = n; book = 0 }) × (Text.part (refused n) ≡ [])
+unfolding Text.shown Text.part
+refused-text n = (refl, refl)

@@ -9,10 +9,12 @@ use lib.Signed.{_≤ℤ_, _<ℤ_}
 use mir.Syntax.{w64}
 use mir.Val.{SFits, toZ}
 use mir.ValLaws.{toZ-ofZ, toZ-pos}
-use Rattle.integers.proofs.Signed.{fits64, flip-fits, up64, leZ-true, leZ-false, non-neg}
-use Rattle.integers.proofs.FloorLaws.{floor-pos, floor-neg, flip-pos}
+use Rattle.integers.proofs.Signed.{fits64, flip-fits, taken64, up64, leZ-true, leZ-false, non-neg}
+use Rattle.integers.proofs.FloorLaws.{floor-pos, floor-neg}
 use Rattle.integers.proofs.floor_div.Statement.{statement}
 use Rattle.integers.proofs.floor_div.Tie as tie
+
+ruleset laws = (needs, taken64)
 
 -- ---- from 0 up
 module _ (c : tie.Then1) where
@@ -40,7 +42,7 @@ module _ (c : tie.Else1) where
   q-small = omega (arith, div-le-self (natAbs m) (c .before .args .d), up64 m (m-is .0) (m-is .1))
 
   r-fits : SFits w64 (negsuc 0 -ℤ pos q)
-  r-fits = rw flip-pos (record { sfits = q-small })
+  r-fits = taken64 (negsuc 0) q tt q-small
 
 cast-result : tie.Need-cast-result
 cast-result c =
@@ -61,7 +63,9 @@ cast-result-4 : tie.Need-cast-result-4
 cast-result-4 c = simp (toZ-ofZ, c .before .fits .n, m-is c .1) (fits64 (pos (q c)) (q-small c))
 
 sub-result-2 : tie.Need-sub-result-2
-sub-result-2 c = simp (toZ-ofZ, c .before .fits .n, m-is c .1, toZ-pos w64 (q c) (q-small c)) (r-fits c)
+sub-result-2 c =
+    let small = q-small c in
+    simp (toZ-ofZ, c .before .fits .n, m-is c .1, toZ-pos w64 (q c) small) (search laws)
 
 returns : tie.Need-returns
 returns c =

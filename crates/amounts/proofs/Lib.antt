@@ -1,0 +1,5 @@
+pub mod Range
+pub mod ExactLaws
+pub mod Steps
+pub mod RoundedLaws
+pub mod TotalLaws

@@ -1,0 +1,86 @@
+-- Whole numbers of steps, as code comes to them: up by what is added before going down, and the nearest by what is left over.
+use Prim.Native.Nat.{ℕ, _+_, _*_, _<_, _≤_}
+use mathlib.Core.Path.{_≡_, sym}
+use native.Mathlib.Nat.{mul-zero}
+use native.Mathlib.Omega.{arith}
+use lib.IntN.{ℤ, pos, negℤ, natAbs, _+ℤ_, _-ℤ_, _*ℤ_, +ℤ-one, sucℤ-*ℤ}
+use lib.Dec.{T, leb, leb→le}
+use lib.Signed.{_≤ℤ_, _<ℤ_}
+use mir.Syntax.{w64}
+use mir.Val.{SFits}
+use Rattle.integers.specs.Floor.{floor}
+use Rattle.integers.proofs.Signed.{parts, up-mul, dn-mul, up, dn, le-in, lt-in, le-of, lt-of, fits64, abs-add, abs-neg, abs-parts, abs-le, sum-parts, sub-parts, mul-pos-pos}
+use Rattle.integers.proofs.FloorLaws.{floor-le, floor-lt, floor-unique}
+use Rattle.rules.specs.Amounts.{ceiling, nearest}
+use Rattle.rules.proofs.RoundingLaws.{ceiling-ge, ceiling-lt}
+
+-- ---- up: all but one part of a step more, and then down
+
+pub raised-fits : (z a : ℤ) (n : ℕ) → T (leb (natAbs a) 1) → natAbs z ≤ 1_000_010_000_000_000_000 → n ≤ 10_000_000_000_000
+    → SFits w64 (z +ℤ pos n -ℤ a)
+raised-fits z a n t h k =
+    fits64 (z +ℤ pos n -ℤ a) (omega (arith, leb→le (natAbs a) 1 t, abs-add (z +ℤ pos n) (negℤ a), abs-neg a, abs-add z (pos n)))
+
+pub up-is : (z : ℤ) (n : ℕ) → 0 < n → floor (z +ℤ pos n -ℤ pos 1) n ≡ ceiling z n
+up-is z n p =
+    let c = ceiling z n in
+    let M = c *ℤ pos n in
+    let raised = z +ℤ pos n -ℤ pos 1 in
+    sym (floor-unique raised c n p
+    (le-of (omega (arith, lt-in (ceiling-lt z n p), sub-parts (z +ℤ pos n) (pos 1))))
+    (lt-of (omega (arith, le-in (ceiling-ge z n p), sum-parts M (pos n), sum-parts z (pos n), sub-parts (z +ℤ pos n) (pos 1)))))
+
+-- ---- the nearest: of z parts, M are in full steps, and the rest is begun
+
+module _ (M z : ℤ) (n : ℕ) (low : M ≤ℤ z) (high : z <ℤ (M +ℤ pos n)) where
+  begun-in : natAbs (z -ℤ M) ≤ n
+  begun-in =
+      abs-le (z -ℤ M) (omega (arith, lt-in high, sum-parts M (pos n), sub-parts z M)) (omega (arith, le-in low, sub-parts z M))
+
+  full-low : (M *ℤ pos 2) ≤ℤ (z *ℤ pos 2 +ℤ pos n)
+  full-low = le-of (simp (parts, mul-zero) (omega (arith, le-in low)))
+
+  next-high : (z *ℤ pos 2 +ℤ pos n) <ℤ (M *ℤ pos 2 +ℤ pos (n * 2) +ℤ pos (n * 2))
+  next-high = lt-of (simp (parts, mul-zero) (omega (arith, lt-in high, sum-parts M (pos n))))
+
+  full-high : ((z -ℤ M) *ℤ pos 2) <ℤ pos n → (z *ℤ pos 2 +ℤ pos n) <ℤ (M *ℤ pos 2 +ℤ pos (n * 2))
+  full-high h =
+      let w : up (z -ℤ M) * 2 < n + dn (z -ℤ M) * 2 = omega (arith, simp (up-mul, dn-mul, mul-zero) at (lt-in h)) in
+      lt-of (simp (parts, mul-zero) (omega (arith, sub-parts z M)))
+
+  next-low : pos n ≤ℤ ((z -ℤ M) *ℤ pos 2) → (M *ℤ pos 2 +ℤ pos (n * 2)) ≤ℤ (z *ℤ pos 2 +ℤ pos n)
+  next-low h =
+      let w : n + dn (z -ℤ M) * 2 ≤ up (z -ℤ M) * 2 = omega (arith, simp (up-mul, dn-mul, mul-zero) at (le-in h)) in
+      le-of (simp (parts, mul-zero) (omega (arith, sub-parts z M)))
+
+module _ (z full : ℤ) (n : ℕ) (some : 0 < n) (is : full ≡ floor z n) where
+  low : (full *ℤ pos n) ≤ℤ z
+  low = rw is (floor-le z n some)
+
+  high : z <ℤ (full *ℤ pos n +ℤ pos n)
+  high = rw is (floor-lt z n some)
+
+  pub full-in : natAbs (full *ℤ pos n) ≤ natAbs z + n
+  full-in =
+      let M = full *ℤ pos n in
+      abs-le M (omega (arith, le-in low, abs-parts z)) (omega (arith, lt-in high, sum-parts M (pos n), abs-parts z))
+
+  pub left-in : natAbs (z -ℤ full *ℤ pos n) ≤ n
+  left-in = begun-in (full *ℤ pos n) z n low high
+
+  pub nearest-full : ((z -ℤ full *ℤ pos n) *ℤ pos 2) <ℤ pos n → full ≡ nearest z n
+  unfolding nearest
+  nearest-full h =
+      floor-unique (z *ℤ pos 2 +ℤ pos n) full (n * 2) (omega arith)
+      (rw mul-pos-pos (full-low (full *ℤ pos n) z n low high))
+      (rw mul-pos-pos (full-high (full *ℤ pos n) z n low high h))
+
+  next-is : (full +ℤ pos 1) *ℤ pos (n * 2) ≡ full *ℤ pos n *ℤ pos 2 +ℤ pos (n * 2)
+  next-is = rw (+ℤ-one, sucℤ-*ℤ, mul-pos-pos)
+
+  pub nearest-next : pos n ≤ℤ ((z -ℤ full *ℤ pos n) *ℤ pos 2) → full +ℤ pos 1 ≡ nearest z n
+  unfolding nearest
+  nearest-next h =
+      floor-unique (z *ℤ pos 2 +ℤ pos n) (full +ℤ pos 1) (n * 2) (omega arith)
+      (rw next-is (next-low (full *ℤ pos n) z n low high h))
+      (rw next-is (next-high (full *ℤ pos n) z n low high))

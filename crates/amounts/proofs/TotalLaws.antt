@@ -1,0 +1,213 @@
+-- The running total: one line more, and all lines of a list.
+use Prim.Native.Nat.{ℕ, suc, _+_, _≤_, _<_}
+use mathlib.Core.Path.{_≡_, refl, sym, ap, _∙_}
+use mathlib.Core.Bool.{Bool, true, false, _&&_, cond, true≢false}
+use mathlib.Core.List.{List, [], _∷_, _++_}
+use native.Mathlib.Numerals.{add-one}
+use native.Mathlib.Omega.{arith}
+use lib.IntN.{ℤ, pos, negsuc, natAbs, _+ℤ_, +ℤ-idl, +ℤ-idr, +ℤ-assoc}
+use lib.ListN.{take, drop, length, getD, drop-of-length-le}
+use lib.Seq.{drop-cons, getD-take, length-take-le}
+use borrow.Author.Tests.{lt-leb}
+use lib.Signed.{leZ}
+use Rattle.integers.proofs.Signed.{abs-le, abs-parts, le-in, lt-in, leZ-true, leZ-false}
+use Rattle.rules.specs.Lists.{all}
+use Rattle.rules.specs.Bytes.{eitherSide}
+use Rattle.rules.specs.Lines.{sum, running, mostTotal, totalOf}
+use Rattle.rules.specs.declared.Cents.{Cents}
+use Rattle.rules.specs.declared.Total.{Total}
+use Rattle.rules.specs.declared.Total.the-variants.{InRange, OutOfRange}
+use Rattle.amounts.specs.Contracts.{totalAfter, addTo}
+use Rattle.amounts.proofs.Range.{either-is, either-in, in-either}
+
+never : {c : Cents} → InRange c ≡ OutOfRange → ⊥
+never e = let w : _≡_ {A = ℕ} 0 1 = cc in omega arith
+
+-- ---- the test, from below and from above
+
+module _ (m : ℕ) (z : ℤ) where
+  within-by : (a b : Bool) → leZ (negsuc m) z ≡ a → leZ z (pos (suc m)) ≡ b → (a && b) ≡ true → eitherSide (suc m) z ≡ true
+  within-by true true e f h =
+      in-either (suc m) z (abs-le z (omega (arith, le-in (leZ-true z (pos (suc m)) f))) (omega (arith, le-in (leZ-true (negsuc m) z e))))
+  within-by true false e f h = absurd (true≢false (sym h))
+  within-by false b e f h = absurd (true≢false (sym h))
+
+  beyond-by : (a b : Bool) → leZ (negsuc m) z ≡ a → leZ z (pos (suc m)) ≡ b → (a && b) ≡ false → eitherSide (suc m) z ≡ false
+  beyond-by true true e f h = absurd (true≢false h)
+  beyond-by true false e f h =
+      either-is (suc m) z ∙ lt-leb (natAbs z) (suc m) (omega (arith, lt-in (leZ-false z (pos (suc m)) f), abs-parts z))
+  beyond-by false b e f h =
+      either-is (suc m) z ∙ lt-leb (natAbs z) (suc m) (omega (arith, lt-in (leZ-false (negsuc m) z e), abs-parts z))
+
+-- ---- one line more
+
+-- the code's test: at least the least total, and at most the greatest
+abbrev tested : ℤ → Bool
+tested z = leZ (negsuc 999_999_999) z && leZ z (pos 1_000_000_000)
+
+module _ (total amount : ℤ) where
+  pub after-in : tested (total +ℤ amount) ≡ true → InRange (record { 0 = total +ℤ amount }) ≡ totalAfter total amount
+  unfolding totalAfter
+  after-in h = rw (within-by 999_999_999 (total +ℤ amount) _ _ refl refl h)
+
+  pub after-out : tested (total +ℤ amount) ≡ false → OutOfRange ≡ totalAfter total amount
+  unfolding totalAfter
+  after-out h = rw (beyond-by 999_999_999 (total +ℤ amount) _ _ refl refl h)
+
+-- where it is in range, it is the sum, and at most a thousand million cents either side of zero
+by-range : (t : Bool) (z : ℤ) (c : Cents) → eitherSide 1_000_000_000 z ≡ t → cond t (InRange (record { 0 = z })) OutOfRange ≡ InRange c
+    → (z ≡ c .0) × (natAbs (c .0) ≤ 1_000_000_000)
+by-range true z c e h =
+    let s : z ≡ c .0 = cc in
+    (s, rw (← s) (either-in 1_000_000_000 z e))
+by-range false z c e h = absurd (never (sym h))
+
+module _ (total amount : ℤ) (c : Cents) (is : totalAfter total amount ≡ InRange c) where
+  pub after-sum : total +ℤ amount ≡ c .0
+  unfolding totalAfter
+  after-sum = by-range _ (total +ℤ amount) c refl is .0
+
+  pub after-in-range : natAbs (c .0) ≤ 1_000_000_000
+  unfolding totalAfter
+  after-in-range = by-range _ (total +ℤ amount) c refl is .1
+
+-- ---- the lines of a list, from a total on
+
+-- after each of them the total is in range
+abbrev pub staysInRange : ℤ → List ℤ → Bool
+staysInRange from zs = all (eitherSide mostTotal) (running from zs)
+
+unfoldable pub totalFrom : ℤ → List ℤ → Total
+totalFrom from zs = cond (staysInRange from zs) (InRange (record { 0 = from +ℤ sum zs })) OutOfRange
+
+pub from-zero : (zs : List ℤ) → totalFrom (pos 0) zs ≡ totalOf zs
+unfolding totalFrom totalOf
+from-zero zs = rw +ℤ-idl
+
+pub from-end : (from : ℤ) → totalFrom from [] ≡ InRange (record { 0 = from })
+unfolding totalFrom
+from-end from = rw +ℤ-idr
+
+cond-and : (a b : Bool) (x y : Total) → cond (a && b) x y ≡ cond a (cond b x y) y
+cond-and true b x y = refl
+cond-and false b x y = refl
+
+-- the first of them, by its way out of `totalAfter`
+from-cons : (from z : ℤ) (zs : List ℤ)
+    → totalFrom from (z ∷ zs) ≡ cond (eitherSide 1_000_000_000 (from +ℤ z)) (totalFrom (from +ℤ z) zs) OutOfRange
+unfolding totalFrom
+from-cons from z zs = rw (cond-and, +ℤ-assoc)
+
+pub from-in : (from z : ℤ) (zs : List ℤ) (c : Cents) → totalAfter from z ≡ InRange c → totalFrom from (z ∷ zs) ≡ totalFrom (c .0) zs
+from-in from z zs c e =
+    from-cons from z zs
+    ∙ rw (after-sum from z c e, in-either 1_000_000_000 (c .0) (after-in-range from z c e))
+
+by-out : (t : Bool) (x : Total) (c : Cents) → cond t (InRange c) OutOfRange ≡ OutOfRange → cond t x OutOfRange ≡ OutOfRange
+by-out false x c h = refl
+by-out true x c h = absurd (never h)
+
+pub from-out : (from z : ℤ) (zs : List ℤ) → totalAfter from z ≡ OutOfRange → totalFrom from (z ∷ zs) ≡ OutOfRange
+unfolding totalAfter
+from-out from z zs e =
+    from-cons from z zs ∙ by-out (eitherSide 1_000_000_000 (from +ℤ z)) (totalFrom (from +ℤ z) zs) (record { 0 = from +ℤ z }) e
+
+-- ---- what a total in range says of its lines
+
+-- by the way out of the first line
+in-range-by : (from z : ℤ) (zs : List ℤ) (c : Cents) (t : Total) → totalAfter from z ≡ t → totalFrom from (z ∷ zs) ≡ InRange c
+    → ((d : ℤ) → natAbs d ≤ 1_000_000_000 → totalFrom d zs ≡ InRange c → natAbs (c .0) ≤ 1_000_000_000) → natAbs (c .0) ≤ 1_000_000_000
+in-range-by from z zs c (InRange d) i e rest = rest (d .0) (after-in-range from z d i) (sym (from-in from z zs d i) ∙ e)
+in-range-by from z zs c OutOfRange i e rest = absurd (never (sym e ∙ from-out from z zs i))
+
+from-in-range : (from : ℤ) (zs : List ℤ) (c : Cents) → natAbs from ≤ 1_000_000_000 → totalFrom from zs ≡ InRange c
+    → natAbs (c .0) ≤ 1_000_000_000
+from-in-range from [] c h e =
+    let s : from ≡ c .0 = cc (from-end from) in
+    rw (← s) h
+from-in-range from (z ∷ zs) c h e =
+    in-range-by from z zs c (totalAfter from z) refl e (λ d k f. from-in-range d zs c k f)
+
+-- A total in range is at most a thousand million cents either side of zero.
+pub total-in-range : (zs : List ℤ) (c : Cents) → totalOf zs ≡ InRange c → natAbs (c .0) ≤ 1_000_000_000
+total-in-range zs c e = from-in-range (pos 0) zs c (omega arith) (from-zero zs ∙ e)
+
+by-total : (t : Bool) (d c : Cents) → cond t (InRange d) OutOfRange ≡ InRange c → (t ≡ true) × (d .0 ≡ c .0)
+by-total true d c e = (refl, cc)
+by-total false d c e = absurd (never (sym e))
+
+-- It is the sum of the lines, and none of them left the range.
+module _ (zs : List ℤ) (c : Cents) (is : totalOf zs ≡ InRange c) where
+  pub total-is-sum : sum zs ≡ c .0
+  unfolding totalOf
+  total-is-sum = by-total (staysInRange (pos 0) zs) (record { 0 = sum zs }) c is .1
+
+  pub total-stays : staysInRange (pos 0) zs ≡ true
+  unfolding totalOf
+  total-stays = by-total (staysInRange (pos 0) zs) (record { 0 = sum zs }) c is .0
+
+by-none : (t : Bool) (d : Cents) → cond t (InRange d) OutOfRange ≡ OutOfRange → t ≡ false
+by-none true d e = absurd (never e)
+by-none false d e = refl
+
+-- Where it is out of range, one of them left it.
+pub total-leaves : (zs : List ℤ) → totalOf zs ≡ OutOfRange → staysInRange (pos 0) zs ≡ false
+unfolding totalOf
+total-leaves zs e = by-none (staysInRange (pos 0) zs) (record { 0 = sum zs }) e
+
+-- ---- one more line behind those that are added up
+
+from-one : (from z : ℤ) → totalFrom from (z ∷ []) ≡ totalAfter from z
+unfolding totalAfter
+from-one from z = from-cons from z [] ∙ rw (from-end (from +ℤ z))
+
+one-more-by : (from y z : ℤ) (zs : List ℤ) (t : Total) → totalAfter from y ≡ t
+    → ((d : ℤ) → totalFrom d (zs ++ (z ∷ [])) ≡ addTo (totalFrom d zs) z)
+    → totalFrom from (y ∷ (zs ++ (z ∷ []))) ≡ addTo (totalFrom from (y ∷ zs)) z
+unfolding addTo
+one-more-by from y z zs (InRange d) i rest = from-in from y (zs ++ (z ∷ [])) d i ∙ rw (from-in from y zs d i) (rest (d .0))
+one-more-by from y z zs OutOfRange i rest = from-out from y (zs ++ (z ∷ [])) i ∙ rw (from-out from y zs i)
+
+from-one-more : (from z : ℤ) (zs : List ℤ) → totalFrom from (zs ++ (z ∷ [])) ≡ addTo (totalFrom from zs) z
+unfolding addTo
+from-one-more from z [] = from-one from z ∙ rw (from-end from)
+from-one-more from z (y ∷ zs) = one-more-by from y z zs (totalAfter from y) refl (λ d. from-one-more d z zs)
+
+pub total-one-more : (zs : List ℤ) (z : ℤ) → totalOf (zs ++ (z ∷ [])) ≡ addTo (totalOf zs) z
+total-one-more zs z = sym (from-zero (zs ++ (z ∷ []))) ∙ from-one-more (pos 0) z zs ∙ ap (λ (t : Total). addTo t z) (from-zero zs)
+
+-- ---- the loop over an array
+
+-- before line i: what is left, added to the total so far, gives the whole
+pub record Adding (xs : List ℤ) (n : ℕ) (so-far : ℤ) (i : ℕ) : Type 0 where
+  pub place : i ≤ n
+  pub so-far-in : natAbs so-far ≤ 1_000_000_000
+  pub left : totalFrom so-far (drop i (take n xs)) ≡ totalOf (take n xs)
+
+module _ (xs : List ℤ) (n : ℕ) where
+  pub adding-starts : Adding xs n (pos 0) 0
+  adding-starts = record { place = omega arith; so-far-in = omega arith; left = from-zero (take n xs) }
+
+  module _ (so-far : ℤ) (i : ℕ) (here : Adding xs n so-far i) where
+    pub adding-ends : n ≤ i → n ≤ length xs → InRange (record { 0 = so-far }) ≡ totalOf (take n xs)
+    adding-ends h k =
+        let l : length (take n xs) ≤ i = rw (length-take-le n xs k) h in
+        sym (from-end so-far) ∙ ap (totalFrom so-far) (sym (drop-of-length-le (take n xs) l)) ∙ here .left
+
+    module _ (h : i < n) (k : n ≤ length xs) where
+      next-is : drop i (take n xs) ≡ getD xs i (pos 0) ∷ drop (i + 1) (take n xs)
+      next-is =
+          let l : i < length (take n xs) = rw (length-take-le n xs k) h in
+          drop-cons (take n xs) i (pos 0) l ∙ rw (getD-take n xs i (pos 0) h, add-one)
+
+      pub adding-stops : totalAfter so-far (getD xs i (pos 0)) ≡ OutOfRange → OutOfRange ≡ totalOf (take n xs)
+      adding-stops e =
+          sym (from-out so-far (getD xs i (pos 0)) (drop (i + 1) (take n xs)) e) ∙ ap (totalFrom so-far) (sym next-is) ∙ here .left
+
+      pub adding-goes-on : (c : Cents) → totalAfter so-far (getD xs i (pos 0)) ≡ InRange c → Adding xs n (c .0) (i + 1)
+      adding-goes-on c e =
+          record {
+            place = omega arith;
+            so-far-in = after-in-range so-far (getD xs i (pos 0)) c e;
+            left = sym (from-in so-far (getD xs i (pos 0)) (drop (i + 1) (take n xs)) c e) ∙ ap (totalFrom so-far) (sym next-is) ∙ here .left;
+          }

@@ -1,0 +1,72 @@
+-- What the functions of amounts ask and give. The bounds leave room for an amount of up to a million million million parts, ten million to a cent.
+use Prim.Native.Nat.{ℕ, _+_, _<_, _≤_}
+use mathlib.Core.Path.{_≡_}
+use mathlib.Core.Bool.{true, cond}
+use mathlib.Core.List.{List}
+use lib.IntN.{ℤ, pos, natAbs, _+ℤ_}
+use lib.ListN.{getD}
+use Rattle.rules.specs.Amounts.{exact, rounded}
+use Rattle.rules.specs.Bytes.{eitherSide}
+use Rattle.rules.specs.BookLayout.{inBounds}
+use Rattle.rules.specs.declared.Cents.{Cents}
+use Rattle.rules.specs.declared.Value.{Value}
+use Rattle.rules.specs.declared.Rounding.{Rounding}
+use Rattle.rules.specs.declared.Fraction.{Fraction}
+use Rattle.rules.specs.declared.Total.{Total}
+use Rattle.rules.specs.declared.Total.the-variants.{InRange, OutOfRange}
+
+-- ---- the exact amount
+
+-- a value as a book may have it, and a total as a percentage may be of
+pub record BookValue (value : Value) (of : ℤ) : Type 0 where
+  pub value-in : inBounds value ≡ true
+  pub of-in : natAbs of ≤ 1_000_000_000
+
+pub record ExactAmount (value : Value) (of : ℤ) (r : Fraction) : Type 0 where
+  pub is : r ≡ exact value of
+  pub top-in : natAbs (r .top) ≤ 100_000_000_000_000
+  pub low : 1 ≤ r .bottom
+  pub high : r .bottom ≤ 10_000
+
+-- ---- rounding
+
+-- z parts, n to a step
+pub record InSteps (z : ℤ) (n : ℕ) : Type 0 where
+  pub some : 0 < n
+  pub few : n ≤ 10_000_000_000_000
+  pub z-in : natAbs z ≤ 1_000_010_000_000_000_000
+
+-- a rounding as a book may have it, and an amount
+pub record Roundable (r : Rounding) (x : Fraction) : Type 0 where
+  pub step-low : 1 ≤ r .step
+  pub step-high : r .step ≤ 1_000_000
+  pub before-in : natAbs (r .before .0) ≤ 1_000_000
+  pub after-in : natAbs (r .after .0) ≤ 1_000_000
+  pub top-in : natAbs (x .top) ≤ 1_000_000_000_000_000_000
+  pub low : 1 ≤ x .bottom
+  pub high : x .bottom ≤ 10_000_000
+
+pub record RoundedCents (r : Rounding) (x : Fraction) (m : Cents) : Type 0 where
+  pub is : m .0 ≡ rounded r x
+  pub near : natAbs (m .0) ≤ natAbs (x .top) + 3_000_000
+
+-- ---- the running total
+
+-- a total so far, and one more line
+pub record Addable (total amount : ℤ) : Type 0 where
+  pub total-in : natAbs total ≤ 1_000_000_000
+  pub amount-in : natAbs amount ≤ 1_000_000_000_003_000_000
+
+-- the first n amounts of a list that has room for 99
+pub record Addends (amounts : List ℤ) (n : ℕ) : Type 0 where
+  pub few : n ≤ 99
+  pub each-in : (i : ℕ) → natAbs (getD amounts i (pos 0)) ≤ 1_000_000_000_003_000_000
+
+-- the total after one more line
+unfoldable pub totalAfter : ℤ → ℤ → Total
+totalAfter total amount = cond (eitherSide 1_000_000_000 (total +ℤ amount)) (InRange (record { 0 = total +ℤ amount })) OutOfRange
+
+-- the same where lines before it may have left the range: none brings it back
+unfoldable pub addTo : Total → ℤ → Total
+addTo (InRange c) amount = totalAfter (c .0) amount
+addTo OutOfRange amount = OutOfRange

@@ -1,0 +1,124 @@
+// Amounts of money: the exact amount of a price row, its rounding to cents, and the running total of the lines.
+use rules::Cents;
+use rules::Fraction;
+use rules::Rounding;
+use rules::Total;
+use rules::Value;
+use rules::Way;
+ghost use mathlib.Core.Path.{_≡_};
+ghost use Prim.Native.Nat.{_<_};
+ghost use lib.ListN.{take};
+ghost use Rattle.integers.specs.Floor.{floor};
+ghost use Rattle.rules.specs.Amounts.{ceiling, nearest, stepsBy};
+ghost use Rattle.rules.specs.Lines.{totalOf};
+ghost use Rattle.amounts.specs.Contracts.{BookValue, ExactAmount, InSteps, Roundable, RoundedCents, Addable, Addends, totalAfter};
+
+// ---- the exact amount
+
+// What a row comes to: its amount, or its share of some cents. Hundredths of a percent of a cent are ten-thousandths of it, so nothing is lost.
+pub fn exact(value: Value, of: Cents) -> Fraction
+    requires { ⌜ BookValue value (of .0) ⌝ }
+    ensures { λ r. ⌜ ExactAmount value (of .0) r ⌝ }
+{
+    match value {
+        Value::Fixed(cents) => Fraction {
+            top: cents.0,
+            bottom: 1,
+        },
+        Value::Percent(share) => Fraction {
+            top: share.0 * of.0,
+            bottom: 10_000,
+        },
+    }
+}
+
+// ---- how many whole steps z parts are, n parts to a step
+// They are counted upwards below zero too: -1 part is the step -1, of which all parts but one are begun.
+
+// Only a full step counts.
+fn down(z: i64, n: u64) -> i64
+    requires { ⌜ 0 < n ⌝ }
+    ensures { λ r. ⌜ r ≡ floor z n ⌝ }
+{
+    integers::floor_div(z, n)
+}
+
+// A step that is begun counts too: with all but one part of a step more, it is full.
+fn up(z: i64, n: u64) -> i64
+    requires { ⌜ InSteps z n ⌝ }
+    ensures { λ r. ⌜ r ≡ ceiling z n ⌝ }
+{
+    down(z + (n as i64) - 1, n)
+}
+
+// A step that is begun counts from its half on.
+fn nearest(z: i64, n: u64) -> i64
+    requires { ⌜ InSteps z n ⌝ }
+    ensures { λ r. ⌜ r ≡ nearest z n ⌝ }
+{
+    let full = down(z, n);
+    let begun = z - full * (n as i64);
+    if begun * 2 < n as i64 { full } else { full + 1 }
+}
+
+fn steps_by(way: Way, z: i64, n: u64) -> i64
+    requires { ⌜ InSteps z n ⌝ }
+    ensures { λ r. ⌜ r ≡ stepsBy way z n ⌝ }
+{
+    match way {
+        Way::Down => down(z, n),
+        Way::Up => up(z, n),
+        Way::Commercial => nearest(z, n),
+    }
+}
+
+// ---- rounding
+
+// The amount with the cents added before, brought to whole steps, and the cents added after.
+pub fn rounded(r: Rounding, x: Fraction) -> Cents
+    requires { ⌜ Roundable r x ⌝ }
+    ensures { λ m. ⌜ RoundedCents r x m ⌝ }
+{
+    let way = r.way;
+    let step = r.step as u64;
+    let before = r.before.0;
+    let after = r.after.0;
+    let bottom = x.bottom;
+    let top = x.top + before * (bottom as i64);
+    let steps = steps_by(way, top, bottom * step);
+    Cents(steps * (step as i64) + after)
+}
+
+// ---- the running total
+
+// The total after one more line.
+pub fn add_line(total: Cents, amount: Cents) -> Total
+    requires { ⌜ Addable (total .0) (amount .0) ⌝ }
+    ensures { λ r. ⌜ r ≡ totalAfter (total .0) (amount .0) ⌝ }
+{
+    let before = total.0;
+    let after = before + amount.0;
+    if (after >= -1_000_000_000) & (after <= 1_000_000_000) {
+        Total::InRange(Cents(after))
+    } else {
+        Total::OutOfRange
+    }
+}
+
+// What the first n amounts come to. The total is tested after each of them, so that a later one does not bring it back, and no sum is too great to hold.
+pub fn add_up(amounts: [i64; 99], n: usize) -> Total
+    requires { ⌜ Addends amounts n ⌝ }
+    ensures { λ r. ⌜ r ≡ totalOf (take n amounts) ⌝ }
+{
+    let mut sum: i64 = 0;
+    let mut i = 0;
+    while i < n {
+        let next = add_line(Cents(sum), Cents(amounts[i]));
+        let Total::InRange(total) = next else {
+            return Total::OutOfRange;
+        };
+        sum = total.0;
+        i += 1;
+    }
+    Total::InRange(Cents(sum))
+}

@@ -1,0 +1,100 @@
+-- The price and the calendar call read backwards: what an answered one rests on.
+use Prim.Native.Nat.{ℕ}
+use mathlib.Core.Path.{_≡_, refl, sym, _∙_, ap, subst}
+use mathlib.Core.Bool.{Bool, true, false}
+use mathlib.Core.List.{List}
+use mathlib.Core.Option.{Option, some, none, Option·some-injective}
+use lib.Dec.{eqb, leb}
+use lib.ListN.{length}
+use Rattle.rules.specs.Book.{Record, Article, articleOf}
+use Rattle.rules.specs.BookLayout.{records}
+use Rattle.rules.specs.Question.{Question, questionOf}
+use Rattle.rules.specs.Refusals.{Result, done, refused, _>>=_, orRefuse, refuseUnless, numberOf}
+use Rattle.rules.specs.Price.{Priced, Answer, priced, answerOf, written, price}
+use Rattle.rules.specs.Calendar.{Stretch, stretches, outcome, periodTo, calendarIn}
+use Rattle.rules.proofs.RefusalLaws.{then-done, or-done, unless-done, done-is}
+
+-- ---- the price call
+
+pub record Answered (b s : List ℕ) (room : ℕ) (a : Answer) : Type 0 where
+  pub book : List Record
+  pub question : Question
+  pub article : Article
+  pub at : Priced
+  pub is-book : records b ≡ some book
+  pub is-question : questionOf s ≡ some question
+  pub has-article : articleOf book (question .article) ≡ some article
+  pub is-priced : priced book question ≡ done at
+  pub is : answerOf question at ≡ a
+  pub fits : leb (length (written a)) room ≡ true
+
+pub price-answered : (b s : List ℕ) (room : ℕ) (a : Answer) → price b s room ≡ done a → Answered b s room a
+unfolding price
+price-answered b s room a e =
+    let x = then-done (orRefuse 1 (records b)) _ e in
+    let y = then-done (orRefuse 2 (questionOf s)) _ (x .2) in
+    let z = then-done (orRefuse 3 (articleOf (x .0) (y .0 .article))) _ (y .2) in
+    let p = then-done (priced (x .0) (y .0)) _ (z .2) in
+    let w = then-done (refuseUnless 7 (leb (length (written (answerOf (y .0) (p .0)))) room)) _ (p .2) in
+    let i : answerOf (y .0) (p .0) ≡ a = done-is (answerOf (y .0) (p .0)) a (w .2) in
+    record {
+      book = x .0;
+      question = y .0;
+      article = z .0;
+      at = p .0;
+      is-book = or-done 1 (records b) (x .1);
+      is-question = or-done 2 (questionOf s) (y .1);
+      has-article = or-done 3 (articleOf (x .0) (y .0 .article)) (z .1);
+      is-priced = p .1;
+      is = i;
+      fits = subst (λ (k : Answer). leb (length (written k)) room ≡ true) i (unless-done 7 (leb (length (written (answerOf (y .0) (p .0)))) room) (w .1));
+    }
+
+-- with an accepted book and question and an article that the book has, 4 is the price's own
+pub call-4 : (b s : List ℕ) (room : ℕ) {book : List Record} {q : Question} {a : Article} → records b ≡ some book → questionOf s ≡ some q → articleOf book (q .article) ≡ some a
+    → eqb (numberOf (price b s room)) 4 ≡ eqb (numberOf (priced book q)) 4
+unfolding price
+call-4 b s room {book} {q} {a} e f g = rw (e, f, g) (go (priced book q))
+  where
+    seven : (p : Priced) (t : Bool) → eqb (numberOf {A = Answer} (refuseUnless 7 t >>= λ _. done (answerOf q p))) 4 ≡ false
+    seven p true = refl
+    seven p false = refl
+
+    go : (r : Result Priced) → eqb (numberOf {A = Answer} (r >>= λ p. refuseUnless 7 (leb (length (written (answerOf q p))) room) >>= λ _. done (answerOf q p))) 4 ≡ eqb (numberOf r) 4
+    go (done p) = seven p (leb (length (written (answerOf q p))) room)
+    go (refused n) = refl
+
+-- ---- the calendar call, in either form
+
+pub record Listed (b s : List ℕ) (end : ℕ) (ss : List Stretch) : Type 0 where
+  pub book : List Record
+  pub question : Question
+  pub article : Article
+  pub days : List ℕ
+  pub is-book : records b ≡ some book
+  pub is-question : questionOf s ≡ some question
+  pub has-article : articleOf book (question .article) ≡ some article
+  pub is-period : periodTo (question .date) end ≡ some days
+  pub is : stretches (outcome book question) days ≡ ss
+
+pub calendar-answered : {B : Type 0} (form : List Stretch → List B) (b s : List ℕ) (end room : ℕ) (ss : List Stretch) → calendarIn form b s end room ≡ done ss → Listed b s end ss
+unfolding calendarIn
+calendar-answered form b s end room ss e =
+    let x = then-done (orRefuse 1 (records b)) _ e in
+    let y = then-done (orRefuse 2 (questionOf s)) _ (x .2) in
+    let d = then-done (orRefuse 9 (periodTo (y .0 .date) end)) _ (y .2) in
+    let z = then-done (orRefuse 3 (articleOf (x .0) (y .0 .article))) _ (d .2) in
+    let ts = stretches (outcome (x .0) (y .0)) (d .0) in
+    let t = then-done (refuseUnless 10 (leb (length ts) 1200)) _ (z .2) in
+    let w = then-done (refuseUnless 7 (leb (length (form ts)) room)) _ (t .2) in
+    record {
+      book = x .0;
+      question = y .0;
+      article = z .0;
+      days = d .0;
+      is-book = or-done 1 (records b) (x .1);
+      is-question = or-done 2 (questionOf s) (y .1);
+      has-article = or-done 3 (articleOf (x .0) (y .0 .article)) (z .1);
+      is-period = or-done 9 (periodTo (y .0 .date) end) (d .1);
+      is = done-is ts ss (w .2);
+    }
