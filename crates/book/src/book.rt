@@ -1,0 +1,87 @@
+// A book: its header, and its records one behind the other.
+use crate::kinds::article_ok;
+use crate::kinds::price_ok;
+use crate::kinds::rounding_ok;
+use crate::kinds::scheme_ok;
+use crate::packaging::packaging_ok;
+use layout::numbers::four_at;
+use layout::numbers::two_at;
+ghost use mathlib.Core.Path.{_≡_};
+ghost use Prim.Native.Nat.{_≤_};
+ghost use lib.ListN.{length};
+ghost use Rattle.rules.specs.Lists.{isSome};
+ghost use Rattle.rules.specs.Layout.{whole};
+ghost use Rattle.rules.specs.BookLayout.{kinded, records};
+ghost use Rattle.layout.specs.Ensures.{Accepts, Says};
+ghost use Rattle.book.specs.Ensures.{RecordEnd, RecordHere, StopIs, headerOk};
+
+fn header_ok(b: &[u8]) -> bool
+    ensures { λ r. ⌜ Says (headerOk (now (b .entry))) r ⌝ }
+{
+    let n = b.len();
+    if n < 5 {
+        return false;
+    }
+    (n <= 4_194_304) & (n == four_at(b, 0)) & (b[4] == 1)
+}
+
+// Whether s is a kind byte and a body that fills it.
+fn record_ok(s: &[u8]) -> bool
+    ensures { λ r. ⌜ Accepts (whole kinded (now (s .entry))) r ⌝ }
+{
+    if s.len() < 1 {
+        return false;
+    }
+    match s[0] {
+        1 => article_ok(s, 1),
+        2 => price_ok(s, 1),
+        3 => rounding_ok(s, 1),
+        4 => packaging_ok(s, 1),
+        5 => scheme_ok(s, 1),
+        _ => false,
+    }
+}
+
+// The end of the record at `at`, or 0.
+fn record_end(b: &[u8], at: usize) -> usize
+    requires { ⌜ at ≤ length (now b) ⌝ }
+    ensures { λ r. ⌜ RecordEnd (now (b .entry)) at r ⌝ }
+{
+    if b.len() - at < 2 {
+        return 0;
+    }
+    let from = at + 2;
+    let n = two_at(b, at);
+    if b.len() - from < n {
+        return 0;
+    }
+    let end = from + n;
+    if record_ok(&b[from..end]) { end } else { 0 }
+}
+
+// Whether b is a price book.
+pub fn book_ok(b: &[u8]) -> bool
+    ensures { λ r. ⌜ r ≡ isSome (records (now (b .entry))) ⌝ }
+{
+    if header_ok(b) {
+        let mut at = 5;
+        while at < b.len() {
+            let end = record_end(b, at);
+            if end < 1 {
+                return false;
+            }
+            at = end;
+        }
+        true
+    } else {
+        false
+    }
+}
+
+// The end of the record at `at` of an accepted book.
+pub fn record_stop(b: &[u8], at: usize) -> usize
+    requires { ⌜ RecordHere (now b) at ⌝ }
+    ensures { λ r. ⌜ StopIs (now (b .entry)) at r ⌝ }
+{
+    at + 2 + two_at(b, at)
+}
