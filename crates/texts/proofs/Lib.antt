@@ -1,0 +1,6 @@
+pub mod FromLaws
+pub mod EntryLaws
+pub mod LookLaws
+pub mod StandLaws
+pub mod TextLaws
+pub mod Promises
