@@ -1,0 +1,5 @@
+pub mod ReadingLaws
+pub mod CountedLaws
+pub mod PartLaws
+pub mod QuestionLaws
+pub mod AskLaws

@@ -1,0 +1,22 @@
+-- `question::ask_of` meets its contract: the places that it reads are in the slice, and what `names_stop` and `ask_from` ask holds, by the laws of an accepted question.
+use borrow.Author.Needs.{needs}
+use Rattle.question.proofs.AskLaws.{ask-long, ask-count, ask-names, ask-at}
+use Rattle.question.proofs.ask_of.Statement.{statement}
+use Rattle.question.proofs.ask_of.Tie as tie
+
+ruleset laws = (needs, ask-long, ask-count, ask-names, ask-at)
+
+pub ask-of-spec : {M : Type 1} → statement M
+ask-of-spec =
+    tie.close
+    (tie.spec
+    (λ c. search laws)  -- shared-slice-read-wide
+    (λ c κs. search laws)  -- wide-requires
+    (λ c. search needs)  -- add-a
+    (λ c. search needs)  -- add-count
+    (λ c. search needs)  -- add-names-stop
+    (λ c. search laws)  -- shared-slice-read-wide-2
+    (λ c κs. search laws)  -- wide-requires-2
+    (λ c κs. search laws)  -- names-stop-requires
+    (λ c κs. search laws)  -- ask-from-requires
+    (λ c. search laws))  -- returns

@@ -1,0 +1,34 @@
+-- `question::properties::all_value_bytes` meets its contract: the flag and what is left are the whole answer, by the laws `flag-..`.
+use Prim.Native.Nat.{_-_}
+use mathlib.Core.Path.{_≡_}
+use mathlib.Core.Bool.{_&&_}
+use lib.ListN.{length, drop}
+use Rattle.rules.specs.Lists.{all}
+use Rattle.rules.specs.Bytes.{nameByte}
+use Rattle.rules.specs.Question.{valueByte}
+use borrow.Author.Needs.{needs}
+use Rattle.question.proofs.ReadingLaws.{flag-start, flag-again, flag-end}
+use Rattle.question.proofs.properties.all_value_bytes.Statement.{statement}
+use Rattle.question.proofs.properties.all_value_bytes.Tie as tie
+
+ruleset laws = (needs, flag-start, flag-again, flag-end)
+
+abbrev Inv-loop : tie.InvT-loop
+Inv-loop s ok₀ i₀ ok i = (ok && all (λ b. nameByte b && valueByte b) (drop i s)) ≡ all (λ b. nameByte b && valueByte b) s
+
+abbrev μ-loop : tie.MeasureT-loop
+μ-loop s ok₀ i₀ ok i = length s - i
+
+pub all-value-bytes-spec : {M : Type 1} → statement M
+all-value-bytes-spec =
+    tie.close
+    (tie.spec
+    Inv-loop
+    μ-loop
+    (λ c. search laws)  -- loop-holds
+    (λ c. search needs)  -- shared-slice-read-is-value-byte
+    (λ c κs. search laws)  -- is-value-byte-requires
+    (λ c. search needs)  -- add-i
+    (λ c. search needs)  -- loop-less
+    (λ c. search laws)  -- loop-again
+    (λ c. search laws))  -- returns

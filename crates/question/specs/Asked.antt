@@ -1,0 +1,79 @@
+-- A question read by value, and the definition's question that it stands for.
+use Prim.Native.Nat.{ℕ, _+_, _≤_, _<_}
+use mathlib.Core.Path.{_≡_}
+use mathlib.Core.Bool.{true}
+use mathlib.Core.List.{List, [], _∷_}
+use mathlib.Core.Option.{some}
+use lib.Dec.{eqb}
+use lib.ListN.{length, take, drop, getD}
+use Rattle.rules.specs.Lists.{any}
+use Rattle.rules.specs.Days.{isDay}
+use Rattle.rules.specs.Book.{sale, purchase}
+use Rattle.rules.specs.Question.{Question, askedOf, questionOf}
+use Rattle.rules.specs.declared.Currency.{Currency}
+use Rattle.layout.specs.Reads.{part, nameStop}
+use Rattle.question.specs.declared.Ask.{Ask}
+use Rattle.question.specs.Parts.{nameAt, propertyAt, propertyStop, namesAt, propertiesAt, NamesStand, PropertiesStand, currencyOk, termsOk, questionAt}
+
+-- the end `r` of the granted name at `at`, which has 1 to 20 bytes
+pub record NameStop (s : List ℕ) (at r : ℕ) : Type 0 where
+  pub is : r ≡ nameStop s at
+  pub low : at + 2 ≤ r
+  pub high : r ≤ at + 21
+  pub fits : r ≤ length s
+  pub bytes : nameAt s at ≡ part s (at + 1) r
+
+-- the end `r` of the property at `at`, whose value has no more bytes than it is wide
+pub record PropertyStop (s : List ℕ) (at r : ℕ) : Type 0 where
+  pub is : r ≡ propertyStop s at
+  pub low : at + 3 ≤ r
+  pub high : r ≤ at + 3 + getD s at 0
+  pub fits : r ≤ length s
+  pub narrow : 1 ≤ getD s at 0
+  pub wide : getD s at 0 ≤ 30
+  pub state : getD s (at + 1) 0 ≤ 2
+  pub bytes : propertyAt s at .value ≡ part s (at + 3) r
+
+-- the article's name ends at a, the granted names end at g
+pub record AskAt (s : List ℕ) (a g : ℕ) : Type 0 where
+  pub low : 7 ≤ a
+  pub high : a ≤ 46
+  pub middle : a + 12 < g
+  pub fits : g < length s
+  pub conditions : getD s (a + 12) 0 ≤ 32
+  pub count : getD s g 0 ≤ 32
+  pub terms : termsOk s a ≡ true
+  pub names : NamesStand s (a + 12 + 1) (getD s (a + 12) 0)
+  pub properties : PropertiesStand s (g + 1) (getD s g 0)
+  pub is : questionOf s ≡ some (questionAt s a g)
+
+abbrev pub lettersOf : Currency → List ℕ
+lettersOf c = c .0 ∷ c .1 ∷ c .2 ∷ []
+
+-- the definition's question, of the places in s
+abbrev pub askIn : List ℕ → Ask → Question
+askIn s r = record {
+  article = take (r .article .size) (drop (r .article .at) s);
+  sort = r .sort;
+  currency = askedOf (lettersOf (r .currency));
+  date = r .date;
+  quantity = r .quantity;
+  granted = namesAt s (r .granted) (r .conditions);
+  properties = propertiesAt s (r .properties) (r .count);
+}
+
+-- `r` is the question that s is
+pub record AskIs (s : List ℕ) (r : Ask) : Type 0 where
+  pub is : questionOf s ≡ some (askIn s r)
+  pub named : 1 ≤ r .article .size
+  pub short : r .article .size ≤ 40
+  pub inside : r .article .at + r .article .size ≤ length s
+  pub sort : any (eqb (r .sort)) (sale ∷ purchase ∷ []) ≡ true
+  pub currency : currencyOk (lettersOf (r .currency)) ≡ true
+  pub day : isDay (r .date) ≡ true
+  pub least : 1 ≤ r .quantity
+  pub most : r .quantity ≤ 100000
+  pub conditions : r .conditions ≤ 32
+  pub names : NamesStand s (r .granted) (r .conditions)
+  pub count : r .count ≤ 32
+  pub properties : PropertiesStand s (r .properties) (r .count)

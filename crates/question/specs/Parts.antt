@@ -1,0 +1,75 @@
+-- Where the parts of a question stand, and which tests its bytes pass.
+use Prim.Native.Nat.{ℕ, _+_}
+use mathlib.Core.Bool.{Bool, _&&_, _||_}
+use mathlib.Core.List.{List, [], _∷_}
+use lib.Dec.{eqb}
+use lib.ListN.{length, take, drop, getD}
+use Rattle.rules.specs.Lists.{same, between, any}
+use Rattle.rules.specs.Bytes.{name, big, capitals}
+use Rattle.rules.specs.Days.{isDay}
+use Rattle.rules.specs.Book.{sale, purchase}
+use Rattle.rules.specs.Question.{Property, Question, property, noCurrency, askedOf}
+use Rattle.layout.specs.Reads.{part, nameStop}
+use Rattle.question.specs.Counted.{Ends, Standing, counted, valuesAt, countedAt, countedStop}
+
+-- the name at a place
+abbrev pub nameAt : List ℕ → ℕ → List ℕ
+nameAt s at = part s (at + 1) (nameStop s at)
+
+-- the property at a place: width, state, and a name
+abbrev pub propertyAt : List ℕ → ℕ → Property
+propertyAt s at = record { width = getD s at 0; state = getD s (at + 1) 0; value = nameAt s (at + 2) }
+
+abbrev pub propertyStop : List ℕ → ℕ → ℕ
+propertyStop s at = nameStop s (at + 2)
+
+-- ---- names and properties, as many as their counts say
+
+abbrev pub namesAt : List ℕ → ℕ → ℕ → List (List ℕ)
+namesAt = valuesAt nameAt nameStop
+
+abbrev pub propertiesAt : List ℕ → ℕ → ℕ → List Property
+propertiesAt = valuesAt propertyAt propertyStop
+
+-- the names counted at `at` end at `r`; 0: none
+abbrev pub GrantedEnd : List ℕ → ℕ → ℕ → Type 0
+GrantedEnd = Ends (counted (name 1 20)) (countedAt nameAt nameStop) (countedStop nameStop)
+
+abbrev pub PropertiesEnd : List ℕ → ℕ → ℕ → Type 0
+PropertiesEnd = Ends (counted property) (countedAt propertyAt propertyStop) (countedStop propertyStop)
+
+-- n of them stand one behind the other, the first at `at`
+abbrev pub NamesStand : List ℕ → ℕ → ℕ → Type 0
+NamesStand = Standing (name 1 20) nameAt nameStop
+
+abbrev pub PropertiesStand : List ℕ → ℕ → ℕ → Type 0
+PropertiesStand = Standing property propertyAt propertyStop
+
+-- ---- the tests of the fields around them
+
+-- the length and the version in front
+abbrev pub headOk : List ℕ → Bool
+headOk s = eqb (length s) (big (take 4 (drop 0 s))) && any (eqb (getD s 4 0)) (1 ∷ [])
+
+abbrev pub currencyOk : List ℕ → Bool
+currencyOk c = capitals c || same c noCurrency
+
+-- sort, currency, date and quantity, behind the article's name
+abbrev pub termsOk : List ℕ → ℕ → Bool
+termsOk s a =
+    any (eqb (getD s a 0)) (sale ∷ purchase ∷ [])
+    && (currencyOk (take 3 (drop (a + 1) s)) && (isDay (big (take 4 (drop (a + 4) s))) && between 1 100_000 (big (take 4 (drop (a + 8) s)))))
+
+-- ---- the whole
+
+-- the question whose article's name ends at a, and whose granted names end at g
+abbrev pub questionAt : List ℕ → ℕ → ℕ → Question
+questionAt s a g = record {
+  article = part s 6 a;
+  sort = getD s a 0;
+  currency = askedOf (take 3 (drop (a + 1) s));
+  date = big (take 4 (drop (a + 4) s));
+  quantity = big (take 4 (drop (a + 8) s));
+  granted = countedAt nameAt nameStop s (a + 12);
+  properties = countedAt propertyAt propertyStop s g;
+}
