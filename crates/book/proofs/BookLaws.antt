@@ -12,12 +12,13 @@ use lib.Seq.{drop-cons}
 use borrow.Author.Tests.{lt-ltb, le-ltb}
 use Rattle.rules.specs.Lists.{isSome}
 use Rattle.rules.specs.Layout.{andThen, byte, give, whole, wholly, back, repeated}
-use Rattle.rules.specs.Bytes.{number, big, head}
+use Rattle.rules.specs.Bytes.{number, big}
 use Rattle.rules.specs.Book.{Record}
 use Rattle.rules.specs.BookLayout.{kinded, body, oneRecord, mostBytes, records}
-use Rattle.layout.specs.Reads.{when, Reads}
+use Rattle.layout.specs.Reads.{when}
 use Rattle.layout.specs.Ensures.{Accepts, Number, Says}
-use Rattle.layout.proofs.LayoutLaws.{andThen-some, then-reads, then-rest, then-broken, then-when, such-reads, if-reads, byte-at, byte-cut, bytes-cut, number-at, number-cut, one-of-at, one-of-cut, sized-number}
+use Rattle.layout.proofs.LayoutLaws.{andThen-some, then-rest, then-broken, then-when, if-reads, byte-at, byte-cut, bytes-cut, number-at, number-cut, sized-number}
+use Rattle.layout.proofs.FromLaws.{head-reads, head-cut}
 use Rattle.layout.proofs.SequenceLaws.{repeated-step, repeated-broken, framed-at, framed-left}
 use Rattle.book.specs.Records.{recordIn, recordsFrom}
 use Rattle.book.specs.Ensures.{RecordEnd, Decides, headerOk}
@@ -91,23 +92,6 @@ module _ (b : List ℕ) where
   pub header-is : {n : ℕ} → Number (big (take 4 (drop 0 b))) 4294967296 n → Says (headerOk b) (leb (length b) 4_194_304 && eqb (length b) n && eqb (getD b 4 0) 1)
   header-is p = record { is = rw (p .is) }
 
-  head-reads : 5 ≤ length b → Reads (head (length b)) b 0 (eqb (length b) (big (take 4 b)) && (eqb (getD b 4 0) 1 || false)) (getD b 4 0) 5
-  head-reads h = then-reads _ _ (such-reads (number 4) (eqb (length b)) (number-at b 0 4 h′)) (one-of-at b 4 (1 ∷ []) h)
-    where
-      h′ : 0 + 4 ≤ length b
-      h′ = omega arith
-
-  head-cut : length b < 5 → Reads (head (length b)) b 0 false 0 0
-  head-cut h = record { is = go (decLt (length b) 4) }
-    where
-      when-none : (t : Bool) → when {A = ℕ × List ℕ} t none ≡ none
-      when-none true = refl
-      when-none false = refl
-
-      go : Dec (length b < 4) → head (length b) (drop 0 b) ≡ none
-      go (yes k) = then-broken _ _ (such-reads (number 4) (eqb (length b)) (number-cut b 0 4 (omega arith) (omega arith))) refl
-      go (no k) = then-when _ _ (such-reads (number 4) (eqb (length b)) (number-at b 0 4 (omega arith))) (one-of-cut b 4 (1 ∷ []) (omega arith) .is) ∙ when-none (eqb (length b) (big (take 4 b)))
-
   -- a book is a header and the records behind it
   pub records-are : records b ≡ when (headerOk b) (recordsFrom b 5)
   unfolding records recordsFrom
@@ -125,10 +109,10 @@ module _ (b : List ℕ) where
 
       go : Dec (length b < 5) → records b ≡ when (headerOk b) (recordsFrom b 5)
       go (yes h) =
-          ap wholly (then-when _ _ (if-reads {s = b} {at = 0} (leb (length b) mostBytes) tt) (then-broken _ _ (head-cut h) refl))
+          ap wholly (then-when _ _ (if-reads {s = b} {at = 0} (leb (length b) mostBytes) tt) (then-broken _ _ (head-cut (length b) b h) refl))
           ∙ (when-none (leb (length b) mostBytes) ∙ ap (λ t. when t (recordsFrom b 5)) (sym (header-short h .is)))
       go (no h) =
-          ap wholly (then-when _ _ (if-reads {s = b} {at = 0} (leb (length b) mostBytes) tt) (then-when _ _ (head-reads (omega arith)) refl))
+          ap wholly (then-when _ _ (if-reads {s = b} {at = 0} (leb (length b) mostBytes) tt) (then-when _ _ (head-reads (length b) b (omega arith)) refl))
           ∙ joined (leb (length b) mostBytes) (eqb (length b) (big (take 4 b))) (eqb (getD b 4 0) 1) (repeated oneRecord (drop 5 b))
 
   module _ {r : Bool} (p : Says (headerOk b) r) where

@@ -1,7 +1,7 @@
 -- `floor z d` is the one whole number q with q·d ≤ z < q·d + d, and how code comes to it.
 use Prim.Native.Nat.{ℕ, zero, suc, _+_, _*_, _/_, _<_, _≤_}
-use mathlib.Core.Path.{_≡_, refl, sym, ap, _∙_, subst}
-use native.Mathlib.Nat.{div-le-self, div-mul-le-self, lt-div-mul-add, mul-comm, suc-mul, mul-le-mul-right, add-comm, add-zero, mul-one, one-mul, mul-zero, zero-mul, zero-add, add-mul, le-of-suc-le-suc, lt-of-mul-lt-mul-right}
+use mathlib.Core.Path.{_≡_, refl}
+use native.Mathlib.Nat.{div-le-self, div-mul-le-self, lt-div-mul-add, suc-mul, mul-zero, zero-mul, add-mul, le-of-suc-le-suc, lt-of-mul-lt-mul-right}
 use native.Mathlib.Omega.{arith}
 use lib.IntN.{ℤ, pos, negsuc, natAbs, _+ℤ_, _-ℤ_, _*ℤ_}
 use lib.Signed.{_≤ℤ_, _<ℤ_}

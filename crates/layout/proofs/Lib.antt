@@ -3,3 +3,4 @@ pub mod SequenceLaws
 pub mod NumberLaws
 pub mod StoreLaws
 pub mod NameLaws
+pub mod FromLaws

@@ -17,7 +17,8 @@ use Rattle.rules.specs.Book.{sale, purchase}
 use Rattle.rules.specs.Question.{property, questionLayout, questionOf}
 use Rattle.layout.specs.Reads.{Reads}
 use Rattle.layout.specs.Ensures.{Says, NameEnd}
-use Rattle.layout.proofs.LayoutLaws.{then-reads, then-broken, such-reads, reads-as, give-reads, number-at, number-reads, bytes-reads, one-of-at, sized-then, sized-such, sized-bytes, sized-number, sized-one-of}
+use Rattle.layout.proofs.FromLaws.{head-reads}
+use Rattle.layout.proofs.LayoutLaws.{then-reads, then-broken, such-reads, reads-as, give-reads, number-reads, bytes-reads, one-of-at, sized-then, sized-such, sized-bytes, sized-number, sized-one-of}
 use Rattle.question.specs.Parts.{headOk, currencyOk, termsOk, questionAt, GrantedEnd, PropertiesEnd}
 use Rattle.question.proofs.PartLaws.{properties-any}
 use Rattle.question.proofs.CountedLaws.{counted-reads, ends-reads}
@@ -31,15 +32,15 @@ pub question-short : (s : List ℕ) → length s < 5 → false ≡ isSome (quest
 question-short s h = not-one s (wanted _ (wants-then (head (length s)) _ (sized-then _ _ (sized-such (number 4) (eqb (length s)) (sized-number 4)) λ n. sized-one-of (1 ∷ [])) λ version. wants-any) s 0 (omega arith))
 
 module _ (s : List ℕ) (h : 5 ≤ length s) where
-  head-reads : Reads (head (length s)) s 0 (headOk s) (getD s 4 0) 5
-  head-reads = then-reads _ _ (such-reads (number 4) (eqb (length s)) (number-at s 0 4 (omega arith))) (one-of-at s 4 (1 ∷ []) (omega arith))
+  here : Reads (head (length s)) s 0 (headOk s) (getD s 4 0) 5
+  here = head-reads (length s) s h
 
   module _ {a : ℕ} (p : NameEnd 1 40 s 5 a) where
     pub question-nameless : a < 1 → false ≡ isSome (questionOf s)
-    question-nameless g = not-one s (then-none _ _ head-reads (then-broken _ _ (p .reads) (le-ltb 0 a (omega arith))))
+    question-nameless g = not-one s (then-none _ _ here (then-broken _ _ (p .reads) (le-ltb 0 a (omega arith))))
 
     pub question-cut : length s - a < 12 → false ≡ isSome (questionOf s)
-    question-cut g = not-one s (then-none _ _ head-reads (then-none _ _ (p .reads) (wanted _ (
+    question-cut g = not-one s (then-none _ _ here (then-none _ _ (p .reads) (wanted _ (
         wants-then _ _ (sized-one-of (sale ∷ purchase ∷ [])) λ sort. wants-then _ _ (sized-such (bytes 3) currencyOk (sized-bytes 3)) λ currency.
         wants-then _ _ (sized-such (number 4) isDay (sized-number 4)) λ date. wants-then _ _ (sized-such (number 4) (between 1 100000) (sized-number 4)) λ quantity. wants-any) s a g)))
 
@@ -47,7 +48,7 @@ module _ (s : List ℕ) (h : 5 ≤ length s) where
         {end : ℕ} (r : PropertiesEnd s g end) where
       pub question-reads : Reads (questionLayout (length s)) s 0 (headOk s && (ltb 0 a && (termsOk s a && (ltb 0 g && ltb 0 end)))) (questionAt s a g) end
       question-reads = reads-as (
-          then-reads _ _ head-reads (then-reads _ _ (p .reads) (then-reads _ _ (one-of-at s a (sale ∷ purchase ∷ []) (omega arith))
+          then-reads _ _ here (then-reads _ _ (p .reads) (then-reads _ _ (one-of-at s a (sale ∷ purchase ∷ []) (omega arith))
           (then-reads _ _ (such-reads (bytes 3) currencyOk (bytes-reads s a 3 1 (omega arith)))
           (then-reads _ _ (such-reads (number 4) isDay (number-reads s a 4 4 (omega arith)))
           (then-reads _ _ (such-reads (number 4) (between 1 100000) (number-reads s a 4 8 (omega arith)))

@@ -2,7 +2,7 @@
 use Prim.Native.Nat.{ℕ, suc, _+_}
 use mathlib.Core.List.{List, [], _∷_, _++_, map}
 use lib.ListN.{length}
-use lib.IntN.{ℤ, pos}
+use lib.IntN.{ℤ}
 use Rattle.rules.specs.Lists.{join}
 use Rattle.rules.specs.Bytes.{bytesOf, signedBytesOf}
 use Rattle.rules.specs.Book.{Row}

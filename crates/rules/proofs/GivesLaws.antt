@@ -1,12 +1,12 @@
 -- What every value that a layout gives is sure to have, and with it what an accepted question has.
 use Prim.Native.Nat.{ℕ, zero, suc, _≤_}
 use mathlib.Core.Path.{_≡_, refl, sym, ap, subst}
-use mathlib.Core.Bool.{Bool, true, false, _&&_, _||_}
+use mathlib.Core.Bool.{Bool, true, false, _||_}
 use mathlib.Core.List.{List, [], _∷_}
 use mathlib.Core.Option.{Option, some, none, Option·none-ne-some, Option·some-injective}
 use lib.ListN.{length}
 use Rattle.rules.specs.Lists.{same, between}
-use Rattle.rules.specs.Layout.{Layout, andThen, _>>=_, give, giveIf, _such_, bytes, byte, times, whole, wholly}
+use Rattle.rules.specs.Layout.{Layout, andThen, _>>=_, give, giveIf, _such_, bytes, byte, times, wholly}
 use Rattle.rules.specs.Bytes.{number, name, oneOf, head, capitals}
 use Rattle.rules.specs.Days.{isDay}
 use Rattle.rules.specs.Book.{sale, purchase}

@@ -1,12 +1,11 @@
 -- Lines with two sums in hand are the lines of the definition, and the amounts listed sum to the unit total.
-use Prim.Native.Nat.{ℕ}
 use mathlib.Core.Path.{_≡_, refl, sym, _∙_, ap}
 use mathlib.Core.Bool.{Bool, true, false, cond}
 use mathlib.Core.List.{List, [], _∷_, _++_, map, append-assoc, append-nil}
 use lib.Dec.{eqb}
 use lib.IntN.{ℤ, pos, _+ℤ_, +ℤ-idl, +ℤ-idr, +ℤ-assoc}
 use Rattle.rules.specs.Lists.{keep, consIf}
-use Rattle.rules.specs.Book.{Record, Row, roundings, roundingFor, rows}
+use Rattle.rules.specs.Book.{Record, roundings, roundingFor, rows}
 use Rattle.rules.specs.Question.{Question}
 use Rattle.rules.specs.Amounts.{rounded, exact}
 use Rattle.rules.specs.Lines.{Line, Chosen, sum, amounts, total, baseSum, ofBase, lineAfter, linesAfter, linesOf, chosen}

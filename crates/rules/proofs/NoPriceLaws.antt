@@ -6,13 +6,12 @@ use mathlib.Core.List.{List, [], _∷_, _++_, map}
 use mathlib.Core.Option.{Option, some, none, Option·map}
 use lib.Dec.{eqb}
 use borrow.Author.Tests.{eqb-true}
-use lib.IntN.{pos}
 use Rattle.rules.specs.Lists.{same, keep, any, first, isSome, ifSome}
 use Rattle.rules.specs.Book.{Record, Row, base, surcharge, discount, rows}
 use Rattle.rules.specs.Question.{Question, Grant, grants}
 use Rattle.rules.specs.Choice.{component, percentBase, holdsOn, isIn, reaches, better, step₁, step₂, step₃, step₄, step₅, surviving, choose}
 use Rattle.rules.specs.Lines.{Slot, slotsAt, slots, Chosen, rowsAt, chosenAt, chosen, Line, amounts, ofBase, linesOf, totalOf}
-use Rattle.rules.specs.Refusals.{Result, done, refused, _>>=_, orRefuse, refuseUnless, numberOf}
+use Rattle.rules.specs.Refusals.{done, _>>=_, orRefuse, refuseUnless, numberOf}
 use Rattle.rules.specs.Price.{Priced, priced, inOneCurrency, inRange}
 use Rattle.rules.specs.declared.Total.{Total}
 use Rattle.rules.specs.declared.Total.the-variants.{InRange, OutOfRange}

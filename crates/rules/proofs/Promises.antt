@@ -1,7 +1,7 @@
 -- What the rules promise, each under a name and in plain words. The proofs stand in the files of laws beside this one.
 use Prim.Native.Nat.{ℕ, _≤_, _<_, _^_}
 use mathlib.Core.Path.{_≡_, refl, sym, _∙_, ap, subst}
-use mathlib.Core.Bool.{Bool, true, false, not}
+use mathlib.Core.Bool.{true, not}
 use mathlib.Core.List.{List, [], _∷_}
 use mathlib.Core.Option.{Option, some, none, Option·some-injective}
 use lib.Count.{ones}
@@ -16,7 +16,7 @@ use Rattle.rules.specs.Question.{Question, grants, questionOf, noCurrenc
 use Rattle.rules.specs.Choice.{step₅, choose}
 use Rattle.rules.specs.Amounts.{multipleBy}
 use Rattle.rules.specs.Lines.{Line, sum, amounts, total, slotsAt}
-use Rattle.rules.specs.Refusals.{Result, done, refused, numberOf, lentAfter}
+use Rattle.rules.specs.Refusals.{done, refused, numberOf, lentAfter}
 use Rattle.rules.specs.Price as Price
 use Rattle.rules.specs.Price.{Answer, answerOf, price, unusedOf, setOf}
 use Rattle.rules.specs.Calendar as Calendars

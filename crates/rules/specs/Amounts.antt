@@ -1,6 +1,5 @@
 -- "From rows to a total": the exact amount of a row, and its rounding.
 use Prim.Native.Nat.{ℕ, _*_}
-use mathlib.Core.Bool.{Bool}
 use lib.IntN.{ℤ, pos, negℤ, _+ℤ_, _*ℤ_}
 use Rattle.integers.specs.Floor.{floor}
 use Rattle.rules.specs.declared.Cents.{Cents}

@@ -1,8 +1,8 @@
 -- "The price book": what its records hold, and finding the record that counts.
 -- `Value`, `Way` and `Rounding` are the code's own types; names are lists of bytes here, and places in the book in the code.
 use Prim.Native.Nat.{ℕ}
-use mathlib.Core.Bool.{Bool, _&&_}
-use mathlib.Core.List.{List, [], _∷_}
+use mathlib.Core.Bool.{_&&_}
+use mathlib.Core.List.{List}
 use mathlib.Core.Option.{Option, some, none}
 use lib.Dec.{eqb}
 use lib.IntN.{ℤ, pos}

@@ -1,14 +1,14 @@
 -- "The price book": which bytes are a book, kind by kind.
 use Prim.Native.Nat.{ℕ, zero, suc, _+_, _/_, _%_, _^_}
-use mathlib.Core.Bool.{Bool, true, false, _&&_, _||_, not}
+use mathlib.Core.Bool.{Bool, _&&_, _||_, not}
 use mathlib.Core.List.{List, [], _∷_, _++_}
-use mathlib.Core.Option.{Option, some, none}
+use mathlib.Core.Option.{Option, none}
 use lib.Dec.{eqb, leb}
 use lib.ListN.{length, getD}
-use lib.IntN.{ℤ, pos, negsuc}
+use lib.IntN.{ℤ, pos}
 use Rattle.rules.specs.Lists.{same, between, any, all}
 use Rattle.rules.specs.Letters.{text, letter}
-use Rattle.rules.specs.Layout.{Layout, _>>=_, give, giveIf, _such_, must, bytes, byte, times, whole, framed, repeated}
+use Rattle.rules.specs.Layout.{Layout, _>>=_, give, _such_, must, bytes, byte, times, whole, framed, repeated}
 use Rattle.rules.specs.Bytes.{number, signed, name, nameByte, oneOf, head, capitals, eitherSide}
 use Rattle.rules.specs.Book.{Record, ArticleRecord, PriceRecord, RoundingRecord, PackagingRecord, SchemeRecord, sale, purchase, base, surcharge, discount}
 use Rattle.rules.specs.declared.Value.{Value}

@@ -1,13 +1,12 @@
 -- "The price book": how numbers and names stand in bytes, for every layout.
 use Prim.Native.Nat.{ℕ, zero, suc, _+_, _*_, _-_, _/_, _%_, _^_}
-use mathlib.Core.Bool.{Bool, true, false, _&&_, _||_, not, cond}
-use mathlib.Core.List.{List, [], _∷_, _++_}
-use mathlib.Core.Option.{Option, some, none}
+use mathlib.Core.Bool.{Bool, _||_, cond}
+use mathlib.Core.List.{List, [], _∷_}
 use lib.Dec.{eqb, leb, ltb}
 use lib.IntN.{ℤ, pos, negsuc}
 use Rattle.rules.specs.Lists.{between, all, any}
 use Rattle.rules.specs.Letters.{letter}
-use Rattle.rules.specs.Layout.{Layout, _>>=_, give, giveIf, _such_, bytes, byte}
+use Rattle.rules.specs.Layout.{Layout, _>>=_, give, _such_, bytes, byte}
 
 -- ---- numbers, the highest byte first
 

@@ -1,10 +1,10 @@
 -- "Calendar": the outcome of each day of a period, and the longest stretches of days with one outcome.
-use Prim.Native.Nat.{ℕ, zero, suc, _+_, _*_}
+use Prim.Native.Nat.{ℕ, _+_}
 use mathlib.Core.Bool.{Bool, true, false, _&&_, cond}
 use mathlib.Core.List.{List, [], _∷_, _++_, map}
-use mathlib.Core.Option.{Option, some, none}
+use mathlib.Core.Option.{Option, none}
 use lib.Dec.{eqb, leb}
-use lib.ListN.{length, drop}
+use lib.ListN.{length}
 use lib.IntN.{ℤ, pos, negsuc}
 use Rattle.rules.specs.Lists.{same, join}
 use Rattle.rules.specs.Bytes.{bytesOf, signedBytesOf}
@@ -13,7 +13,7 @@ use Rattle.rules.specs.Book.{Record, articleOf}
 use Rattle.rules.specs.BookLayout.{records}
 use Rattle.rules.specs.Question.{Question, questionOf, on, noCurrency}
 use Rattle.rules.specs.Lines.{total}
-use Rattle.rules.specs.Refusals.{Result, done, refused, _>>=_, orRefuse, refuseUnless, numberOf, orZero, lentAfter}
+use Rattle.rules.specs.Refusals.{Result, done, _>>=_, orRefuse, refuseUnless, numberOf, orZero, lentAfter}
 use Rattle.rules.specs.Price.{Priced, priced}
 use Rattle.rules.specs.declared.Written.{Written}
 use Rattle.rules.specs.declared.Stretch as Declared

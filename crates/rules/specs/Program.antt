@@ -1,15 +1,14 @@
 -- "Calendar", the program: what it prints for the bytes of its standard input.
 use Prim.Native.Nat.{ℕ, zero, suc, _+_, _*_, _/_, _%_}
-use mathlib.Core.Bool.{Bool, true, false, cond}
+use mathlib.Core.Bool.{true, false, cond}
 use mathlib.Core.List.{List, [], _∷_, _++_, map}
-use mathlib.Core.Option.{Option, some, none}
 use lib.Dec.{eqb, leb, ltb}
 use lib.ListN.{length, take, drop}
 use lib.IntN.{ℤ, pos, negsuc}
 use Rattle.rules.specs.Lists.{join, joinWith}
 use Rattle.rules.specs.Letters.{text, letter}
 use Rattle.rules.specs.Bytes.{big}
-use Rattle.rules.specs.Refusals.{Result, done, refused, _>>=_, orRefuse, refuseUnless}
+use Rattle.rules.specs.Refusals.{Result, done, refused, _>>=_, refuseUnless}
 use Rattle.rules.specs.Calendar.{calendar, mostDays, Stretch}
 
 -- ---- what is printed

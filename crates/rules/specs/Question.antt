@@ -1,13 +1,13 @@
 -- "The price book", the question: which bytes are one, and how its granted names count.
-use Prim.Native.Nat.{ℕ, zero, suc, _+_}
-use mathlib.Core.Bool.{Bool, true, false, _&&_, _||_, not, cond}
+use Prim.Native.Nat.{ℕ, zero, suc}
+use mathlib.Core.Bool.{Bool, _||_, not, cond}
 use mathlib.Core.List.{List, [], _∷_, map}
 use mathlib.Core.Option.{Option, some, none}
-use lib.Dec.{eqb, leb}
+use lib.Dec.{eqb}
 use lib.ListN.{length}
 use Rattle.rules.specs.Lists.{same, between, all, any, keep}
 use Rattle.rules.specs.Letters.{letter}
-use Rattle.rules.specs.Layout.{Layout, _>>=_, give, giveIf, _such_, bytes, byte, times, whole}
+use Rattle.rules.specs.Layout.{Layout, _>>=_, give, _such_, bytes, byte, times, whole}
 use Rattle.rules.specs.Bytes.{number, name, oneOf, head, capitals, raise}
 use Rattle.rules.specs.Days.{isDay}
 use Rattle.rules.specs.Book.{sale, purchase}

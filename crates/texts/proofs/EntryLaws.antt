@@ -18,7 +18,7 @@ use Rattle.layout.specs.Reads.{Reads, when}
 use Rattle.layout.specs.Ensures.{Number, Says}
 use Rattle.layout.proofs.LayoutLaws.{andThen-some, then-reads, then-when, then-broken, if-reads, reads-as, give-reads, number-at, number-reads, number-cut, bytes-at, bytes-cut, bytes-left, sized-number}
 use Rattle.texts.specs.Ensures.{headOk, entryAt, EntryIn, EntryEnd}
-use Rattle.texts.proofs.FromLaws.{more, head-reads, head-cut, from-end, from-broken, from-step}
+use Rattle.layout.proofs.FromLaws.{more, head-reads, head-cut, from-end, from-broken, from-step}
 
 -- ---- an entry at a place
 

@@ -1,4 +1,3 @@
-pub mod FromLaws
 pub mod EntryLaws
 pub mod LookLaws
 pub mod StandLaws

@@ -17,7 +17,7 @@ use Rattle.layout.specs.Ensures.{Number, Says}
 use Rattle.texts.specs.declared.Looked.{Looked}
 use Rattle.texts.specs.declared.Looked.the-variants.{Broken, Absent, At}
 use Rattle.texts.specs.Ensures.{headOk, entryAt, EntryIn, EntryEnd, seen, looked, firstOf, Looks}
-use Rattle.texts.proofs.FromLaws.{more}
+use Rattle.layout.proofs.FromLaws.{more}
 use Rattle.texts.proofs.EntryLaws.{text-long, entriesFrom, entries-end, entries-broken, entries-step, entries-short, entries-are}
 
 -- ---- one entry

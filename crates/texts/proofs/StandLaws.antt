@@ -14,7 +14,7 @@ use Rattle.rules.specs.TextBook.{Entry, entries}
 use Rattle.rules.proofs.ListLaws.{All}
 use Rattle.layout.specs.Reads.{when}
 use Rattle.texts.specs.Ensures.{headOk, entryAt, EntryIn, EntryEnd}
-use Rattle.texts.proofs.FromLaws.{more}
+use Rattle.layout.proofs.FromLaws.{more}
 use Rattle.texts.proofs.EntryLaws.{entriesFrom, text-long, entry-cases, entries-end, entries-broken, entries-step, entries-short, entries-are}
 
 -- the text t is the bytes of the book from its place on

@@ -1,13 +1,12 @@
 -- `integers::floor_div` meets its contract: at a number from 0 up by `floor-pos`, and below 0, where -1 - n is divided, by `floor-neg`.
 use Prim.Native.Nat.{ℕ, _/_, _<_}
-use mathlib.Core.Path.{_≡_}
 use native.Mathlib.Nat.{div-le-self}
 use native.Mathlib.Omega.{arith}
 use borrow.Author.Needs.{needs}
 use lib.IntN.{ℤ, pos, negsuc, natAbs, _-ℤ_}
 use lib.Signed.{_≤ℤ_, _<ℤ_}
 use mir.Syntax.{w64}
-use mir.Val.{SFits, toZ}
+use mir.Val.{SFits}
 use mir.ValLaws.{toZ-ofZ, toZ-pos}
 use Rattle.integers.proofs.Signed.{fits64, flip-fits, taken64, up64, leZ-true, leZ-false, non-neg}
 use Rattle.integers.proofs.FloorLaws.{floor-pos, floor-neg}

@@ -1,0 +1,105 @@
+-- The bounds that the numbers of an accepted record have, by its kind.
+use Prim.Native.Nat.{ℕ, zero, suc, _≤_}
+use mathlib.Core.Path.{_≡_, refl, sym, _∙_, ap, subst}
+use mathlib.Core.Bool.{true, _&&_, _||_, not}
+use mathlib.Core.List.{List, [], _∷_, _++_, append-nil}
+use mathlib.Core.Option.{Option, some, none, Option·none-ne-some, Option·some-injective}
+use native.Mathlib.Omega.{arith}
+use lib.Dec.{eqb, leb}
+use lib.ListN.{length, drop}
+use lib.IntN.{ℤ}
+use borrow.Author.Tests.{leb-true}
+use Rattle.rules.specs.Lists.{isSome, between, same}
+use Rattle.rules.specs.Layout.{Layout, _>>=_, give, _such_, bytes, byte, times, whole, wholly}
+use Rattle.rules.specs.Bytes.{number, signed, name, oneOf, capitals, eitherSide}
+use Rattle.rules.specs.Book.{Record, ArticleRecord, PriceRecord, RoundingRecord, PackagingRecord, SchemeRecord, sale, purchase, base, surcharge, discount}
+use Rattle.rules.specs.BookLayout.{kinded, priceBody, roundingBody, packagingBody, valueOf, inBounds, zeroUnlessPresent, has, unitFor, lengthUnits, volumeUnits, weightUnits, star}
+use Rattle.rules.proofs.TestLaws.{between-low, between-high}
+use Rattle.rules.proofs.GivesLaws.{Gives, gives-field, gives-any, gives-value, gives-if, gives-such}
+use Rattle.book.proofs.PartsLaws.{record-is}
+use Rattle.records.specs.Ensures.{Bounded, ValuesIn}
+use Rattle.records.proofs.FieldLaws.{kind-byte, side-in}
+
+-- ---- each body
+
+gives-price : Gives priceBody Bounded
+gives-price =
+    gives-field (name 1 40) _ (gives-any (name 1 40)) λ article _.
+    gives-field (name 0 20) _ (gives-any (name 0 20)) λ condition _.
+    gives-field (oneOf (sale ∷ purchase ∷ [])) _ (gives-any (oneOf (sale ∷ purchase ∷ []))) λ sort _.
+    gives-field (oneOf (base ∷ surcharge ∷ discount ∷ [])) _ (gives-any (oneOf (base ∷ surcharge ∷ discount ∷ []))) λ level _.
+    gives-field (oneOf (1 ∷ 2 ∷ [])) _ (gives-any (oneOf (1 ∷ 2 ∷ []))) λ rule _.
+    gives-field (number 4) _ (gives-any (number 4)) λ text _.
+    gives-field (oneOf (0 ∷ 1 ∷ [])) _ (gives-any (oneOf (0 ∷ 1 ∷ []))) λ fixed _.
+    gives-field (signed 4) _ (gives-any (signed 4)) λ v _.
+    gives-field _ _ (gives-if (λ (u : Unit {0}). inBounds (valueOf fixed v)) tt) λ u h.
+    gives-field (bytes 3 such capitals) _ (gives-any (bytes 3 such capitals)) λ currency _.
+    gives-field (number 4) _ (gives-any (number 4)) λ from _.
+    gives-field (number 4) _ (gives-any (number 4)) λ to _.
+    gives-field (number 4) _ (gives-any (number 4)) λ upTo _.
+    gives-field (number 2) _ (gives-any (number 2)) λ rounding _.
+    gives-value _ h
+
+gives-rounding : Gives roundingBody Bounded
+gives-rounding =
+    gives-field (number 2 such leb 1) _ (gives-such (number 2) (leb 1)) λ n h₁.
+    gives-field (oneOf (0 ∷ 1 ∷ 2 ∷ [])) _ (gives-any (oneOf (0 ∷ 1 ∷ 2 ∷ []))) λ way _.
+    gives-field (number 4 such between 1 1_000_000) _ (gives-such (number 4) (between 1 1_000_000)) λ step h₂.
+    gives-field (signed 4 such eitherSide 1_000_000) _ (gives-such (signed 4) (eitherSide 1_000_000)) λ before h₃.
+    gives-field (signed 4 such eitherSide 1_000_000) _ (gives-such (signed 4) (eitherSide 1_000_000)) λ after h₄.
+    gives-value _
+    (record {
+      number-low = leb-true 1 n h₁;
+      step-low = between-low 1 1_000_000 step h₂;
+      step-high = between-high 1 1_000_000 step h₂;
+      before-in = side-in 1_000_000 before h₃;
+      after-in = side-in 1_000_000 after h₄;
+    })
+
+-- values that are all within `most`, and what is behind them
+values-in : {most : ℕ} → most ≤ 10_000_000 → (z : ℤ) (zs : List ℤ) → eitherSide most z ≡ true → ValuesIn zs → ValuesIn (z ∷ zs)
+values-in {most} h z zs e hs zero = omega (arith, side-in most z e)
+values-in h z zs e hs (suc i) = hs i
+
+-- values in bounds, whatever stands behind them in bounds
+gives-values : (most n : ℕ) → most ≤ 10_000_000 → Gives (times n (signed 4 such eitherSide most)) (λ zs. (ys : List ℤ) → ValuesIn ys → ValuesIn (zs ++ ys))
+gives-values most zero h = gives-value [] (λ ys hs. hs)
+gives-values most (suc n) h =
+    gives-field (signed 4 such eitherSide most) (λ z. times n (signed 4 such eitherSide most) >>= λ rest. give (z ∷ rest)) (gives-such (signed 4) (eitherSide most)) λ z e.
+    gives-field (times n (signed 4 such eitherSide most)) (λ rest. give (z ∷ rest)) (gives-values most n h) λ rest k.
+    gives-value (z ∷ rest) (λ ys hs. values-in h z (rest ++ ys) e (k ys hs))
+
+nothing-in : ValuesIn []
+nothing-in i = omega arith
+
+gives-packaging : Gives packagingBody Bounded
+gives-packaging =
+    gives-field (name 1 40) _ (gives-any (name 1 40)) λ article _.
+    gives-field (name 0 20) _ (gives-any (name 0 20)) λ condition _.
+    gives-field byte _ (gives-any byte) λ present _.
+    gives-field (times 6 (signed 4 such eitherSide 10_000_000)) _ (gives-values 10_000_000 6 (omega arith)) λ physical h.
+    gives-field (times 2 (signed 4 such eitherSide 10_000)) _ (gives-values 10_000 2 (omega arith)) λ counts k.
+    gives-field _ _ (gives-if (λ (u : Unit {0}). zeroUnlessPresent present (physical ++ counts)) tt) λ u _.
+    gives-field (unitFor (has 0 present || (has 1 present || has 2 present)) lengthUnits) _ (gives-any (unitFor (has 0 present || (has 1 present || has 2 present)) lengthUnits)) λ lengthUnit _.
+    gives-field (unitFor (has 3 present) volumeUnits) _ (gives-any (unitFor (has 3 present) volumeUnits)) λ volumeUnit _.
+    gives-field (unitFor (has 4 present || has 5 present) weightUnits) _ (gives-any (unitFor (has 4 present || has 5 present) weightUnits)) λ weightUnit _.
+    gives-field _ _ (gives-if (λ (u : Unit {0}). not (same article star && eqb (length condition) 0)) tt) λ u _.
+    gives-value _ (h counts (subst ValuesIn (append-nil counts) (k [] nothing-in)))
+
+-- ---- a record
+
+whole-gives : {A : Type 0} {m : Layout A} {P : A → Type 0} → Gives m P → (s : List ℕ) (a : A) → whole m s ≡ some a → P a
+whole-gives {m} {P} g s a e = go (m s) refl e
+  where
+    go : (o : Option (_ × List ℕ)) → m s ≡ o → wholly o ≡ some a → P a
+    go none i e = absurd (Option·none-ne-some a e)
+    go (some (x, [])) i e = g .sure s a [] (i ∙ ap (λ (y : _). some (y, [])) (Option·some-injective x a e))
+    go (some (x, b ∷ t)) i e = absurd (Option·none-ne-some a e)
+
+-- an accepted record's numbers are in their bounds
+pub in-bounds : (t : List ℕ) (r : Record) → whole kinded t ≡ some r → Bounded r
+in-bounds t (ArticleRecord a) is = tt
+in-bounds t (PriceRecord x) is = whole-gives gives-price (drop 1 t) _ (sym (record-is t 2 (ap isSome is) (kind-byte t (PriceRecord x) is)) ∙ is)
+in-bounds t (RoundingRecord x) is = whole-gives gives-rounding (drop 1 t) _ (sym (record-is t 3 (ap isSome is) (kind-byte t (RoundingRecord x) is)) ∙ is)
+in-bounds t (PackagingRecord p) is = whole-gives gives-packaging (drop 1 t) _ (sym (record-is t 4 (ap isSome is) (kind-byte t (PackagingRecord p) is)) ∙ is)
+in-bounds t (SchemeRecord s) is = tt

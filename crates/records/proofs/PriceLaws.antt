@@ -1,0 +1,77 @@
+-- Price records: the value behind the names, where the names end, and the row.
+use Prim.Native.Nat.{ℕ, zero, suc, _+_, _-_, _<_}
+use mathlib.Core.Path.{_≡_, refl, _∙_}
+use mathlib.Core.List.{List}
+use native.Mathlib.Omega.{arith}
+use lib.ListN.{length, getD}
+use lib.IntN.{ℤ}
+use mir.Syntax.{w64}
+use mir.Val.{toZ, ofZ}
+use Rattle.rules.specs.Book.{PriceRecord}
+use Rattle.rules.specs.BookLayout.{priceBody, valueOf}
+use Rattle.rules.specs.declared.Value.{Value}
+use Rattle.rules.specs.declared.Value.the-variants.{Fixed, Percent}
+use Rattle.layout.specs.Reads.{nameStop}
+use Rattle.layout.specs.Ensures.{Number, SignedNumber}
+use Rattle.layout.proofs.LayoutLaws.{taken-are}
+use Rattle.book.specs.Records.{numberAt, signedAt, secondStop, rowAt}
+use Rattle.book.specs.Ensures.{Stands}
+use Rattle.book.proofs.PartsLaws.{price-parts, body-ok}
+use Rattle.records.specs.Asks.{OfKind, TwoNames}
+use Rattle.records.specs.Ensures.{ValueIs, RowIs, rowIn}
+use Rattle.records.proofs.FieldLaws.{kept-is, first-there, second-there, two-names}
+use Rattle.records.proofs.BoundLaws.{in-bounds}
+
+-- ---- the value
+module _ (t : List ℕ) (p : ℕ) {z : ℤ} (v : SignedNumber (signedAt t (p + 8)) 2147483648 z) where
+  pub value-percent : getD t (p + 7) 0 ≡ 0 → ValueIs t p (Percent (record { 0 = toZ w64 (ofZ w64 z) }))
+  value-percent e = record { is = rw (kept-is v, e) }
+
+  pub value-fixed : (getD t (p + 7) 0 ≡ 0 → ⊥) → ValueIs t p (Fixed (record { 0 = toZ w64 (ofZ w64 z) }))
+  value-fixed n = record { is = rw (kept-is v) (go (getD t (p + 7) 0) n) }
+    where
+      go : (flag : ℕ) → (flag ≡ 0 → ⊥) → Fixed (record { 0 = signedAt t (p + 8) }) ≡ valueOf flag (signedAt t (p + 8))
+      go zero n = absurd (n refl)
+      go (suc flag) n = refl
+
+-- ---- where its names end
+module _ {t : List ℕ} (p : OfKind 2 t) where
+  stands : Stands priceBody t 1 (secondStop t 1) 29 (PriceRecord (rowAt t 1 (nameStop t 1) (secondStop t 1)))
+  stands = price-parts t 1 (body-ok t 2 (p .ok) (p .kind))
+
+  pub price-first : 1 < length t
+  price-first = first-there 2 p (λ a c. PriceRecord (rowAt t 1 a c)) stands
+
+  module _ {a x : ℕ} (e : Number (nameStop t 1) x a) where
+    pub price-second : a < length t
+    price-second = second-there 2 p (λ a c. PriceRecord (rowAt t 1 a c)) stands e
+
+    pub price-names : {c y : ℕ} → Number (nameStop t a) y c → TwoNames t a c 29 (PriceRecord (rowAt t 1 a c))
+    price-names g = two-names 2 p (λ a c. PriceRecord (rowAt t 1 a c)) stands e g
+
+-- ---- the row
+module _ (t : List ℕ) (a p : ℕ) (here : TwoNames t a p 29 (PriceRecord (rowAt t 1 a p))) where
+  pub row-is : {text from to upTo rounding : ℕ} {value : Value}
+      → ValueIs t p value → Number (numberAt 4 t (p + 3)) 4294967296 text → Number (numberAt 4 t (p + 15)) 4294967296 from
+      → Number (numberAt 4 t (p + 19)) 4294967296 to → Number (numberAt 4 t (p + 23)) 4294967296 upTo → Number (numberAt 2 t (p + 27)) 65536 rounding
+      → RowIs t (record {
+        article = record { at = 2; size = a - 2 };
+        condition = record { at = a + 1; size = p - (a + 1) };
+        sort = getD t p 0;
+        level = getD t (p + 1) 0;
+        rule = getD t (p + 2) 0;
+        text = text;
+        value = value;
+        currency = record { 0 = getD t (p + 12) 0; 1 = getD t (p + 13) 0; 2 = getD t (p + 14) 0 };
+        from = from;
+        to = to;
+        upto = upTo;
+        rounding = rounding;
+      })
+  unfolding rowAt rowIn
+  row-is v p₁ p₂ p₃ p₄ p₅ = record {
+    is = here .is ∙ rw (taken-are t p 3 12 (omega (arith, here .long)), p₁ .is, p₂ .is, p₃ .is, p₄ .is, p₅ .is, v .is);
+    article-in = omega (arith, here .low, here .middle, here .long);
+    condition-in = omega (arith, here .middle, here .long);
+    value-in = rw (v .is) (in-bounds t (PriceRecord (rowAt t 1 a p)) (here .is));
+  }

@@ -1,0 +1,3 @@
+pub mod Asks
+pub mod Tests
+pub mod Ensures

@@ -1,0 +1,38 @@
+-- Which record it is: tests of a record by its kind and what it is found by.
+use Prim.Native.Nat.{ℕ}
+use mathlib.Core.List.{List, []}
+use mathlib.Core.Bool.{Bool, false, _&&_}
+use mathlib.Core.Option.{Option, some, none}
+use lib.Dec.{eqb}
+use Rattle.rules.specs.Lists.{same}
+use Rattle.rules.specs.Book.{Record, ArticleRecord, PriceRecord, RoundingRecord, PackagingRecord, SchemeRecord}
+use Rattle.book.specs.Records.{kindOf}
+
+-- the name that it starts with; a rounding has none
+abbrev pub firstName : Record → List ℕ
+firstName (ArticleRecord a) = a .number
+firstName (PriceRecord r) = r .article
+firstName (RoundingRecord r) = []
+firstName (PackagingRecord p) = p .article
+firstName (SchemeRecord s) = s .id
+
+unfoldable pub startsWith : ℕ → List ℕ → Option Record → Bool
+startsWith kind name none = false
+startsWith kind name (some r) = eqb (kindOf r) kind && same (firstName r) name
+
+-- the article of the number
+abbrev pub articleOf : List ℕ → Option Record → Bool
+articleOf number o = startsWith 1 number o
+
+-- a price of the article
+abbrev pub rowOf : List ℕ → Option Record → Bool
+rowOf number o = startsWith 2 number o
+
+-- the rounding of the number
+unfoldable pub roundingOf : ℕ → Option Record → Bool
+roundingOf n none = false
+roundingOf n (some (ArticleRecord a)) = false
+roundingOf n (some (PriceRecord r)) = false
+roundingOf n (some (RoundingRecord r)) = eqb (r .number) n
+roundingOf n (some (PackagingRecord p)) = false
+roundingOf n (some (SchemeRecord s)) = false
