@@ -13,7 +13,7 @@ use Rattle.rules.specs.declared.Hundredths.{Hundredths}
 use Rattle.rules.specs.declared.Value.{Value}
 use Rattle.rules.specs.declared.Value.the-variants.{Fixed, Percent}
 use Rattle.amounts.specs.Contracts.{BookValue, ExactAmount}
-use Rattle.amounts.proofs.Range.{either-in}
+use Rattle.rules.proofs.RangeLaws.{either-in}
 
 module _ (value : Value) (of : ℤ) (known : BookValue value of) where
   pub of-fits : SFits w64 of

@@ -1,4 +1,3 @@
-pub mod Range
 pub mod ExactLaws
 pub mod Steps
 pub mod RoundedLaws

@@ -18,7 +18,7 @@ use Rattle.rules.specs.declared.Cents.{Cents}
 use Rattle.rules.specs.declared.Total.{Total}
 use Rattle.rules.specs.declared.Total.the-variants.{InRange, OutOfRange}
 use Rattle.amounts.specs.Contracts.{totalAfter, addTo}
-use Rattle.amounts.proofs.Range.{either-is, either-in, in-either}
+use Rattle.rules.proofs.RangeLaws.{either-is, either-in, in-either}
 
 never : {c : Cents} → InRange c ≡ OutOfRange → ⊥
 never e = let w : _≡_ {A = ℕ} 0 1 = cc in omega arith

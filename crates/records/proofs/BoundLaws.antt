@@ -1,24 +1,25 @@
 -- The bounds that the numbers of an accepted record have, by its kind.
 use Prim.Native.Nat.{ℕ, zero, suc, _≤_}
-use mathlib.Core.Path.{_≡_, refl, sym, _∙_, ap, subst}
+use mathlib.Core.Path.{_≡_, sym, _∙_, ap, subst}
 use mathlib.Core.Bool.{true, _&&_, _||_, not}
 use mathlib.Core.List.{List, [], _∷_, _++_, append-nil}
-use mathlib.Core.Option.{Option, some, none, Option·none-ne-some, Option·some-injective}
+use mathlib.Core.Option.{some}
 use native.Mathlib.Omega.{arith}
 use lib.Dec.{eqb, leb}
 use lib.ListN.{length, drop}
 use lib.IntN.{ℤ}
 use borrow.Author.Tests.{leb-true}
 use Rattle.rules.specs.Lists.{isSome, between, same}
-use Rattle.rules.specs.Layout.{Layout, _>>=_, give, _such_, bytes, byte, times, whole, wholly}
+use Rattle.rules.specs.Layout.{_>>=_, give, _such_, bytes, byte, times, whole}
 use Rattle.rules.specs.Bytes.{number, signed, name, oneOf, capitals, eitherSide}
 use Rattle.rules.specs.Book.{Record, ArticleRecord, PriceRecord, RoundingRecord, PackagingRecord, SchemeRecord, sale, purchase, base, surcharge, discount}
 use Rattle.rules.specs.BookLayout.{kinded, priceBody, roundingBody, packagingBody, valueOf, inBounds, zeroUnlessPresent, has, unitFor, lengthUnits, volumeUnits, weightUnits, star}
 use Rattle.rules.proofs.TestLaws.{between-low, between-high}
-use Rattle.rules.proofs.GivesLaws.{Gives, gives-field, gives-any, gives-value, gives-if, gives-such}
+use Rattle.rules.proofs.GivesLaws.{Gives, gives-field, gives-any, gives-value, gives-if, gives-such, whole-gives}
+use Rattle.rules.proofs.RangeLaws.{either-in}
 use Rattle.book.proofs.PartsLaws.{record-is}
 use Rattle.records.specs.Ensures.{Bounded, ValuesIn}
-use Rattle.records.proofs.FieldLaws.{kind-byte, side-in}
+use Rattle.records.proofs.FieldLaws.{kind-byte}
 
 -- ---- each body
 
@@ -52,13 +53,13 @@ gives-rounding =
       number-low = leb-true 1 n h₁;
       step-low = between-low 1 1_000_000 step h₂;
       step-high = between-high 1 1_000_000 step h₂;
-      before-in = side-in 1_000_000 before h₃;
-      after-in = side-in 1_000_000 after h₄;
+      before-in = either-in 1_000_000 before h₃;
+      after-in = either-in 1_000_000 after h₄;
     })
 
 -- values that are all within `most`, and what is behind them
 values-in : {most : ℕ} → most ≤ 10_000_000 → (z : ℤ) (zs : List ℤ) → eitherSide most z ≡ true → ValuesIn zs → ValuesIn (z ∷ zs)
-values-in {most} h z zs e hs zero = omega (arith, side-in most z e)
+values-in {most} h z zs e hs zero = omega (arith, either-in most z e)
 values-in h z zs e hs (suc i) = hs i
 
 -- values in bounds, whatever stands behind them in bounds
@@ -87,14 +88,6 @@ gives-packaging =
     gives-value _ (h counts (subst ValuesIn (append-nil counts) (k [] nothing-in)))
 
 -- ---- a record
-
-whole-gives : {A : Type 0} {m : Layout A} {P : A → Type 0} → Gives m P → (s : List ℕ) (a : A) → whole m s ≡ some a → P a
-whole-gives {m} {P} g s a e = go (m s) refl e
-  where
-    go : (o : Option (_ × List ℕ)) → m s ≡ o → wholly o ≡ some a → P a
-    go none i e = absurd (Option·none-ne-some a e)
-    go (some (x, [])) i e = g .sure s a [] (i ∙ ap (λ (y : _). some (y, [])) (Option·some-injective x a e))
-    go (some (x, b ∷ t)) i e = absurd (Option·none-ne-some a e)
 
 -- an accepted record's numbers are in their bounds
 pub in-bounds : (t : List ℕ) (r : Record) → whole kinded t ≡ some r → Bounded r

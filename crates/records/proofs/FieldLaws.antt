@@ -8,15 +8,14 @@ use native.Mathlib.Omega.{arith}
 use native.Mathlib.Decide.{ℕ-discrete}
 use lib.Dec.{T, eqb}
 use lib.ListN.{length, getD}
-use lib.IntN.{ℤ, pos, negsuc, natAbs}
-use borrow.Author.Tests.{leb-true, eq-eqb, ne-eqb}
+use lib.IntN.{ℤ}
+use borrow.Author.Tests.{eq-eqb, ne-eqb}
 use mir.Syntax.{w64}
 use mir.Val.{toZ, ofZ}
 use mir.ValLaws.{toZ-ofZ}
 use Rattle.integers.proofs.Signed.{fits64}
 use Rattle.rules.specs.Lists.{isSome, same}
 use Rattle.rules.specs.Layout.{whole}
-use Rattle.rules.specs.Bytes.{eitherSide}
 use Rattle.rules.specs.Book.{Record, ArticleRecord, PriceRecord, PackagingRecord, SchemeRecord}
 use Rattle.rules.specs.BookLayout.{kinded, body}
 use Rattle.layout.specs.Reads.{part, nameStop}
@@ -32,10 +31,6 @@ use Rattle.records.specs.Tests.{firstName, startsWith}
 -- a number of four bytes, kept in eight
 pub kept-is : {z r : ℤ} → SignedNumber z 2147483648 r → toZ w64 (ofZ w64 r) ≡ z
 kept-is {r} p = toZ-ofZ w64 r (fits64 r (omega (arith, p .within))) ∙ p .is
-
-pub side-in : (n : ℕ) (z : ℤ) → eitherSide n z ≡ true → natAbs z ≤ n
-side-in n (pos m) e = leb-true m n e
-side-in n (negsuc m) e = leb-true (suc m) n e
 
 -- ---- the kind byte
 

@@ -1,12 +1,12 @@
 -- What every value that a layout gives is sure to have, and with it what an accepted question has.
 use Prim.Native.Nat.{ℕ, zero, suc, _≤_}
-use mathlib.Core.Path.{_≡_, refl, sym, ap, subst}
+use mathlib.Core.Path.{_≡_, refl, sym, _∙_, ap, subst}
 use mathlib.Core.Bool.{Bool, true, false, _||_}
 use mathlib.Core.List.{List, [], _∷_}
 use mathlib.Core.Option.{Option, some, none, Option·none-ne-some, Option·some-injective}
 use lib.ListN.{length}
 use Rattle.rules.specs.Lists.{same, between}
-use Rattle.rules.specs.Layout.{Layout, andThen, _>>=_, give, giveIf, _such_, bytes, byte, times, wholly}
+use Rattle.rules.specs.Layout.{Layout, andThen, _>>=_, give, giveIf, _such_, bytes, byte, times, whole, wholly}
 use Rattle.rules.specs.Bytes.{number, name, oneOf, head, capitals}
 use Rattle.rules.specs.Days.{isDay}
 use Rattle.rules.specs.Book.{sale, purchase}
@@ -54,6 +54,14 @@ gives-times (suc n) m =
     gives-field (times n m) (λ rest. give (a ∷ rest)) (gives-times n m) λ rest e.
     gives-value (a ∷ rest) (ap suc e)
 
+pub whole-gives : {A : Type 0} {m : Layout A} {P : A → Type 0} → Gives m P → (s : List ℕ) (a : A) → whole m s ≡ some a → P a
+whole-gives {m} {P} g s a e = go (m s) refl e
+  where
+    go : (o : Option (_ × List ℕ)) → m s ≡ o → wholly o ≡ some a → P a
+    go none i e = absurd (Option·none-ne-some a e)
+    go (some (x, [])) i e = g .sure s a [] (i ∙ ap (λ (y : _). some (y, [])) (Option·some-injective x a e))
+    go (some (x, b ∷ t)) i e = absurd (Option·none-ne-some a e)
+
 -- ---- a question
 
 pub record Sound (q : Question) : Type 0 where
@@ -84,12 +92,7 @@ gives-question lent =
       properties = subst (λ (k : ℕ). k ≤ 32) (sym p) (between-high 0 32 count n);
     })
 
-whole-some : {A : Type 0} (o : Option (A × List ℕ)) {a : A} → wholly o ≡ some a → (t : List ℕ) × (o ≡ some (a, t))
-whole-some none {a} e = absurd (Option·none-ne-some a e)
-whole-some (some (x, [])) {a} e = ([], ap (λ (y : _). some (y, [])) (Option·some-injective x a e))
-whole-some (some (x, b ∷ s)) {a} e = absurd (Option·none-ne-some a e)
-
 -- An accepted question asks for a day, for 1 to 100,000 pieces, and has at most 32 granted names and 32 properties.
 pub question-sound : (s : List ℕ) (q : Question) → questionOf s ≡ some q → Sound q
 unfolding questionOf
-question-sound s q e = let x = whole-some (questionLayout (length s) s) e in gives-question (length s) .sure s q (x .0) (x .1)
+question-sound s q e = whole-gives (gives-question (length s)) s q e

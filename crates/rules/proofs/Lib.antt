@@ -1,6 +1,7 @@
 pub mod Encode
 pub mod WorkedSums
 pub mod TestLaws
+pub mod RangeLaws
 pub mod ListLaws
 pub mod RefusalLaws
 pub mod GivesLaws
