@@ -35,7 +35,7 @@ step₅-some (r ∷ rs) = ap isSome (best-taken (held r rs .2))
 
 -- ---- a chosen row is of its slot's level
 
-survivors : (P : Row → Type 0) (date quantity : ℕ) (c : Option (List ℕ)) (rs : List Row) → All P rs → All P (surviving date quantity c rs)
+pub survivors : (P : Row → Type 0) (date quantity : ℕ) (c : Option (List ℕ)) (rs : List Row) → All P rs → All P (surviving date quantity c rs)
 unfolding surviving step₁ step₂ step₄
 survivors P date quantity c rs hs =
     all-keep P (reaches quantity) (step₃ c (step₂ date (step₁ rs))) (third c (step₂ date (step₁ rs)) (all-keep P (holdsOn date) (step₁ rs) (all-keep P (λ r. not (percentBase r)) rs hs)))
@@ -52,7 +52,7 @@ all-imply : {P Q : Row → Type 0} → ((r : Row) → P r → Q r) → (rs : Lis
 all-imply f [] hs = tt
 all-imply f (r ∷ rs) hs = (f r (hs .0), all-imply f rs (hs .1))
 
-level-at : (rs : List Row) (q : Question) (s : Slot) → All (λ r. r .level ≡ s .level) (rowsAt rs q s)
+pub level-at : (rs : List Row) (q : Question) (s : Slot) → All (λ r. r .level ≡ s .level) (rowsAt rs q s)
 unfolding rowsAt component
 level-at rs q s =
     all-imply

@@ -1,0 +1,154 @@
+-- What the slots hold after the walk is what the definition chooses, slot by slot.
+use Prim.Native.Nat.{ℕ, zero, suc, _+_, _-_, _*_, _/_, _%_, _≤_, _<_}
+use mathlib.Core.Path.{_≡_, refl, sym, _∙_, ap, subst}
+use mathlib.Core.Bool.{Bool, true, false, cond}
+use mathlib.Core.List.{List, [], _∷_}
+use mathlib.Core.Option.{Option, some, none, Option·map}
+use native.Mathlib.Omega.{arith}
+use lib.ListN.{length, take, drop, getD, length-drop}
+use lib.Seq.{length-take-le}
+use Rattle.rules.specs.Lists.{isSome, keep}
+use Rattle.rules.specs.Layout.{whole}
+use Rattle.rules.specs.Book.{Row, Record, PriceRecord, rows}
+use Rattle.rules.specs.BookLayout.{kinded}
+use Rattle.rules.specs.Question.{Question, on}
+use Rattle.rules.specs.Choice.{choose}
+use Rattle.rules.specs.Lines.{Chosen}
+use Rattle.rules.specs.declared.PriceRow.{PriceRow}
+use Rattle.rules.proofs.ChoiceLaws as Choice
+use Rattle.rules.proofs.ListLaws.{All}
+use Rattle.layout.specs.Reads.{nameStop}
+use Rattle.book.specs.Records.{recordsLeft}
+use Rattle.records.specs.Asks.{OfKind}
+use Rattle.records.specs.Ensures.{rowIn, RowIs}
+use Rattle.records.proofs.FieldLaws.{kind-byte}
+use Rattle.question.specs.declared.Ask.{Ask}
+use Rattle.question.specs.Counted.{valuesAt, Standing}
+use Rattle.question.specs.Parts.{nameAt, namesAt, NamesStand}
+use Rattle.question.specs.Asked.{askIn, AskIs}
+use Rattle.question.proofs.CountedLaws.{walk-step}
+use Rattle.question.proofs.PartLaws.{granted-stop}
+use Rattle.choice.specs.declared.hands.Hand.{Hand}
+use Rattle.choice.specs.declared.hands.Seen.{Seen}
+use Rattle.choice.specs.declared.Walked.{Walked}
+use Rattle.choice.specs.Slots.{inSlot, slotChosen}
+use Rattle.choice.specs.Hands.{takenOf, TakenIs, RowThere, HandIs, NoRow, OneRow, SeenIs}
+use Rattle.choice.specs.Walk.{Asking, askOn, unseen, seenOf, Chooses, SlotsHold, WalkIs}
+use Rattle.choice.specs.Span.{inSlots}
+use Rattle.choice.proofs.PassingLaws.{same-row}
+use Rattle.choice.proofs.SlotLaws.{Granted}
+use Rattle.choice.proofs.SpanLaws.{front}
+
+-- ---- a slot's hand
+
+pub seen-taken : {w : List ℕ} {s : Seen} {state : Choice.Seen} → SeenIs w s state → HandIs w (takenOf s) (Choice.taken state)
+unfolding takenOf
+seen-taken {w} {s} {state} p = rw (p .seen) (go (state .seen))
+  where
+    go : (b : Bool) → HandIs w (cond b (s .asked) (s .other)) (cond b (state .asked) (state .other))
+    go true = p .asked
+    go false = p .other
+
+module _ {w : List ℕ} {rs : List Row} {q : Question} {slots : List Seen} (holds : SlotsHold w rs q slots) where
+  -- slot i holds what the five steps choose of its rows
+  pub slot-hand : (i : ℕ) → i < 99 → HandIs w (takenOf (getD slots i unseen)) (choose (q .date) (q .quantity) (q .currency) (keep (inSlot q (i / 33) (i % 33)) rs))
+  unfolding seenOf
+  slot-hand i h =
+      let d : i ≡ i / 33 * 33 + i % 33 = omega arith in
+      let l : i / 33 < 3 = omega arith in
+      let m : i % 33 < 33 = omega arith in
+      subst (HandIs w (takenOf (getD slots i unseen))) (Choice.one-walk (q .date) (q .quantity) (q .currency) (keep (inSlot q (i / 33) (i % 33)) rs))
+      (subst (λ (k : ℕ). HandIs w (takenOf (getD slots k unseen)) (Choice.taken (seenOf q rs (i / 33) (i % 33)))) (sym d) (seen-taken (holds .each (i / 33) (i % 33) l m)))
+
+  module _ {i : ℕ} (h : i < 99) {hand : Hand} (t : TakenIs (getD slots i unseen) hand) where
+    here : HandIs w hand (choose (q .date) (q .quantity) (q .currency) (keep (inSlot q (i / 33) (i % 33)) rs))
+    here = rw (t .is) (slot-hand i h)
+
+    -- no row in hand: the slot chooses none
+    pub slot-empty : hand .at ≡ 0 → slotChosen rs q (i / 33) (i % 33) ≡ none
+    unfolding slotChosen
+    slot-empty z = go here
+      where
+        go : {o : Option Row} → HandIs w hand o → Option·map {B = Chosen} (λ x. record { place = i % 33; row = x }) o ≡ none
+        go (NoRow e) = refl
+        go (OneRow b x u f) = absurd (omega (arith, x .low))
+
+    -- a row in hand: it is the slot's, and stands in the book
+    pub slot-full : (hand .at ≡ 0 → ⊥) → (x : Row) × RowThere w (hand .at) (hand .end) x × Chooses q rs i x
+    unfolding slotChosen
+    slot-full n = go here refl
+      where
+        go : {o : Option Row} → HandIs w hand o → choose (q .date) (q .quantity) (q .currency) (keep (inSlot q (i / 33) (i % 33)) rs) ≡ o
+            → (x : Row) × RowThere w (hand .at) (hand .end) x × Chooses q rs i x
+        go (NoRow z) e = absurd (n z)
+        go (OneRow b x u f) e = (b, x, record { is = ap (Option·map (λ y. record { place = i % 33; row = y })) e })
+
+-- ---- the row in hand can be read
+
+module _ {w : List ℕ} {at end : ℕ} {r : Row} (there : RowThere w at end r) where
+  pub there-kind : OfKind 2 (take (end - at) (drop at w))
+  there-kind = record { kind = kind-byte (take (end - at) (drop at w)) (PriceRecord r) (there .is); ok = ap isSome (there .is) }
+
+  pub there-row : (row : PriceRow) → RowIs (take (end - at) (drop at w)) row → rowIn (take (end - at) (drop at w)) row ≡ r
+  there-row row p = same-row (sym (p .is) ∙ there .is)
+
+-- ---- the question
+
+pub asking : {q : List ℕ} {ask : Ask} → AskIs q ask → Asking q ask
+asking a = record { inside = a .inside; few = a .conditions; names = a .names }
+
+pub asking-on : {q : List ℕ} {ask : Ask} → Asking q ask → (d : ℕ) → Asking q (askOn ask d)
+asking-on a d = record { inside = a .inside; few = a .few; names = a .names }
+
+pub ask-on : (q : List ℕ) (ask : Ask) (d : ℕ) → askIn q (askOn ask d) ≡ on (askIn q ask) d
+unfolding on
+ask-on q ask d = refl
+
+-- its granted names are few and not empty, so that the 99 slots choose what the definition chooses
+module _ (q : List ℕ) where
+  names-count : (at n : ℕ) → length (namesAt q at n) ≡ n
+  unfolding valuesAt
+  names-count at zero = refl
+  names-count at (suc n) = ap suc (names-count (nameStop q at) n)
+
+  names-full : (at n : ℕ) → NamesStand q at n → All (λ x. 1 ≤ length x) (namesAt q at n)
+  unfolding valuesAt
+  names-full at zero p = tt
+  names-full at (suc n) p =
+      let s = walk-step p (omega arith) in
+      let e : suc n - 1 ≡ n = omega arith in
+      let stop = granted-stop {n = getD q at 0} {top = getD q at 0 + 1} (s .here) (record { is = refl; below = omega arith }) in
+      let k : getD q at 0 ≤ length (drop (at + 1) q) = rw length-drop (omega (arith, stop .fits)) in
+      let j : nameStop q at - (at + 1) ≡ getD q at 0 = omega arith in
+      let m : length (nameAt q at) ≡ getD q at 0 = rw j (length-take-le (getD q at 0) (drop (at + 1) q) k) in
+      (omega (arith, stop .low), names-full (nameStop q at) n (rw e at (s .rest)))
+
+pub asking-granted : {q : List ℕ} {ask : Ask} → Asking q ask → Granted (askIn q ask .granted)
+asking-granted {q} {ask} a = record {
+  few = subst (λ (n : ℕ). n ≤ 32) (sym (names-count q (ask .granted) (ask .conditions))) (a .few);
+  full = names-full q (ask .granted) (ask .conditions) (a .names);
+}
+
+-- ---- a walk over the span of another, on another day
+
+module _ {w : List ℕ} {n : ℕ} (fits : n ≤ length w) where
+  there-whole : {at end : ℕ} {r : Row} → RowThere (take n w) at end r → RowThere w at end r
+  there-whole {at} {end} p =
+      let k : end ≤ n = omega (arith, p .fits, length-take-le n w fits) in
+      record { low = p .low; order = p .order; fits = omega arith; is = sym (ap (whole kinded) (front (end - at) at n w (omega (arith, p .order)))) ∙ p .is }
+
+  hand-whole : {h : Hand} {o : Option Row} → HandIs (take n w) h o → HandIs w h o
+  hand-whole (NoRow z) = NoRow z
+  hand-whole (OneRow r x u f) = OneRow r (there-whole x) u f
+
+  seen-whole : {s : Seen} {state : Choice.Seen} → SeenIs (take n w) s state → SeenIs w s state
+  seen-whole p = record { seen = p .seen; asked = hand-whole (p .asked); other = hand-whole (p .other) }
+
+pub walk-within : {w : List ℕ} {from : ℕ} {q : Question} {r r′ : Walked} (d : ℕ) → WalkIs w from q r → WalkIs (take (r .last) w) (r .first) (on q d) r′ → SlotsHold w (rows (recordsLeft w from)) (on q d) (r′ .slots)
+unfolding inSlots inSlot seenOf on
+walk-within {w} {from} {q} {r} {r′} d a b = record {
+  long = b .slots .long;
+  each = λ level place l m.
+      subst (SeenIs w (getD (r′ .slots) (level * 33 + place) unseen)) (ap (Choice.walk d (q .quantity) (q .currency) Choice.start) (a .span .same level place l m))
+      (seen-whole (a .span .fits) (b .slots .each level place l m));
+}

@@ -1,0 +1,7 @@
+pub mod SlotLaws
+pub mod HandLaws
+pub mod PlaceLaws
+pub mod PassingLaws
+pub mod WalkLaws
+pub mod ChosenLaws
+pub mod SpanLaws

@@ -1,0 +1,231 @@
+-- A record that goes by: its slot, whether it holds, and in which currency it is, by its fields.
+use Prim.Native.Nat.{ℕ, _+_, _-_, _*_, _≤_, _<_}
+use mathlib.Core.Path.{_≡_, refl, sym, _∙_, ap, subst}
+use mathlib.Core.Bool.{Bool, true, false, _&&_, _||_, not, cond, false≢true}
+use mathlib.Core.List.{List, [], _∷_}
+use mathlib.Core.Option.{Option, some, none}
+use native.Mathlib.Omega.{arith}
+use native.Mathlib.Decide.{decLt}
+use lib.Dec.{eqb, leb, ltb}
+use lib.ListN.{length, take, drop}
+use borrow.Author.Tests.{lt-ltb, le-ltb, eq-eqb, ne-eqb, eqb-true, eqb-false}
+use Rattle.rules.specs.Lists.{same, between}
+use Rattle.rules.specs.Layout.{whole}
+use Rattle.rules.specs.Days.{isDay}
+use Rattle.rules.specs.Book.{Row, Record, ArticleRecord, PriceRecord, RoundingRecord, PackagingRecord, SchemeRecord}
+use Rattle.rules.specs.BookLayout.{kinded}
+use Rattle.rules.specs.Question.{Question, noCurrency, askedOf}
+use Rattle.rules.specs.Choice.{isPercent}
+use Rattle.rules.specs.declared.PriceRow.{PriceRow}
+use Rattle.rules.specs.declared.Currency.{Currency}
+use Rattle.rules.proofs.TestLaws.{and-left}
+use Rattle.rules.proofs.ChoiceLaws.{isAsked}
+use Rattle.layout.specs.Ensures.{Number, Says}
+use Rattle.book.specs.Records.{kindOf}
+use Rattle.records.specs.Tests as Tests
+use Rattle.records.specs.Asks.{Accepted, OfKind}
+use Rattle.records.proofs.FieldLaws.{kind-byte}
+use Rattle.records.specs.Ensures.{rowIn, RowIs}
+use Rattle.question.specs.declared.Ask.{Ask}
+use Rattle.question.specs.Parts.{namesAt}
+use Rattle.question.specs.Asked.{askIn, lettersOf}
+use Rattle.choice.specs.declared.hands.Passing.{Passing}
+use Rattle.choice.specs.Slots.{levelOf, placeOf, inSlot}
+use Rattle.choice.specs.Walk.{slotAt, slotOf, passingOf, inAsked, RowPasses, Passes}
+
+-- ---- the slot
+
+module _ (level place : ℕ) where
+  pub slot-high : 2 < level → Number (slotAt level place) 100 99
+  unfolding slotAt
+  slot-high h = record { is = rw (le-ltb level 3 h); below = omega arith }
+
+  module _ (l : level ≤ 2) where
+    pub slot-far : 32 < place → Number (slotAt level place) 100 99
+    unfolding slotAt
+    slot-far h =
+        let k : level < 3 = omega arith in
+        record { is = rw (lt-ltb level 3 k, le-ltb place 33 h); below = omega arith }
+
+    pub slot-near : place ≤ 32 → Number (slotAt level place) 100 (level * 33 + place)
+    unfolding slotAt
+    slot-near h =
+        let k : level < 3 = omega arith in
+        let j : place < 33 = omega arith in
+        record { is = rw (lt-ltb level 3 k, lt-ltb place 33 j); below = omega arith }
+
+module _ (t : List ℕ) (row : PriceRow) (q : List ℕ) (ask : Ask) where
+  pub slot-other : (row .sort ≡ ask .sort → ⊥) → Number (slotOf (askIn q ask) (rowIn t row)) 100 99
+  unfolding slotOf rowIn
+  slot-other n = record { is = rw (ne-eqb (row .sort) (ask .sort) n); below = omega arith }
+
+  pub slot-is : {level place i : ℕ} → row .sort ≡ ask .sort → Number (levelOf (row .level)) 4 level
+      → Number (placeOf (namesAt q (ask .granted) (ask .conditions)) (take (row .condition .at + row .condition .size - row .condition .at) (drop (row .condition .at) t))) 34 place
+      → Number (slotAt level place) 100 i → Number (slotOf (askIn q ask) (rowIn t row)) 100 i
+  unfolding slotOf rowIn
+  slot-is e l p s =
+      let k : row .condition .at + row .condition .size - row .condition .at ≡ row .condition .size = omega arith in
+      record { is = s .is ∙ rw (eq-eqb (row .sort) (ask .sort) e, l .is, p .is, k); below = s .below }
+
+-- a slot has one level and one place
+slot-test : (a b level place : ℕ) → level < 3 → place < 33 → eqb (slotAt a b) (level * 33 + place) ≡ (eqb a level && eqb b place)
+unfolding slotAt
+slot-test a b level place l p = go (decLt a 3) (decLt b 33)
+  where
+    far : (a < 3 → b < 33 → ⊥) → eqb 99 (level * 33 + place) ≡ (eqb a level && eqb b place)
+    far n = ne-eqb 99 (level * 33 + place) (λ e. omega arith) ∙ sym (each (eqb a level) (eqb b place) refl refl)
+      where
+        each : (x y : Bool) → eqb a level ≡ x → eqb b place ≡ y → (x && y) ≡ false
+        each true true e f = absurd (n (omega (arith, eqb-true a level e)) (omega (arith, eqb-true b place f)))
+        each true false e f = refl
+        each false y e f = refl
+
+    near : a < 3 → b < 33 → (x y : Bool) → eqb a level ≡ x → eqb b place ≡ y → eqb (a * 33 + b) (level * 33 + place) ≡ (x && y)
+    near h k true true e f = eq-eqb (a * 33 + b) (level * 33 + place) (omega (arith, eqb-true a level e, eqb-true b place f))
+    near h k true false e f = ne-eqb (a * 33 + b) (level * 33 + place) (λ g. eqb-false b place f (omega (arith, eqb-true a level e)))
+    near h k false y e f = ne-eqb (a * 33 + b) (level * 33 + place) (λ g. eqb-false a level e (omega arith))
+
+    go : Dec (a < 3) → Dec (b < 33) → eqb (cond (ltb a 3 && ltb b 33) (a * 33 + b) 99) (level * 33 + place) ≡ (eqb a level && eqb b place)
+    go (yes h) (yes k) = rw (lt-ltb a 3 h, lt-ltb b 33 k) (near h k (eqb a level) (eqb b place) refl refl)
+    go (yes h) (no k) =
+        let j : 33 ≤ b = omega arith in
+        rw (lt-ltb a 3 h, le-ltb b 33 j) (far (λ x y. k y))
+    go (no h) k =
+        let j : 3 ≤ a = omega arith in
+        rw (le-ltb a 3 j) (far (λ x y. h x))
+
+pub slot-in : (q : Question) (r : Row) (level place : ℕ) → level < 3 → place < 33 → inSlot q level place r ≡ (same (r .article) (q .article) && eqb (slotOf q r) (level * 33 + place))
+unfolding inSlot slotOf
+slot-in q r level place l p = ap (λ b. same (r .article) (q .article) && b) (go (eqb (r .sort) (q .sort)))
+  where
+    go : (b : Bool) → (b && (eqb (levelOf (r .level)) level && eqb (placeOf (q .granted) (r .condition)) place))
+        ≡ eqb (cond b (slotAt (levelOf (r .level)) (placeOf (q .granted) (r .condition))) 99) (level * 33 + place)
+    go true = sym (slot-test (levelOf (r .level)) (placeOf (q .granted) (r .condition)) level place l p)
+    go false = sym (ne-eqb 99 (level * 33 + place) (λ e. omega arith))
+
+-- ---- the tests
+
+module _ (from to date : ℕ) where
+  pub holds-then : {a b : Bool} → (leb from date && leb date to) ≡ true → a ≡ isDay from → b ≡ isDay to → Says (isDay from && (isDay to && between from to date)) (a && b)
+  holds-then t e f = record { is = rw (t, e, f) (ap (λ x. isDay from && x) (and-yes (isDay to))) }
+    where
+      and-yes : (b : Bool) → (b && true) ≡ b
+      and-yes true = refl
+      and-yes false = refl
+
+  pub holds-not : (leb from date && leb date to) ≡ false → Says (isDay from && (isDay to && between from to date)) false
+  holds-not t = record { is = rw t (none (isDay from) (isDay to)) }
+    where
+      none : (a b : Bool) → (a && (b && false)) ≡ false
+      none true true = refl
+      none true false = refl
+      none false b = refl
+
+three : (a b c : Bool) → (a && (b && (c && true))) ≡ ((a && b) && c)
+three true true true = refl
+three true true false = refl
+three true false c = refl
+three false b c = refl
+
+pub asked-is : (a c : Currency)
+    → Says (inAsked (askedOf (lettersOf a)) (lettersOf c)) (not (eqb (a .0) 0 && eqb (a .1) 0 && eqb (a .2) 0) && eqb (c .0) (a .0) && eqb (c .1) (a .1) && eqb (c .2) (a .2))
+asked-is a c = record {
+  is =
+      go (same (lettersOf a) noCurrency)
+      ∙ (λ i. not (three (eqb (a .0) 0) (eqb (a .1) 0) (eqb (a .2) 0) i) && three (eqb (c .0) (a .0)) (eqb (c .1) (a .1)) (eqb (c .2) (a .2)) i)
+      ∙ four (not (eqb (a .0) 0 && eqb (a .1) 0 && eqb (a .2) 0)) (eqb (c .0) (a .0)) (eqb (c .1) (a .1)) (eqb (c .2) (a .2));
+}
+  where
+    go : (x : Bool) → inAsked (cond x none (some (lettersOf a))) (lettersOf c) ≡ (not x && same (lettersOf c) (lettersOf a))
+    go true = refl
+    go false = refl
+
+    four : (n x y z : Bool) → (n && ((x && y) && z)) ≡ (((n && x) && y) && z)
+    four true x y z = refl
+    four false x y z = refl
+
+-- ---- a row
+
+in-asked : (o : Option (List ℕ)) (r : Row) → isAsked o r ≡ inAsked o (r .currency)
+in-asked none r = refl
+in-asked (some c) r = refl
+
+pub row-passes : (t : List ℕ) (row : PriceRow) (at end : ℕ) (q : List ℕ) (ask : Ask) {slot : ℕ} {percent holds asked : Bool}
+    → Number (slotOf (askIn q ask) (rowIn t row)) 100 slot → Says (isPercent (row .value)) percent
+    → Says (isDay (row .from) && (isDay (row .to) && between (row .from) (row .to) (ask .date))) holds
+    → Says (inAsked (askedOf (lettersOf (ask .currency))) (lettersOf (row .currency))) asked
+    → RowPasses (askIn q ask) at end (rowIn t row)
+    (record {
+      slot = slot;
+      stands = not (eqb (row .level) 66 && percent) && holds;
+      asked = asked;
+      reaches = eqb (row .upto) 0 || leb (ask .quantity) (row .upto);
+      hand = record { at = at; end = end; upto = row .upto; from = row .from };
+    })
+unfolding passingOf rowIn
+row-passes t row at end q ask s p h a = record {
+  is = λ i.
+      record {
+        slot = s .is i;
+        stands = not (eqb (row .level) 66 && sym (p .is) i) && sym (h .is) i;
+        asked = (sym (a .is) ∙ sym (in-asked (askedOf (lettersOf (ask .currency))) (rowIn t row))) i;
+        reaches = eqb (row .upto) 0 || leb (ask .quantity) (row .upto);
+        hand = record { at = at; end = end; upto = row .upto; from = row .from };
+      };
+  below = s .below;
+}
+
+-- ---- any record
+
+-- a record is one row
+pub same-row : {x y : Row} → some (PriceRecord x) ≡ some (PriceRecord y) → x ≡ y
+same-row {x} e = ap asRow e
+  where
+    asRow : Option Record → Row
+    asRow none = x
+    asRow (some (ArticleRecord a)) = x
+    asRow (some (PriceRecord r)) = r
+    asRow (some (RoundingRecord r)) = x
+    asRow (some (PackagingRecord p)) = x
+    asRow (some (SchemeRecord s)) = x
+
+-- the asked article's number, as the code takes it out of the question
+abbrev numberIn : List ℕ → Ask → List ℕ
+numberIn q ask = take (ask .article .at + ask .article .size - ask .article .at) (drop (ask .article .at) q)
+
+number-is : (q : List ℕ) (ask : Ask) → numberIn q ask ≡ askIn q ask .article
+number-is q ask =
+    let k : ask .article .at + ask .article .size - ask .article .at ≡ ask .article .size = omega arith in
+    rw k
+
+module _ (t q : List ℕ) (ask : Ask) {b : Bool} where
+  pub article-says : Says (Tests.articleOf (numberIn q ask) (whole kinded t)) b → Says (Tests.articleOf (askIn q ask .article) (whole kinded t)) b
+  article-says s = record { is = sym (ap (λ (n : List ℕ). Tests.articleOf n (whole kinded t)) (number-is q ask)) ∙ s .is }
+
+  module _ (s : Says (Tests.rowOf (numberIn q ask) (whole kinded t)) b) where
+    says : Tests.rowOf (askIn q ask .article) (whole kinded t) ≡ b
+    says = sym (ap (λ (n : List ℕ). Tests.rowOf n (whole kinded t)) (number-is q ask)) ∙ s .is
+
+    pub row-kind : b ≡ true → Accepted t → OfKind 2 t
+    unfolding Tests.startsWith
+    row-kind e a = go (whole kinded t) refl (s .is ∙ e)
+      where
+        go : (o : Option Record) → whole kinded t ≡ o → Tests.rowOf (numberIn q ask) o ≡ true → OfKind 2 t
+        go none f g = absurd (false≢true g)
+        go (some r) f g = record { kind = kind-byte t r f ∙ eqb-true (kindOf r) 2 (and-left (eqb (kindOf r) 2) _ g); ok = a .ok }
+
+    module _ (at end : ℕ) where
+      pub passes-row : {row : PriceRow} {p : Passing} → b ≡ true → RowIs t row → RowPasses (askIn q ask) at end (rowIn t row) p → Passes (askIn q ask) at end (whole kinded t) p
+      passes-row {row} {p} e r h = record {
+        below = h .below;
+        row = λ x f g. h .is ∙ ap (passingOf (askIn q ask) at end) (same-row (sym (r .is) ∙ f));
+        other = λ f. absurd (false≢true (sym f ∙ says ∙ e));
+      }
+
+      pub passes-other : {p : Passing} → b ≡ false → p .slot ≡ 99 → Passes (askIn q ask) at end (whole kinded t) p
+      unfolding Tests.startsWith
+      passes-other e z = record {
+        below = omega arith;
+        row = λ x f g. absurd (false≢true (sym (says ∙ e) ∙ (ap (Tests.rowOf (askIn q ask .article)) f ∙ g)));
+        other = λ f. z;
+      }

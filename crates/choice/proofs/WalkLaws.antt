@@ -1,0 +1,227 @@
+-- The walk over the records: each slot sees the rows of its level and place, and no others, in the book's order.
+use Prim.Native.Nat.{ℕ, _+_, _-_, _*_, _/_, _%_, _≤_, _<_}
+use mathlib.Core.Path.{_≡_, refl, sym, _∙_, ap, subst}
+use mathlib.Core.Bool.{Bool, true, false, _&&_, _||_, not, cond, false≢true}
+use mathlib.Core.List.{List, [], _∷_}
+use mathlib.Core.Option.{Option, some, none}
+use native.Mathlib.Omega.{arith}
+use native.Mathlib.Decide.{decLt}
+use lib.Dec.{eqb, leb, ltb}
+use lib.ListN.{length, take, drop, getD, set, replicate, length-set, length-replicate, getD-replicate}
+use lib.Seq.{getD-set-same, getD-set-other}
+use borrow.Author.Tests.{lt-ltb, le-ltb, eq-eqb, ne-eqb, eqb-true, eqb-false}
+use Rattle.rules.specs.Lists.{same, isSome, keep, consIf, consSome, pick, first}
+use Rattle.rules.specs.Layout.{whole}
+use Rattle.rules.specs.Book.{Row, Record, ArticleRecord, PriceRecord, RoundingRecord, PackagingRecord, SchemeRecord, rows, articles, articleOf}
+use Rattle.rules.specs.BookLayout.{kinded}
+use Rattle.rules.specs.Question.{Question}
+use Rattle.rules.specs.Choice.{better, choose}
+use Rattle.rules.proofs.TestLaws.{and-false, or-false, or-assoc}
+use Rattle.rules.proofs.BestLaws.{inHand}
+use Rattle.rules.proofs.ChoiceLaws as Choice
+use Rattle.layout.specs.Reads.{part}
+use Rattle.layout.specs.Ensures.{Number, Says}
+use Rattle.book.specs.Records.{recordsLeft}
+use Rattle.book.specs.Ensures.{Between, RecordHere, StopIs}
+use Rattle.book.proofs.WalkLaws.{pass-here, pass-next, pass-record, pass-end}
+use Rattle.records.specs.Asks.{Accepted}
+use Rattle.records.specs.Tests as Tests
+use Rattle.choice.specs.declared.hands.Hand.{Hand}
+use Rattle.choice.specs.declared.hands.Seen.{Seen}
+use Rattle.choice.specs.declared.hands.Passing.{Passing}
+use Rattle.choice.specs.declared.Walked.{Walked}
+use Rattle.choice.specs.declared.span.Span.{Span}
+use Rattle.choice.specs.Slots.{inSlot}
+use Rattle.choice.specs.Hands.{limitOf, betterHand, handAfter, seenAfter, HandAfter, SeenAfter, RowThere, HandIs, NoRow, OneRow, SeenIs}
+use Rattle.choice.specs.Walk.{slotOf, passingOf, Passes, unseen, seenOf, WalkIs}
+use Rattle.choice.specs.Span.{SpanAfter}
+use Rattle.choice.proofs.PassingLaws.{slot-in}
+use Rattle.choice.proofs.SpanLaws.{Spanning, span-start, pass-outside, span-turn, span-end}
+
+-- ---- a slot sees a row
+
+better-hand : (new old : Hand) (r b : Row) → new .upto ≡ r .upTo → old .upto ≡ b .upTo → new .from ≡ r .from → old .from ≡ b .from → betterHand new old ≡ better r b
+unfolding betterHand limitOf
+better-hand new old r b u v f g = rw (u, v, f, g)
+
+module _ {w : List ℕ} {new : Hand} {r : Row} (there : RowThere w (new .at) (new .end) r) (u : new .upto ≡ r .upTo) (f : new .from ≡ r .from) where
+  hand-counts : {old : Hand} {o : Option Row} → HandIs w old o → HandIs w (handAfter true old new) (inHand o r)
+  unfolding handAfter
+  hand-counts {old} (NoRow z) = rw (eq-eqb (old .at) 0 z) (OneRow r there u f)
+  hand-counts {old} (OneRow b x v g) =
+      rw (ne-eqb (old .at) 0 (λ e. omega (arith, x .low)), better-hand new old r b u v f g)
+      (go (better r b))
+    where
+      go : (t : Bool) → HandIs w (cond t new old) (some (cond t r b))
+      go true = OneRow r there u f
+      go false = OneRow b x v g
+
+  hand-is : (counts : Bool) {old : Hand} {o : Option Row} → HandIs w old o → HandIs w (handAfter counts old new) (Choice.handIf counts o r)
+  hand-is true h = hand-counts h
+  hand-is false h = unfold handAfter in h
+
+pub seen-row : (q : Question) (at end : ℕ) {w : List ℕ} {r : Row} {s : Seen} {state : Choice.Seen} → RowThere w at end r → SeenIs w s state
+    → SeenIs w (seenAfter s (passingOf q at end r)) (Choice.see (q .date) (q .quantity) (q .currency) state r)
+unfolding seenAfter passingOf
+seen-row q at end {r = r} there p = record {
+  seen = ap (λ b. b || (Choice.stands (q .date) r && Choice.isAsked (q .currency) r)) (p .seen);
+  asked = hand-is there refl refl _ (p .asked);
+  other = hand-is there refl refl _ (p .other);
+}
+
+-- ---- a slot, and the rows that are left
+
+-- once it has seen those that are left, the slot will have seen all
+pub record Sees (w : List ℕ) (q : Question) (level place : ℕ) (slot : Seen) (left all : List Row) : Type 0 where
+  pub state : Choice.Seen
+  pub is : SeenIs w slot state
+  pub rest : Choice.walk (q .date) (q .quantity) (q .currency) state (keep (inSlot q level place) left) ≡ seenOf q all level place
+
+module _ {w : List ℕ} {q : Question} {level place : ℕ} (l : level < 3) (m : place < 33) {all : List Row} where
+  -- a row that is not of this slot
+  sees-past : {slot : Seen} {r : Row} {left : List Row} → inSlot q level place r ≡ false → Sees w q level place slot (r ∷ left) all → Sees w q level place slot left all
+  sees-past {r = r} {left} t s = record {
+    state = s .state;
+    is = s .is;
+    rest = sym (ap (λ b. Choice.walk (q .date) (q .quantity) (q .currency) (s .state) (consIf b r (keep (inSlot q level place) left))) t) ∙ s .rest;
+  }
+
+  module _ (slots : List Seen) (i : ℕ) (new : Seen) where
+    -- another slot is set
+    sees-not : {left : List Row} → (i ≡ level * 33 + place → ⊥) → Sees w q level place (getD slots (level * 33 + place) unseen) left all
+        → Sees w q level place (getD (set slots i new) (level * 33 + place) unseen) left all
+    sees-not n s = rw (getD-set-other slots i (level * 33 + place) new unseen (λ e. n (sym e))) s
+
+    -- a row of this slot
+    sees-row : (at end : ℕ) {r : Row} {left : List Row} → length slots ≡ 100 → RowThere w at end r → i ≡ level * 33 + place → inSlot q level place r ≡ true
+        → new ≡ seenAfter (getD slots i unseen) (passingOf q at end r) → Sees w q level place (getD slots (level * 33 + place) unseen) (r ∷ left) all
+        → Sees w q level place (getD (set slots i new) (level * 33 + place) unseen) left all
+    sees-row at end {r} {left} long there e t f s =
+        let here : i < length slots = omega (arith, long) in
+        let now : getD (set slots i new) (level * 33 + place) unseen ≡ seenAfter (getD slots (level * 33 + place) unseen) (passingOf q at end r) =
+        rw (← e) (getD-set-same slots i new unseen here ∙ f) in
+        record {
+          state = Choice.see (q .date) (q .quantity) (q .currency) (s .state) r;
+          is = rw now (seen-row q at end there (s .is));
+          rest = sym (ap (λ b. Choice.walk (q .date) (q .quantity) (q .currency) (s .state) (consIf b r (keep (inSlot q level place) left))) t) ∙ s .rest;
+        }
+
+-- any record goes by
+module _ {w : List ℕ} {q : Question} {at end : ℕ} {o : Option Record} {p : Passing} (pass : Passes q at end o p) (there : (r : Row) → o ≡ some (PriceRecord r) → RowThere w at end r)
+    (slots : List Seen) (long : length slots ≡ 100) {new : Seen} (after : SeenAfter (getD slots (p .slot) unseen) p new) (rs : List Record) {all : List Row} {level place : ℕ}
+    (l : level < 3) (m : place < 33) where
+  sees-turn : Sees w q level place (getD slots (level * 33 + place) unseen) (rows (consSome o rs)) all → Sees w q level place (getD (set slots (p .slot) new) (level * 33 + place) unseen) (rows rs) all
+  unfolding Tests.startsWith passingOf
+  sees-turn = go o refl
+    where
+      Seen-to : List Record → Type 0
+      Seen-to xs = Sees w q level place (getD slots (level * 33 + place) unseen) (rows xs) all
+
+      Done : Type 0
+      Done = Sees w q level place (getD (set slots (p .slot) new) (level * 33 + place) unseen) (rows rs) all
+
+      skip : Tests.rowOf (q .article) o ≡ false → Seen-to rs → Done
+      skip e s = sees-not l m slots (p .slot) new (λ f. omega (arith, pass .other e)) s
+
+      mine : (r : Row) → o ≡ some (PriceRecord r) → p ≡ passingOf q at end r → same (r .article) (q .article) ≡ true → (b : Bool) → eqb (slotOf q r) (level * 33 + place) ≡ b → Seen-to (PriceRecord r ∷ rs) → Done
+      mine r e f a true h s =
+          sees-row l m slots (p .slot) new at end long (there r e) (ap (λ x. x .slot) f ∙ eqb-true (slotOf q r) (level * 33 + place) h) (slot-in q r level place l m ∙ rw (a, h))
+          (after .is ∙ ap (seenAfter (getD slots (p .slot) unseen)) f) s
+      mine r e f a false h s =
+          sees-not l m slots (p .slot) new (λ g. eqb-false (slotOf q r) (level * 33 + place) h (sym (ap (λ x. x .slot) f) ∙ g))
+          (sees-past l m (slot-in q r level place l m ∙ rw (a, h)) s)
+
+      priced : (r : Row) → o ≡ some (PriceRecord r) → (b : Bool) → same (r .article) (q .article) ≡ b → Seen-to (PriceRecord r ∷ rs) → Done
+      priced r e true a s = mine r e (pass .row r e a) a (eqb (slotOf q r) (level * 33 + place)) refl s
+      priced r e false a s = skip (ap (Tests.rowOf (q .article)) e ∙ a) (sees-past l m (slot-in q r level place l m ∙ rw a) s)
+
+      go : (x : Option Record) → o ≡ x → Seen-to (consSome x rs) → Done
+      go none e s = skip (ap (Tests.rowOf (q .article)) e) s
+      go (some (ArticleRecord a)) e s = skip (ap (Tests.rowOf (q .article)) e) s
+      go (some (PriceRecord r)) e s = priced r e (same (r .article) (q .article)) refl s
+      go (some (RoundingRecord r)) e s = skip (ap (Tests.rowOf (q .article)) e) s
+      go (some (PackagingRecord x)) e s = skip (ap (Tests.rowOf (q .article)) e) s
+      go (some (SchemeRecord x)) e s = skip (ap (Tests.rowOf (q .article)) e) s
+
+-- ---- whether the article is there
+
+article-turn : (o : Option Record) (rs : List Record) (number : List ℕ) → isSome (articleOf (consSome o rs) number) ≡ (Tests.articleOf number o || isSome (articleOf rs number))
+unfolding articleOf Tests.startsWith
+article-turn none rs number = refl
+article-turn (some (ArticleRecord a)) rs number = go (same (a .number) number)
+  where
+    go : (b : Bool) → isSome (pick b a (first (λ x. same (x .number) number) (articles rs))) ≡ (b || isSome (first (λ x. same (x .number) number) (articles rs)))
+    go true = refl
+    go false = refl
+article-turn (some (PriceRecord r)) rs number = refl
+article-turn (some (RoundingRecord r)) rs number = refl
+article-turn (some (PackagingRecord p)) rs number = refl
+article-turn (some (SchemeRecord s)) rs number = refl
+
+-- ---- the loop
+
+pub accepted : {w : List ℕ} {at end : ℕ} → StopIs w at end → Accepted (take (end - (at + 2)) (drop (at + 2) w))
+accepted s = record { ok = s .ok }
+
+-- once the records from `at` on have gone by, the slots will have seen all from `from` on
+pub record Walking (w : List ℕ) (from : ℕ) (q : Question) (slots : List Seen) (found : Bool) (span : Span) (at : ℕ) : Type 0 where
+  pub between : Between w at
+  pub spanning : Spanning w from q span at
+  pub long : length slots ≡ 100
+  pub sees : (level place : ℕ) → level < 3 → place < 33 → Sees w q level place (getD slots (level * 33 + place) unseen) (rows (recordsLeft w at)) (rows (recordsLeft w from))
+  pub article : (found || isSome (articleOf (recordsLeft w at) (q .article))) ≡ isSome (articleOf (recordsLeft w from) (q .article))
+
+module _ (w : List ℕ) (from : ℕ) (q : Question) where
+  pub walk-start : Between w from → Walking w from q (replicate 100 unseen) false (record { first = from; last = from }) from
+  unfolding seenOf
+  walk-start b = record {
+    between = b;
+    spanning = span-start (b .low);
+    long = length-replicate 100 unseen;
+    sees = λ level place l p.
+        let k : level * 33 + place < 100 = omega arith in
+        rw (getD-replicate 100 (level * 33 + place) unseen unseen k) (record { state = Choice.start; is = record { seen = refl; asked = NoRow refl; other = NoRow refl }; rest = refl });
+    article = refl;
+  }
+
+  module _ {slots : List Seen} {found : Bool} {span : Span} {at : ℕ} (inv : Walking w from q slots found span at) where
+    pub walk-here : at < length w → RecordHere w at
+    walk-here h = pass-here (inv .between) h
+
+    module _ (h : at < length w) {end : ℕ} (stop : StopIs w at end) {p : Passing} {new : Seen} {wider : Span} {b : Bool} where
+      pub walk-turn : Passes q (at + 2) end (whole kinded (take (end - (at + 2)) (drop (at + 2) w))) p → SeenAfter (getD slots (p .slot) unseen) p new → SpanAfter span (ltb (p .slot) 99) at end wider
+          → Says (Tests.articleOf (q .article) (whole kinded (take (end - (at + 2)) (drop (at + 2) w)))) b → Walking w from q (set slots (p .slot) new) (found || b) wider end
+      walk-turn pass after widened art =
+          let step = pass-record (inv .between) h stop in
+          record {
+            between = pass-next (inv .between) h stop;
+            spanning = span-turn (inv .spanning) (inv .between) stop step (λ r e f. pass-outside pass f r e) widened;
+            long = length-set slots (p .slot) new ∙ inv .long;
+            sees = λ level place l m.
+                sees-turn pass (λ r e. record { low = omega arith; order = omega (arith, stop .low); fits = stop .fits; is = e }) slots (inv .long) after (recordsLeft w end) l m
+                (subst (λ (rs : List Record). Sees w q level place (getD slots (level * 33 + place) unseen) (rows rs) (rows (recordsLeft w from))) step (inv .sees level place l m));
+            article =
+                or-assoc found b (isSome (articleOf (recordsLeft w end) (q .article)))
+                ∙ ap (λ x. found || (x || isSome (articleOf (recordsLeft w end) (q .article)))) (sym (art .is))
+                ∙ ap (λ x. found || x) (sym (ap (λ rs. isSome (articleOf rs (q .article))) step ∙ article-turn (whole kinded (part w (at + 2) end)) (recordsLeft w end) (q .article)))
+                ∙ inv .article;
+          }
+
+    pub walk-end : length w ≤ at → WalkIs w from q (record { slots = slots; found = found; first = span .first; last = span .last })
+    unfolding articleOf
+    walk-end h =
+        let none-left = pass-end (inv .between) h in
+        record {
+          slots = record {
+            long = inv .long;
+            each = λ level place l p.
+                let s = inv .sees level place l p in
+                subst (SeenIs w (getD slots (level * 33 + place) unseen))
+                (sym (ap (λ (rs : List Record). Choice.walk (q .date) (q .quantity) (q .currency) (s .state) (keep (inSlot q level place) (rows rs))) none-left) ∙ s .rest) (s .is);
+          };
+          found =
+              sym (or-false found)
+              ∙ ap (λ (rs : List Record). found || isSome (articleOf rs (q .article))) (sym none-left)
+              ∙ inv .article;
+          span = span-end (inv .spanning) (inv .between .fits) none-left;
+        }

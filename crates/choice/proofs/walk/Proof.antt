@@ -1,0 +1,43 @@
+-- `choice::walk` meets its contract: the slots, once they have seen the records that are left, hold what all of them leave, by the laws `walk-..`.
+use Prim.Native.Nat.{_-_}
+use lib.ListN.{length}
+use Rattle.question.specs.Asked.{askIn}
+use borrow.Author.Needs.{needs}
+use Rattle.choice.proofs.WalkLaws.{Walking, accepted, walk-start, walk-here, walk-turn, walk-end}
+use Rattle.choice.proofs.walk.Statement.{statement}
+use Rattle.choice.proofs.walk.Tie as tie
+
+ruleset laws = (needs, accepted, walk-start, walk-here, walk-turn, walk-end)
+
+abbrev Inv-loop : tie.InvT-loop
+Inv-loop w from q ask slots₀ found₀ span₀ at₀ slots found span at = Walking w from (askIn q ask) slots found span at
+
+abbrev μ-loop : tie.MeasureT-loop
+μ-loop w from q ask slots₀ found₀ span₀ at₀ slots found span at = length w - at
+
+pub walk-spec : {M : Type 1} → statement M
+walk-spec =
+    tie.close
+    (tie.spec
+    Inv-loop
+    μ-loop
+    (λ c. search laws)  -- loop-holds
+    (λ c κs. search laws)  -- record-stop-requires
+    (λ c. search needs)  -- add-start
+    (λ c. search needs)  -- sub-passing
+    (λ c. search needs)  -- part-passing-start
+    (λ c. search needs)  -- part-passing-end
+    (λ c κs. search laws)  -- passing-requires
+    (λ c. search needs)  -- mul-old
+    (λ c. search needs)  -- array-copy-out-old
+    (λ c κs. search laws)  -- see-requires
+    (λ c. search needs)  -- mul-slots
+    (λ c. search needs)  -- array-set-from-slots
+    (λ c κs. search laws)  -- widened-requires
+    (λ c. search needs)  -- sub-is-asked-article
+    (λ c. search needs)  -- part-is-asked-article-start
+    (λ c. search needs)  -- part-is-asked-article-end
+    (λ c κs. search laws)  -- is-asked-article-requires
+    (λ c. search needs)  -- loop-less
+    (λ c. search laws)  -- loop-again
+    (λ c. search laws))  -- returns

@@ -1,0 +1,68 @@
+-- A slot's state as the code keeps it, and the rows of the definition that it stands for.
+use Prim.Native.Nat.{ℕ, _^_, _≤_, _<_}
+use mathlib.Core.Path.{_≡_}
+use mathlib.Core.Bool.{Bool, true, false, _&&_, _||_, cond}
+use mathlib.Core.List.{List}
+use mathlib.Core.Option.{Option, some, none}
+use lib.Dec.{eqb, ltb}
+use lib.ListN.{length}
+use Rattle.rules.specs.Layout.{whole}
+use Rattle.rules.specs.Book.{Row, PriceRecord}
+use Rattle.rules.specs.BookLayout.{kinded}
+use Rattle.rules.proofs.ChoiceLaws as Choice
+use Rattle.layout.specs.Reads.{part}
+use Rattle.choice.specs.declared.hands.Hand.{Hand}
+use Rattle.choice.specs.declared.hands.Seen.{Seen}
+use Rattle.choice.specs.declared.hands.Passing.{Passing}
+
+-- ---- what the functions compute
+
+unfoldable pub limitOf : ℕ → ℕ
+limitOf upto = cond (eqb upto 0) (2 ^ 32) upto
+
+unfoldable pub betterHand : Hand → Hand → Bool
+betterHand new old = ltb (limitOf (new .upto)) (limitOf (old .upto)) || (eqb (limitOf (new .upto)) (limitOf (old .upto)) && ltb (old .from) (new .from))
+
+unfoldable pub handAfter : Bool → Hand → Hand → Hand
+handAfter counts old new = cond counts (cond (eqb (old .at) 0) new (cond (betterHand new old) new old)) old
+
+unfoldable pub seenAfter : Seen → Passing → Seen
+seenAfter s p =
+    record {
+      seen = s .seen || (p .stands && p .asked);
+      asked = handAfter (p .stands && p .asked && p .reaches) (s .asked) (p .hand);
+      other = handAfter (p .stands && p .reaches) (s .other) (p .hand);
+    }
+
+unfoldable pub takenOf : Seen → Hand
+takenOf s = cond (s .seen) (s .asked) (s .other)
+
+-- `r` is the row in hand after another one that counts, or does not, has gone by
+pub record HandAfter (counts : Bool) (old new r : Hand) : Type 0 where
+  pub is : r ≡ handAfter counts old new
+
+-- `r` is what a slot keeps after a row has gone by
+pub record SeenAfter (s : Seen) (p : Passing) (r : Seen) : Type 0 where
+  pub is : r ≡ seenAfter s p
+
+-- `r` is the row that a slot takes in the end
+pub record TakenIs (s : Seen) (r : Hand) : Type 0 where
+  pub is : r ≡ takenOf s
+
+-- ---- what it means
+
+-- the bytes of w from `at` to `end` are the price row r
+pub record RowThere (w : List ℕ) (at end : ℕ) (r : Row) : Type 0 where
+  pub low : 1 ≤ at
+  pub order : at < end
+  pub fits : end ≤ length w
+  pub is : whole kinded (part w at end) ≡ some (PriceRecord r)
+
+pub data HandIs (w : List ℕ) (h : Hand) : Option Row → Type 0 where
+  NoRow : h .at ≡ 0 → HandIs w h none
+  OneRow : (r : Row) → RowThere w (h .at) (h .end) r → h .upto ≡ r .upTo → h .from ≡ r .from → HandIs w h (some r)
+
+pub record SeenIs (w : List ℕ) (s : Seen) (state : Choice.Seen) : Type 0 where
+  pub seen : s .seen ≡ state .seen
+  pub asked : HandIs w (s .asked) (state .asked)
+  pub other : HandIs w (s .other) (state .other)

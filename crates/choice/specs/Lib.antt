@@ -1,0 +1,4 @@
+pub mod Slots
+pub mod Hands
+pub mod Span
+pub mod Walk

@@ -1,0 +1,51 @@
+-- The 99 slots of a price: three levels of 33 places, the unconditioned one and one for each granted name.
+use Prim.Native.Nat.{ℕ, zero, suc, _+_, _*_, _/_, _%_}
+use mathlib.Core.Bool.{Bool, true, false, _&&_, cond}
+use mathlib.Core.List.{List, [], _∷_, map}
+use mathlib.Core.Option.{Option, some, none, Option·map}
+use lib.Dec.{eqb}
+use Rattle.rules.specs.Lists.{same, keep, gather}
+use Rattle.rules.specs.Bytes.{raise}
+use Rattle.rules.specs.Book.{Row, base, surcharge, discount}
+use Rattle.rules.specs.Question.{Question}
+use Rattle.rules.specs.Choice.{choose}
+use Rattle.rules.specs.Lines.{Chosen}
+
+-- ---- which slot a row is of
+
+-- one past the last place, and one past the last level: no slot
+abbrev pub nowhere : ℕ
+nowhere = 33
+
+-- the first of the names that is this one once raised, counted from n
+unfoldable pub placeFrom : ℕ → List (List ℕ) → List ℕ → ℕ
+placeFrom n [] c = nowhere
+placeFrom n (g ∷ gs) c = cond (same (map raise g) c) n (placeFrom (suc n) gs c)
+
+-- a row without a condition is at place 0
+unfoldable pub placeOf : List (List ℕ) → List ℕ → ℕ
+placeOf names [] = 0
+placeOf names (b ∷ c) = placeFrom 1 names (b ∷ c)
+
+unfoldable pub levelOf : ℕ → ℕ
+levelOf l = cond (eqb l base) 0 (cond (eqb l surcharge) 1 (cond (eqb l discount) 2 3))
+
+-- the row is of the asked article and sort, and stands at this level and place
+unfoldable pub inSlot : Question → ℕ → ℕ → Row → Bool
+inSlot q level place r =
+    same (r .article) (q .article) && (eqb (r .sort) (q .sort) && (eqb (levelOf (r .level)) level && eqb (placeOf (q .granted) (r .condition)) place))
+
+-- ---- what the slots choose
+
+unfoldable pub slotChosen : List Row → Question → ℕ → ℕ → Option Chosen
+slotChosen rs q level place =
+    Option·map (λ r. record { place = place; row = r }) (choose (q .date) (q .quantity) (q .currency) (keep (inSlot q level place) rs))
+
+-- n numbers from k on
+abbrev pub upFrom : ℕ → ℕ → List ℕ
+upFrom k zero = []
+upFrom k (suc n) = k ∷ upFrom (suc k) n
+
+-- slot i is of level i / 33 and place i % 33
+unfoldable pub slotsChosen : List Row → Question → List Chosen
+slotsChosen rs q = gather (λ i. slotChosen rs q (i / 33) (i % 33)) (upFrom 0 99)

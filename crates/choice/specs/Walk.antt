@@ -1,0 +1,107 @@
+-- What a record that goes by is to the question, and what the walk over the records leaves in the slots.
+use Prim.Native.Nat.{ℕ, _+_, _*_, _/_, _%_, _≤_, _<_}
+use mathlib.Core.Path.{_≡_}
+use mathlib.Core.Bool.{Bool, true, false, _&&_, cond}
+use mathlib.Core.List.{List}
+use mathlib.Core.Option.{Option, some, none}
+use lib.Dec.{eqb, ltb}
+use lib.ListN.{length, getD}
+use Rattle.rules.specs.Lists.{same, isSome, keep}
+use Rattle.rules.specs.Book.{Row, Record, PriceRecord, rows, articleOf}
+use Rattle.rules.specs.Question.{Question}
+use Rattle.rules.specs.Choice.{reaches}
+use Rattle.rules.proofs.ChoiceLaws as Choice
+use Rattle.book.specs.Records.{recordsLeft}
+use Rattle.records.specs.Tests.{rowOf}
+use Rattle.question.specs.declared.Ask.{Ask}
+use Rattle.question.specs.Parts.{NamesStand}
+use Rattle.choice.specs.declared.Walked.{Walked}
+use Rattle.choice.specs.declared.hands.Hand.{Hand}
+use Rattle.choice.specs.declared.hands.Seen.{Seen}
+use Rattle.choice.specs.declared.hands.Passing.{Passing}
+use Rattle.choice.specs.Slots.{levelOf, placeOf, inSlot, slotChosen}
+use Rattle.choice.specs.Hands.{SeenIs}
+use Rattle.choice.specs.Span.{Spans}
+
+-- ---- the question, as far as its date plays no part
+
+pub record Asking (q : List ℕ) (ask : Ask) : Type 0 where
+  pub inside : ask .article .at + ask .article .size ≤ length q
+  pub few : ask .conditions ≤ 32
+  pub names : NamesStand q (ask .granted) (ask .conditions)
+
+-- the same question on another day
+abbrev pub askOn : Ask → ℕ → Ask
+askOn ask d = record {
+  article = ask .article;
+  sort = ask .sort;
+  currency = ask .currency;
+  date = d;
+  quantity = ask .quantity;
+  granted = ask .granted;
+  conditions = ask .conditions;
+  properties = ask .properties;
+  count = ask .count;
+}
+
+-- ---- a record that goes by
+
+-- the slot of a level and a place, or 99
+unfoldable pub slotAt : ℕ → ℕ → ℕ
+slotAt level place = cond (ltb level 3 && ltb place 33) (level * 33 + place) 99
+
+-- that of a row of the asked article
+unfoldable pub slotOf : Question → Row → ℕ
+slotOf q r = cond (eqb (r .sort) (q .sort)) (slotAt (levelOf (r .level)) (placeOf (q .granted) (r .condition))) 99
+
+unfoldable pub passingOf : Question → ℕ → ℕ → Row → Passing
+passingOf q at end r = record {
+  slot = slotOf q r;
+  stands = Choice.stands (q .date) r;
+  asked = Choice.isAsked (q .currency) r;
+  reaches = reaches (q .quantity) r;
+  hand = record { at = at; end = end; upto = r .upTo; from = r .from };
+}
+
+-- a row in this currency is in the asked one
+abbrev pub inAsked : Option (List ℕ) → List ℕ → Bool
+inAsked none c = false
+inAsked (some d) c = same c d
+
+-- `p` is what the row r of the asked article is to the question; it stands from `at` to `end`
+pub record RowPasses (q : Question) (at end : ℕ) (r : Row) (p : Passing) : Type 0 where
+  pub is : p ≡ passingOf q at end r
+  pub below : p .slot < 100
+
+-- and what any record is
+pub record Passes (q : Question) (at end : ℕ) (o : Option Record) (p : Passing) : Type 0 where
+  pub below : p .slot < 100
+  pub row : (r : Row) → o ≡ some (PriceRecord r) → same (r .article) (q .article) ≡ true → p ≡ passingOf q at end r
+  pub other : rowOf (q .article) o ≡ false → p .slot ≡ 99
+
+-- ---- the walk
+
+-- a slot that saw nothing
+abbrev pub noHand : Hand
+noHand = record { at = 0; end = 0; upto = 0; from = 0 }
+
+abbrev pub unseen : Seen
+unseen = record { seen = false; asked = noHand; other = noHand }
+
+-- what the definition's walk sees of the rows of a slot
+unfoldable pub seenOf : Question → List Row → ℕ → ℕ → Choice.Seen
+seenOf q rs level place = Choice.walk (q .date) (q .quantity) (q .currency) Choice.start (keep (inSlot q level place) rs)
+
+-- of these rows slot i chooses r
+pub record Chooses (q : Question) (rs : List Row) (i : ℕ) (r : Row) : Type 0 where
+  pub is : slotChosen rs q (i / 33) (i % 33) ≡ some (record { place = i % 33; row = r })
+
+-- the slots hold what the question sees of these rows; the rows in hand stand in w
+pub record SlotsHold (w : List ℕ) (rs : List Row) (q : Question) (slots : List Seen) : Type 0 where
+  pub long : length slots ≡ 100
+  pub each : (level place : ℕ) → level < 3 → place < 33 → SeenIs w (getD slots (level * 33 + place) unseen) (seenOf q rs level place)
+
+pub record WalkIs (w : List ℕ) (from : ℕ) (q : Question) (r : Walked) : Type 0 where
+  pub slots : SlotsHold w (rows (recordsLeft w from)) q (r .slots)
+  pub found : r .found ≡ isSome (articleOf (recordsLeft w from) (q .article))
+  pub span : Spans w from q (r .first) (r .last)

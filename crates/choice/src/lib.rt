@@ -1,0 +1,58 @@
+// The choice of every row of a price at once: one walk over the records fills a slot for each level and place.
+pub mod hands;
+mod passing;
+pub mod slots;
+mod span;
+
+use crate::hands::Seen;
+use crate::hands::see;
+use crate::passing::is_asked_article;
+use crate::passing::passing;
+use crate::span::Span;
+use crate::span::widened;
+use book::record_stop;
+use question::Ask;
+ghost use Rattle.book.specs.Ensures.{Between};
+ghost use Rattle.question.specs.Asked.{askIn};
+ghost use Rattle.choice.specs.Walk.{Asking, WalkIs};
+
+// Slot 33 * level + place, for 3 levels of 33 places each, and behind them one that nobody reads.
+pub struct Walked {
+    pub slots: [Seen; 100],
+    pub found: bool,
+    pub first: usize,
+    pub last: usize,
+}
+
+// The records of w from `from` on, each once.
+pub fn walk(w: &[u8], from: usize, q: &[u8], ask: Ask) -> Walked
+    requires { ⌜ Between (now w) from ⌝ }
+    requires { ⌜ Asking (now q) ask ⌝ }
+    ensures { λ r. ⌜ WalkIs (now (w .entry)) from (askIn (now (q .entry)) ask) r ⌝ }
+{
+    let mut slots = [Seen::NOTHING; 100];
+    let mut found = false;
+    let mut span = Span {
+        first: from,
+        last: from,
+    };
+    let mut at = from;
+    while at < w.len() {
+        let end = record_stop(w, at);
+        let start = at + 2;
+        let p = passing(&w[start..end], start, end, q, ask);
+        let i = p.slot;
+        let old = slots[i];
+        let new = see(old, p);
+        slots[i] = new;
+        span = widened(span, i < 99, at, end);
+        found = found | is_asked_article(&w[start..end], q, ask);
+        at = end;
+    }
+    Walked {
+        slots,
+        found,
+        first: span.first,
+        last: span.last,
+    }
+}

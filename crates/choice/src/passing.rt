@@ -1,0 +1,145 @@
+// What a record that goes by is to the question.
+use crate::hands::Hand;
+use crate::hands::Passing;
+use crate::slots::level_of;
+use crate::slots::place_of;
+use question::Ask;
+use records::is_article;
+use records::is_row_of;
+use records::row_of;
+use rules::Currency;
+use rules::PriceRow;
+use rules::Value;
+ghost use mathlib.Core.Bool.{_&&_};
+ghost use Rattle.rules.specs.Lists.{between};
+ghost use Rattle.rules.specs.Days.{isDay};
+ghost use Rattle.rules.specs.Layout.{whole};
+ghost use Rattle.rules.specs.BookLayout.{kinded};
+ghost use Rattle.rules.specs.Question.{askedOf};
+ghost use Rattle.rules.specs.Choice.{isPercent};
+ghost use Rattle.layout.specs.Ensures.{Says, Number};
+ghost use Rattle.records.specs.Asks.{Accepted};
+ghost use Rattle.records.specs.Tests.{articleOf};
+ghost use Rattle.records.specs.Ensures.{rowIn, RowIs};
+ghost use Rattle.question.specs.Asked.{askIn, lettersOf};
+ghost use Rattle.choice.specs.Walk.{Asking, slotAt, slotOf, inAsked, RowPasses, Passes};
+
+fn slot_at(level: usize, place: usize) -> usize
+    ensures { λ r. ⌜ Number (slotAt level place) 100 r ⌝ }
+{
+    if 2 < level {
+        return 99;
+    }
+    if 32 < place {
+        return 99;
+    }
+    level * 33 + place
+}
+
+// The slot of a row of the asked article: 99 if it is of the other sort or its condition is not granted.
+fn slot_of(t: &[u8], row: PriceRow, q: &[u8], ask: Ask) -> usize
+    requires { ⌜ RowIs (now t) row ⌝ }
+    requires { ⌜ Asking (now q) ask ⌝ }
+    ensures { λ r. ⌜ Number (slotOf (askIn (now (q .entry)) ask) (rowIn (now (t .entry)) row)) 100 r ⌝ }
+{
+    if row.sort != ask.sort {
+        return 99;
+    }
+    let condition = row.condition;
+    let from = condition.at;
+    let end = from + condition.size;
+    let place = place_of(q, ask.granted, ask.conditions, &t[from..end]);
+    slot_at(level_of(row.level), place)
+}
+
+fn is_percent(value: Value) -> bool
+    ensures { λ r. ⌜ Says (isPercent value) r ⌝ }
+{
+    match value {
+        Value::Fixed(_) => false,
+        Value::Percent(_) => true,
+    }
+}
+
+// Whether a row of these dates holds that day. Few do, so the dates are looked at as days last.
+fn holds(from: u32, to: u32, date: u32) -> bool
+    ensures { λ r. ⌜ Says (isDay from && (isDay to && between from to date)) r ⌝ }
+{
+    if (from <= date) & (date <= to) {
+        days::Day::is_day(from) & days::Day::is_day(to)
+    } else {
+        false
+    }
+}
+
+// Whether a row is in the asked currency. With three zeros none is asked.
+fn is_asked(asked: Currency, currency: Currency) -> bool
+    ensures { λ r. ⌜ Says (inAsked (askedOf (lettersOf asked)) (lettersOf currency)) r ⌝ }
+{
+    let none = (asked.0 == 0) & (asked.1 == 0) & (asked.2 == 0);
+    !none & (currency.0 == asked.0) & (currency.1 == asked.1) & (currency.2 == asked.2)
+}
+
+// A row of the asked article, which stands from `at` to `end`.
+fn row_passing(t: &[u8], row: PriceRow, at: usize, end: usize, q: &[u8], ask: Ask) -> Passing
+    requires { ⌜ RowIs (now t) row ⌝ }
+    requires { ⌜ Asking (now q) ask ⌝ }
+    ensures { λ r. ⌜ RowPasses (askIn (now (q .entry)) ask) at end (rowIn (now (t .entry)) row) r ⌝ }
+{
+    let slot = slot_of(t, row, q, ask);
+    let value = row.value;
+    let percent_base = (row.level == b'B') & is_percent(value);
+    let stands = !percent_base & holds(row.from, row.to, ask.date);
+    let wanted = ask.currency;
+    let currency = row.currency;
+    let asked = is_asked(wanted, currency);
+    let reaches = (row.upto == 0) | (ask.quantity <= row.upto);
+    let hand = Hand {
+        at,
+        end,
+        upto: row.upto,
+        from: row.from,
+    };
+    Passing {
+        slot,
+        stands,
+        asked,
+        reaches,
+        hand,
+    }
+}
+
+// The record t, which stands from `at` to `end`. Most are no row of the asked article: of these the kind and the name are read, and no more.
+pub fn passing(t: &[u8], at: usize, end: usize, q: &[u8], ask: Ask) -> Passing
+    requires { ⌜ Accepted (now t) ⌝ }
+    requires { ⌜ Asking (now q) ask ⌝ }
+    ensures { λ r. ⌜ Passes (askIn (now (q .entry)) ask) at end (whole kinded (now (t .entry))) r ⌝ }
+{
+    let article = ask.article;
+    let from = article.at;
+    let to = from + article.size;
+    if is_row_of(t, &q[from..to]) {
+        let row = row_of(t);
+        row_passing(t, row, at, end, q, ask)
+    } else {
+        Passing {
+            slot: 99,
+            stands: false,
+            asked: false,
+            reaches: false,
+            hand: Hand::EMPTY,
+        }
+    }
+}
+
+// Whether t is the record of the asked article.
+pub fn is_asked_article(t: &[u8], q: &[u8], ask: Ask) -> bool
+    requires { ⌜ Accepted (now t) ⌝ }
+    requires { ⌜ Asking (now q) ask ⌝ }
+    ensures { λ r. ⌜ Says (articleOf (askIn (now (q .entry)) ask .article) (whole kinded (now (t .entry)))) r ⌝ }
+{
+    let article = ask.article;
+    let from = article.at;
+    let to = from + article.size;
+    is_article(t, &q[from..to])
+}

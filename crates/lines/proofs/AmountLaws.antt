@@ -1,0 +1,227 @@
+-- The amounts of lines, one by one: what is listed and what is left make up the whole, and so do the total and what is left to add.
+use Prim.Native.Nat.{ℕ, zero, suc, _+_, _≤_, _<_}
+use mathlib.Core.Path.{_≡_, refl, sym, ap, _∙_, subst}
+use mathlib.Core.Bool.{Bool, true, false, _||_, not, cond, true≢false}
+use mathlib.Core.List.{List, [], _∷_, _++_, append-assoc, append-nil}
+use native.Mathlib.Omega.{arith}
+use native.Mathlib.Numerals.{add-one}
+use lib.Dec.{eqb}
+use lib.IntN.{ℤ, pos, natAbs, _+ℤ_}
+use lib.ListN.{length, take, drop, getD, set, replicate, length-set}
+use lib.Seq.{take-suc-set}
+use Rattle.rules.specs.Lists.{any}
+use Rattle.rules.specs.Amounts.{exact, rounded}
+use Rattle.rules.specs.Lines.{totalOf}
+use Rattle.rules.specs.declared.Cents.{Cents}
+use Rattle.rules.specs.declared.Fraction.{Fraction}
+use Rattle.rules.specs.declared.Total.the-variants.{InRange, OutOfRange}
+use Rattle.rules.proofs.ListLaws.{All}
+use Rattle.amounts.specs.Contracts.{BookValue, ExactAmount, Roundable, RoundedCents, Addable, totalAfter}
+use Rattle.amounts.proofs.TotalLaws.{totalFrom, from-zero, from-end, from-in, from-out, after-sum, after-in-range}
+use Rattle.lines.specs.declared.Pick.{Pick}
+use Rattle.lines.specs.Views.{View, viewIn, viewsIn, noPick, isBase, baseFirst, amountOn, amountsFrom, amountsOf}
+use Rattle.lines.specs.Contracts.{OneOfTwo, Sound, LineOn, mostAmount, LineAmount, Listable, ListedIs}
+use Rattle.lines.proofs.WalkLaws.{next-view, views-end}
+
+-- ---- one line
+
+-- one of two amounts is within the bound of both
+pub one-in : (t : Bool) (a b r : ℤ) (most : ℕ) → OneOfTwo t a b r → natAbs a ≤ most → natAbs b ≤ most → natAbs r ≤ most
+one-in true a b r most o h k = rw (o .is) h
+one-in false a b r most o h k = rw (o .is) k
+
+module _ (v : View) (base total : ℤ) (on : LineOn v base total) (t : Bool) (of : ℤ) (is : OneOfTwo t base total of) where
+  pub share-of : BookValue (v .value) of
+  share-of = record { value-in = on .sound .value-in; of-in = one-in t base total of 1_000_000_000 is (on .base-in) (on .total-in) }
+
+  module _ (x : Fraction) (e : ExactAmount (v .value) of x) where
+    pub can-round : Roundable (v .rounding) x
+    can-round =
+        record {
+          step-low = on .sound .rounding-in .step-low;
+          step-high = on .sound .rounding-in .step-high;
+          before-in = on .sound .rounding-in .before-in;
+          after-in = on .sound .rounding-in .after-in;
+          top-in = omega (arith, e .top-in);
+          low = e .low;
+          high = omega (arith, e .high);
+        }
+
+    pub line-is : eqb (v .rule) 1 ≡ t → (r : Cents) → RoundedCents (v .rounding) x r → LineAmount v base total r
+    unfolding amountOn
+    line-is rule r m =
+        record {
+          is = m .is ∙ ap (rounded (v .rounding)) (e .is ∙ ap (exact (v .value)) (is .is ∙ ap (λ u. cond u base total) (sym rule)));
+          near = omega (arith, m .near, e .top-in);
+        }
+
+-- ---- base lines come first
+
+view-first : (v : View) (vs : List View) → baseFirst (v ∷ vs) ≡ cond (isBase v) (baseFirst vs) (not (any isBase vs))
+unfolding baseFirst
+view-first v vs = refl
+
+none-first : (vs : List View) → any isBase vs ≡ false → baseFirst vs ≡ true
+unfolding baseFirst
+none-first [] e = refl
+none-first (v ∷ vs) e = go (isBase v) (any isBase vs) e
+  where
+    go : (b rest : Bool) → (b || rest) ≡ false → cond b (baseFirst vs) (not rest) ≡ true
+    go true rest e = absurd (true≢false e)
+    go false true e = absurd (true≢false e)
+    go false false e = refl
+
+-- b: the line is a base line; rest: one behind it is
+module _ (b rest : Bool) (base total z after next : ℤ) (sum : total +ℤ z ≡ after) (o : OneOfTwo b after base next) where
+  grown : ((b || rest) ≡ true → base ≡ total) → next ≡ cond b (base +ℤ z) base
+  grown = by b (o .is)
+    where
+      by : (b : Bool) → next ≡ cond b after base → ((b || rest) ≡ true → base ≡ total) → next ≡ cond b (base +ℤ z) base
+      by true o l = o ∙ (sym sum ∙ ap (λ y. y +ℤ z) (sym (l refl)))
+      by false o l = o
+
+  level-on : (f : Bool) → cond b f (not rest) ≡ true → rest ≡ true → next ≡ after
+  level-on f = by b rest (o .is)
+    where
+      by : (b rest : Bool) → next ≡ cond b after base → cond b f (not rest) ≡ true → rest ≡ true → next ≡ after
+      by true rest o e r = o
+      by false true o e r = absurd (true≢false (sym e))
+      by false false o e r = absurd (true≢false (sym r))
+
+first-on : (b rest f : Bool) → (rest ≡ false → f ≡ true) → cond b f (not rest) ≡ true → f ≡ true
+first-on true rest f n e = e
+first-on false true f n e = absurd (true≢false (sym e))
+first-on false false f n e = n refl
+
+-- ---- amounts in bounds
+
+zeros-in : (n k : ℕ) → natAbs (getD (replicate n (pos 0)) k (pos 0)) ≤ mostAmount
+zeros-in zero k = omega arith
+zeros-in (suc n) zero = omega arith
+zeros-in (suc n) (suc k) = zeros-in n k
+
+stored-in : (l : List ℤ) (i : ℕ) (z : ℤ) → ((k : ℕ) → natAbs (getD l k (pos 0)) ≤ mostAmount) → natAbs z ≤ mostAmount → (k : ℕ) → natAbs (getD (set l i z) k (pos 0)) ≤ mostAmount
+stored-in [] i z h b k = h k
+stored-in (x ∷ l) zero z h b zero = b
+stored-in (x ∷ l) zero z h b (suc k) = h (suc k)
+stored-in (x ∷ l) (suc i) z h b zero = h zero
+stored-in (x ∷ l) (suc i) z h b (suc k) = stored-in l i z (λ j. h (suc j)) b k
+
+-- ---- the loop
+
+-- before line i
+pub record Listing (picks : List Pick) (n : ℕ) (listed : List ℤ) (base total : ℤ) (i : ℕ) : Type 0 where
+  pub place : i ≤ n
+  pub few : n ≤ 99
+  pub long : n ≤ length picks
+  pub room : length listed ≡ 99
+  pub each-in : (k : ℕ) → natAbs (getD listed k (pos 0)) ≤ mostAmount
+  pub base-in : natAbs base ≤ 1_000_000_000
+  pub total-in : natAbs total ≤ 1_000_000_000
+  pub sound : All Sound (drop i (viewsIn picks n))
+  pub base-first : baseFirst (drop i (viewsIn picks n)) ≡ true
+  pub level : any isBase (drop i (viewsIn picks n)) ≡ true → base ≡ total
+  pub left : take i listed ++ amountsFrom base total (drop i (viewsIn picks n)) ≡ amountsOf (viewsIn picks n)
+  pub to-add : totalFrom total (amountsFrom base total (drop i (viewsIn picks n))) ≡ totalOf (amountsOf (viewsIn picks n))
+
+pub can-add : {v : View} {base total : ℤ} {r : Cents} → natAbs total ≤ 1_000_000_000 → LineAmount v base total r → Addable total (r .0)
+can-add h a = record { total-in = h; amount-in = omega (arith, a .near) }
+
+view-amounts : (base total : ℤ) (v : View) (vs : List View)
+    → amountsFrom base total (v ∷ vs) ≡ amountOn base total v ∷ amountsFrom (cond (isBase v) (base +ℤ amountOn base total v) base) (total +ℤ amountOn base total v) vs
+unfolding amountsFrom
+view-amounts base total v vs = refl
+
+no-amounts : (base total : ℤ) → amountsFrom base total [] ≡ []
+unfolding amountsFrom
+no-amounts base total = refl
+
+module _ (picks : List Pick) (n : ℕ) where
+  pub list-start : n ≤ length picks → Listable picks n → Listing picks n (replicate 99 (pos 0)) (pos 0) (pos 0) 0
+  list-start k ok =
+      record {
+        place = omega arith;
+        few = ok .few;
+        long = k;
+        room = refl;
+        each-in = zeros-in 99;
+        base-in = omega arith;
+        total-in = omega arith;
+        sound = ok .sound;
+        base-first = ok .base-first;
+        level = λ e. refl;
+        left = refl;
+        to-add = from-zero (amountsOf (viewsIn picks n));
+      }
+
+  module _ (listed : List ℤ) (base total : ℤ) (i : ℕ) (inv : Listing picks n listed base total i) where
+    pub list-end : n ≤ i → ListedIs picks n (record { amounts = listed; total = InRange (record { 0 = total }) })
+    list-end h =
+        let e : i ≡ n = omega (arith, inv .place) in
+        let f : amountsFrom base total (drop i (viewsIn picks n)) ≡ [] = ap (amountsFrom base total) (views-end picks n i (inv .long) h) ∙ no-amounts base total in
+        record {
+          each-in = inv .each-in;
+          total = sym (from-end total) ∙ ap (totalFrom total) (sym f) ∙ inv .to-add;
+          amounts = λ c r. ap (λ (k : ℕ). take k listed) (sym e) ∙ sym (append-nil (take i listed)) ∙ ap (λ zs. take i listed ++ zs) (sym f) ∙ inv .left;
+        }
+
+    module _ (h : i < n) where
+      abbrev here : View
+      here = viewIn (getD picks i noPick)
+
+      abbrev behind : List View
+      behind = drop (i + 1) (viewsIn picks n)
+
+      next : drop i (viewsIn picks n) ≡ here ∷ behind
+      next = next-view picks n i h (inv .long)
+
+      pub list-line : LineOn here base total
+      list-line = record { sound = subst (All Sound) next (inv .sound) .0; base-in = inv .base-in; total-in = inv .total-in }
+
+      module _ (r : Cents) (a : LineAmount here base total r) where
+        amounts-are : amountsFrom base total (drop i (viewsIn picks n)) ≡ r .0 ∷ amountsFrom (cond (isBase here) (base +ℤ r .0) base) (total +ℤ r .0) behind
+        amounts-are =
+            ap (amountsFrom base total) next
+            ∙ view-amounts base total here behind
+            ∙ ap (λ z. z ∷ amountsFrom (cond (isBase here) (base +ℤ z) base) (total +ℤ z) behind) (sym (a .is))
+
+        pub list-out : totalAfter total (r .0) ≡ OutOfRange → ListedIs picks n (record { amounts = listed; total = OutOfRange })
+        list-out e =
+            let out : OutOfRange ≡ totalOf (amountsOf (viewsIn picks n)) =
+            sym (from-out total (r .0) (amountsFrom (cond (isBase here) (base +ℤ r .0) base) (total +ℤ r .0) behind) e) ∙ ap (totalFrom total) (sym amounts-are) ∙ inv .to-add in
+            record { each-in = inv .each-in; total = out; amounts = λ c f. let z : _≡_ {A = ℕ} 0 1 = cc f in absurd (omega arith) }
+
+        module _ (after : Cents) (e : totalAfter total (r .0) ≡ InRange after) (base′ : ℤ) (o : OneOfTwo (isBase here) (after .0) base base′) where
+          firsts : cond (isBase here) (baseFirst behind) (not (any isBase behind)) ≡ true
+          firsts = sym (view-first here behind) ∙ (ap baseFirst (sym next) ∙ inv .base-first)
+
+          base-is : base′ ≡ cond (isBase here) (base +ℤ r .0) base
+          base-is =
+              grown (isBase here) (any isBase behind) base total (r .0) (after .0) base′ (after-sum total (r .0) after e) o
+              (λ t. inv .level (ap (any isBase) next ∙ t))
+
+          step : amountsFrom base total (drop i (viewsIn picks n)) ≡ r .0 ∷ amountsFrom base′ (after .0) behind
+          step = amounts-are ∙ (λ j. r .0 ∷ amountsFrom (sym base-is j) (after-sum total (r .0) after e j) behind)
+
+          pub list-again : Listing picks n (set listed i (r .0)) base′ (after .0) (i + 1)
+          list-again =
+              record {
+                place = omega arith;
+                few = inv .few;
+                long = inv .long;
+                room = length-set listed i (r .0) ∙ inv .room;
+                each-in = stored-in listed i (r .0) (inv .each-in) (a .near);
+                base-in = one-in (isBase here) (after .0) base base′ 1_000_000_000 o (after-in-range total (r .0) after e) (inv .base-in);
+                total-in = after-in-range total (r .0) after e;
+                sound = subst (All Sound) next (inv .sound) .1;
+                base-first = first-on (isBase here) (any isBase behind) (baseFirst behind) (none-first behind) firsts;
+                level = level-on (isBase here) (any isBase behind) base total (r .0) (after .0) base′ (after-sum total (r .0) after e) o (baseFirst behind) firsts;
+                left =
+                    (let l : i < length listed = omega (arith, inv .room, inv .few) in
+                    ap (λ (k : ℕ). take k (set listed i (r .0)) ++ amountsFrom base′ (after .0) behind) (add-one i)
+                    ∙ ap (λ zs. zs ++ amountsFrom base′ (after .0) behind) (take-suc-set listed i (r .0) l)
+                    ∙ append-assoc (take i listed) (r .0 ∷ []) (amountsFrom base′ (after .0) behind)
+                    ∙ ap (λ zs. take i listed ++ zs) (sym step)
+                    ∙ inv .left);
+                to-add = sym (from-in total (r .0) (amountsFrom base′ (after .0) behind) after e) ∙ ap (totalFrom total) (sym step) ∙ inv .to-add;
+              }

@@ -1,0 +1,94 @@
+-- The bytes of lines: a line by its fields, and one line behind the other.
+use Prim.Native.Nat.{ℕ, _+_, _*_, _≤_, _<_}
+use mathlib.Core.Path.{_≡_, refl, sym, ap, _∙_}
+use mathlib.Core.List.{List, [], _∷_, _++_}
+use native.Mathlib.Omega.{arith}
+use native.Mathlib.Numerals.{add-one}
+use lib.IntN.{ℤ, pos}
+use lib.ListN.{length, take, drop, getD, set, length-append}
+use lib.Seq.{sets, length-take-le}
+use Rattle.rules.specs.Bytes.{bytesOf, signedBytesOf}
+use Rattle.layout.specs.Ensures.{Puts}
+use Rattle.layout.proofs.StoreLaws.{puts-of, puts-then, sets-of, sets-sets}
+use Rattle.lines.specs.declared.Pick.{Pick}
+use Rattle.lines.specs.Views.{View, viewIn, viewsIn, noPick, viewBytes, viewsBytes}
+use Rattle.lines.specs.Contracts.{Writable}
+use Rattle.lines.proofs.WalkLaws.{next-in, next-view, views-end, views-count}
+
+-- ---- a line
+
+pub pair-puts : (s : List ℕ) (at x y : ℕ) → at + 2 ≤ length s → Puts s at (x ∷ y ∷ []) (set (set s at x) (at + 1) y)
+pair-puts s at x y h = puts-of h (ap (λ (i : ℕ). set (set s at x) i y) (add-one at))
+
+module _ (v : View) (z : ℤ) where
+  pub line-length : length (viewBytes v z) ≡ 14
+  line-length = refl
+
+  pub line-puts : {a b c d : List ℕ} {at : ℕ} → Puts a at (bytesOf 4 (v .text)) b → Puts b (at + 4) (v .level ∷ v .place ∷ []) c
+      → Puts c (at + 6) (signedBytesOf 8 z) d → Puts a at (viewBytes v z) d
+  line-puts p q r = puts-then p refl (puts-then q (omega arith) r)
+
+-- ---- lines
+
+pub lines-length : (vs : List View) (zs : List ℤ) → length zs ≡ length vs → length (viewsBytes vs zs) ≡ 14 * length vs
+unfolding viewsBytes
+lines-length [] zs e = refl
+lines-length (v ∷ vs) [] e = absurd (omega arith)
+lines-length (v ∷ vs) (z ∷ zs) e =
+    let f : length zs ≡ length vs = omega arith in
+    length-append (viewBytes v z) (viewsBytes vs zs)
+    ∙ omega (arith, line-length v z, lines-length vs zs f)
+
+cons-bytes : (v : View) (z : ℤ) (vs : List View) (zs : List ℤ) → viewsBytes (v ∷ vs) (z ∷ zs) ≡ viewBytes v z ++ viewsBytes vs zs
+unfolding viewsBytes
+cons-bytes v z vs zs = refl
+
+no-bytes : (zs : List ℤ) → viewsBytes [] zs ≡ []
+unfolding viewsBytes
+no-bytes zs = refl
+
+-- the lines that are left, stored behind those that are there, make up the whole
+pub record Writing (old : List ℕ) (picks : List Pick) (amounts : List ℤ) (n : ℕ) (out : List ℕ) (i : ℕ) : Type 0 where
+  pub place : i ≤ n
+  pub long : n ≤ length picks
+  pub long₂ : n ≤ length amounts
+  pub room : 14 * n ≤ length old
+  pub same : length out ≡ length old
+  pub rest : sets out (14 * i) (viewsBytes (drop i (viewsIn picks n)) (drop i (take n amounts))) ≡ sets old 0 (viewsBytes (viewsIn picks n) (take n amounts))
+
+module _ (old : List ℕ) (picks : List Pick) (amounts : List ℤ) (n : ℕ) where
+  pub write-start : n ≤ length picks → n ≤ length amounts → Writable old amounts n → Writing old picks amounts n old 0
+  write-start k l g = record { place = omega arith; long = k; long₂ = l; room = g .room; same = refl; rest = refl }
+
+  module _ (out : List ℕ) (i : ℕ) (inv : Writing old picks amounts n out i) where
+    pub write-again : {new : List ℕ} → i < n → Puts out (14 * i) (viewBytes (viewIn (getD picks i noPick)) (getD amounts i (pos 0))) new
+        → Writing old picks amounts n new (i + 1)
+    write-again {new} h p =
+        let v : View = viewIn (getD picks i noPick) in
+        let z : ℤ = getD amounts i (pos 0) in
+        let vs : List View = drop (i + 1) (viewsIn picks n) in
+        let zs : List ℤ = drop (i + 1) (take n amounts) in
+        let e : 14 * (i + 1) ≡ 14 * i + length (viewBytes v z) = omega (arith, line-length v z) in
+        let f : viewsBytes (drop i (viewsIn picks n)) (drop i (take n amounts)) ≡ viewBytes v z ++ viewsBytes vs zs =
+        rw (next-view picks n i h (inv .long), next-in amounts n i (pos 0) h (inv .long₂)) (cons-bytes v z vs zs) in
+        record {
+          place = omega arith;
+          long = inv .long;
+          long₂ = inv .long₂;
+          room = inv .room;
+          same = p .long ∙ inv .same;
+          rest =
+              ap (λ (j : ℕ). sets new j (viewsBytes vs zs)) e
+              ∙ ap (λ s. sets s (14 * i + length (viewBytes v z)) (viewsBytes vs zs)) (sets-of p)
+              ∙ sets-sets (viewBytes v z) (viewsBytes vs zs) out (14 * i)
+              ∙ ap (sets out (14 * i)) (sym f)
+              ∙ inv .rest;
+        }
+
+    pub write-end : n ≤ i → Puts old 0 (viewsBytes (viewsIn picks n) (take n amounts)) out
+    write-end h =
+        let a : length (take n amounts) ≡ n = length-take-le n amounts (inv .long₂) in
+        let b : length (viewsIn picks n) ≡ n = views-count picks n (inv .long) in
+        let e : viewsBytes (drop i (viewsIn picks n)) (drop i (take n amounts)) ≡ [] = rw (views-end picks n i (inv .long) h) (no-bytes (drop i (take n amounts))) in
+        puts-of (omega (arith, inv .room, lines-length (viewsIn picks n) (take n amounts) (a ∙ sym b)))
+        (sym (ap (sets out (14 * i)) e) ∙ inv .rest)

@@ -1,0 +1,6 @@
+pub mod WalkLaws
+pub mod AmountLaws
+pub mod ByteLaws
+pub mod ViewLaws
+pub mod ChosenLaws
+pub mod PricedLaws

@@ -1,0 +1,25 @@
+-- `lines::amount_of` meets its contract: what the share is of, the exact amount, and its rounding.
+use mathlib.Core.Path.{refl}
+use borrow.Author.Needs.{needs}
+use Rattle.lines.specs.Views.{viewIn}
+use Rattle.lines.proofs.AmountLaws.{share-of, can-round, line-is}
+use Rattle.lines.proofs.amount_of.Statement.{statement}
+use Rattle.lines.proofs.amount_of.Tie as tie
+
+exact-requires : tie.Need-exact-requires
+exact-requires c κs =
+    let s = c .before .before .before in
+    share-of (viewIn (s .args .pick)) _ _ (s .pre) _ _ (c .either .ensures)
+
+rounded-requires : tie.Need-rounded-requires
+rounded-requires c κs =
+    let s = c .before .before .before .before in
+    can-round (viewIn (s .args .pick)) _ _ (s .pre) _ _ (c .before .either .ensures) _ (c .exact .ensures)
+
+returns : tie.Need-returns
+returns c =
+    let s = c .before .before .before .before .before in
+    line-is (viewIn (s .args .pick)) _ _ (s .pre) _ _ (c .before .before .either .ensures) _ (c .before .exact .ensures) refl _ (c .rounded .ensures)
+
+pub amount-of-spec : {M : Type 1} → statement M
+amount-of-spec = tie.close (tie.spec (λ c κs. search needs) exact-requires rounded-requires returns)

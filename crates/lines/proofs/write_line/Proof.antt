@@ -1,0 +1,28 @@
+-- `lines::write_line` meets its contract: three fields, one behind the other, by `line-puts`.
+use borrow.Author.Needs.{needs}
+use mir.ValLaws.{toZ-ofZ}
+use Rattle.lines.specs.Views.{viewIn}
+use Rattle.lines.proofs.ByteLaws.{line-puts}
+use Rattle.lines.proofs.write_line.Statement.{statement}
+use Rattle.lines.proofs.write_line.Tie as tie
+
+returns : tie.Need-returns
+returns c =
+    let eight = c .before .before in
+    let pair = eight .before .before .before .before in
+    let four = pair .before .before .before .before in
+    let s = four .before .before .before in
+    line-puts (viewIn (s .args .pick)) (s .args .amount) (four .put-four .ensures) (pair .put-pair .ensures)
+    (simp (toZ-ofZ, s .fits .amount) at (eight .put-signed-eight .ensures))
+
+pub write-line-spec : {M : Type 1} → statement M
+write-line-spec =
+    tie.close
+    (tie.spec
+    (λ c κs. search needs)  -- put-four-requires
+    (λ c. search needs)  -- add-put-pair
+    (λ c κs. search needs)  -- put-pair-requires
+    (λ c. search needs)  -- add-put-signed-eight
+    (λ c κs. search needs)  -- put-signed-eight-requires
+    (λ c. search needs)  -- same-length
+    returns)

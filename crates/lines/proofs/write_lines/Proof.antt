@@ -1,0 +1,48 @@
+-- `lines::write_lines` meets its contract: what is written and what is left make up the whole, by the laws `write-..`.
+use Prim.Native.Nat.{_-_}
+use native.Mathlib.Omega.{arith}
+use borrow.Author.Needs.{needs}
+use lib.IntN.{ℤ, pos}
+use lib.ListN.{getD}
+use mir.ValLaws.{toZ-ofZ}
+use Rattle.integers.proofs.Signed.{within64}
+use Rattle.lines.specs.Contracts.{mostAmount}
+use Rattle.lines.proofs.ByteLaws.{Writing, write-start, write-again, write-end}
+use Rattle.lines.proofs.write_lines.Statement.{statement}
+use Rattle.lines.proofs.write_lines.Tie as tie
+
+ruleset laws = (needs, write-start, write-end)
+
+abbrev Inv-loop : tie.InvT-loop
+Inv-loop out₀ n picks amounts i₀ out i = Writing out₀ picks amounts n out i
+
+abbrev μ-loop : tie.MeasureT-loop
+μ-loop out₀ n picks amounts i₀ out i = n - i
+
+loop-again : tie.Need-loop-again Inv-loop μ-loop
+loop-again c =
+    let written = c .before .before in
+    let l = written .before .before .before .before .before in
+    let s = l .before .before in
+    let amount : ℤ = getD (s .args .t3) (l .loop .i) (pos 0) in
+    write-again _ (s .args .t2) (s .args .t3) (s .args .n) _ (l .loop .i) (l .loop .inv) (omega arith)
+    (simp (toZ-ofZ, within64 amount mostAmount (s .pre .each-in (l .loop .i)) tt) at (written .write-line .ensures))
+
+pub write-lines-spec : {M : Type 1} → statement M
+write-lines-spec =
+    tie.close
+    (tie.spec
+    Inv-loop
+    μ-loop
+    (λ c. search laws)  -- loop-holds
+    (λ c. search needs)  -- mul-write-line
+    (λ c. search needs)  -- mul-write-line-2
+    (λ c. search needs)  -- array-copy-out-write-line
+    (λ c. search needs)  -- mul-write-line-3
+    (λ c. search needs)  -- array-copy-out-write-line-2
+    (λ c κs. search needs)  -- write-line-requires
+    (λ c. search needs)  -- add-i
+    (λ c. search needs)  -- loop-less
+    loop-again
+    (λ c. search needs)  -- same-length
+    (λ c. search laws))  -- returns

@@ -1,0 +1,80 @@
+-- What the functions over chosen rows ask and give.
+use Prim.Native.Nat.{ℕ, _*_, _≤_}
+use mathlib.Core.Path.{_≡_}
+use mathlib.Core.Bool.{Bool, true, cond}
+use mathlib.Core.List.{List, map}
+use lib.Dec.{ltb}
+use lib.IntN.{ℤ, pos, natAbs}
+use lib.ListN.{length, take, getD}
+use Rattle.rules.specs.Lists.{first}
+use Rattle.rules.specs.BookLayout.{inBounds}
+use Rattle.rules.specs.Book.{Record, rows, roundings}
+use Rattle.rules.specs.Question.{Question}
+use Rattle.rules.specs.Lines.{chosen, totalOf}
+use Rattle.rules.specs.declared.Cents.{Cents}
+use Rattle.rules.specs.declared.Rounding.{Rounding}
+use Rattle.rules.specs.declared.Total.the-variants.{InRange}
+use Rattle.rules.proofs.ListLaws.{All}
+use Rattle.layout.specs.Reads.{only}
+use Rattle.lines.specs.declared.Pick.{Pick}
+use Rattle.lines.specs.declared.Listed.{Listed}
+use Rattle.lines.specs.Views.{View, viewOf, viewIn, viewsIn, noPick, isBase, baseFirst, amountOn, amountsOf}
+
+-- the first n picks are the chosen rows of a question, with their roundings looked up
+pub record StandFor (book : List Record) (q : Question) (picks : List Pick) (n : ℕ) : Type 0 where
+  pub is : viewsIn picks n ≡ map (viewOf (roundings book)) (chosen (rows book) q)
+
+-- ---- base and currency
+
+-- `r` is the place of the first base row of the first n, or n
+pub record FirstBase (picks : List Pick) (n r : ℕ) : Type 0 where
+  pub is : first isBase (viewsIn picks n) ≡ only (ltb r n) (viewIn (getD picks r noPick))
+  pub within : r ≤ n
+
+pub record OneOfTwo (test : Bool) (first second r : ℤ) : Type 0 where
+  pub is : r ≡ cond test first second
+
+-- ---- amounts
+
+-- a rounding as a book may have it
+pub record SoundRounding (r : Rounding) : Type 0 where
+  pub step-low : 1 ≤ r .step
+  pub step-high : r .step ≤ 1_000_000
+  pub before-in : natAbs (r .before .0) ≤ 1_000_000
+  pub after-in : natAbs (r .after .0) ≤ 1_000_000
+
+-- and with it a row
+pub record Sound (v : View) : Type 0 where
+  pub value-in : inBounds (v .value) ≡ true
+  pub rounding-in : SoundRounding (v .rounding)
+
+-- and totals that are in range
+pub record LineOn (v : View) (base total : ℤ) : Type 0 where
+  pub sound : Sound v
+  pub base-in : natAbs base ≤ 1_000_000_000
+  pub total-in : natAbs total ≤ 1_000_000_000
+
+-- an amount that a book's values and roundings can come to
+abbrev pub mostAmount : ℕ
+mostAmount = 100_000_003_000_000
+
+pub record LineAmount (v : View) (base total : ℤ) (r : Cents) : Type 0 where
+  pub is : r .0 ≡ amountOn base total v
+  pub near : natAbs (r .0) ≤ mostAmount
+
+pub record Listable (picks : List Pick) (n : ℕ) : Type 0 where
+  pub few : n ≤ 99
+  pub sound : All Sound (viewsIn picks n)
+  pub base-first : baseFirst (viewsIn picks n) ≡ true
+
+pub record ListedIs (picks : List Pick) (n : ℕ) (r : Listed) : Type 0 where
+  pub each-in : (i : ℕ) → natAbs (getD (r .amounts) i (pos 0)) ≤ mostAmount
+  pub total : r .total ≡ totalOf (amountsOf (viewsIn picks n))
+  pub amounts : (c : Cents) → r .total ≡ InRange c → take n (r .amounts) ≡ amountsOf (viewsIn picks n)
+
+-- ---- bytes
+
+pub record Writable (out : List ℕ) (amounts : List ℤ) (n : ℕ) : Type 0 where
+  pub few : n ≤ 99
+  pub room : 14 * n ≤ length out
+  pub each-in : (i : ℕ) → natAbs (getD amounts i (pos 0)) ≤ mostAmount

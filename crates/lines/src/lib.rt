@@ -1,0 +1,160 @@
+// From chosen rows to the lines of a price: is there a base line, is there one currency, each line's amount and the total, and the bytes of the lines.
+// The rows come by value, in the order of their lines; no book and no question is read here.
+use layout::numbers::put_four;
+use layout::numbers::put_signed_eight;
+use rules::Cents;
+use rules::Currency;
+use rules::Rounding;
+use rules::Total;
+use rules::Value;
+ghost use Prim.Native.Nat.{_+_, _≤_};
+ghost use mathlib.Core.List.{[], _∷_};
+ghost use lib.ListN.{length, take};
+ghost use Rattle.layout.specs.Ensures.{Says, Puts};
+ghost use Rattle.lines.specs.Views.{viewIn, viewsIn, letters, fits, oneCurrency, viewBytes, viewsBytes};
+ghost use Rattle.lines.specs.Contracts.{FirstBase, OneOfTwo, LineOn, LineAmount, Listable, ListedIs, Writable};
+
+// A chosen row and the rounding that its record names: all that its line needs. Place 0: no granted name brought it.
+pub struct Pick {
+    pub place: u8,
+    pub level: u8,
+    pub rule: u8,
+    pub text: u32,
+    pub value: Value,
+    pub currency: Currency,
+    pub rounding: Rounding,
+}
+
+// The amounts of the lines, in cents, and what they come to. Where the total left its range the amounts mean nothing.
+pub struct Listed {
+    pub amounts: [i64; 99],
+    pub total: Total,
+}
+
+// ---- base and currency
+
+// The place of the first base row among the first n, or n.
+pub fn first_base(picks: [Pick; 99], n: usize) -> usize
+    requires { ⌜ n ≤ 99 ⌝ }
+    ensures { λ r. ⌜ FirstBase picks n r ⌝ }
+{
+    let mut i = 0;
+    while i < n {
+        let pick = picks[i];
+        if pick.level == b'B' {
+            return i;
+        }
+        i += 1;
+    }
+    n
+}
+
+// A percentage is in every currency.
+fn is_in(pick: Pick, c: Currency) -> bool
+    ensures { λ r. ⌜ Says (fits (letters c) (viewIn pick)) r ⌝ }
+{
+    let value = pick.value;
+    let own = pick.currency;
+    match value {
+        Value::Fixed(_) => (own.0 == c.0) & (own.1 == c.1) & (own.2 == c.2),
+        Value::Percent(_) => true,
+    }
+}
+
+// Whether each of the first n rows is in the currency c.
+pub fn in_one_currency(picks: [Pick; 99], n: usize, c: Currency) -> bool
+    requires { ⌜ n ≤ 99 ⌝ }
+    ensures { λ r. ⌜ Says (oneCurrency (letters c) (viewsIn picks n)) r ⌝ }
+{
+    let mut ok = true;
+    let mut i = 0;
+    while i < n {
+        ok = ok & is_in(picks[i], c);
+        i += 1;
+    }
+    ok
+}
+
+// ---- amounts
+
+// The first of two amounts where the test holds, else the second.
+fn either(test: bool, first: Cents, second: Cents) -> Cents
+    ensures { λ r. ⌜ OneOfTwo test (first .0) (second .0) (r .0) ⌝ }
+{
+    if test { first } else { second }
+}
+
+// The amount of a line behind others: `base` is what the base lines among them come to, and `total` all of them.
+fn amount_of(pick: Pick, base: Cents, total: Cents) -> Cents
+    requires { ⌜ LineOn (viewIn pick) (base .0) (total .0) ⌝ }
+    ensures { λ r. ⌜ LineAmount (viewIn pick) (base .0) (total .0) r ⌝ }
+{
+    let value = pick.value;
+    let rounding = pick.rounding;
+    let of = either(pick.rule == 1, base, total);
+    let exact = amounts::exact(value, of);
+    amounts::rounded(rounding, exact)
+}
+
+// The amounts of the first n rows' lines. Base lines come first, so what they come to is the total behind the last of them.
+pub fn list_amounts(picks: [Pick; 99], n: usize) -> Listed
+    requires { ⌜ Listable picks n ⌝ }
+    ensures { λ r. ⌜ ListedIs picks n r ⌝ }
+{
+    let mut listed = [0i64; 99];
+    let mut base = Cents(0);
+    let mut total = Cents(0);
+    let mut i = 0;
+    while i < n {
+        let pick = picks[i];
+        let amount = amount_of(pick, base, total);
+        let next = amounts::add_line(total, amount);
+        let Total::InRange(after) = next else {
+            return Listed {
+                amounts: listed,
+                total: Total::OutOfRange,
+            };
+        };
+        base = either(pick.level == b'B', after, base);
+        total = after;
+        let cents = amount.0;
+        listed[i] = cents;
+        i += 1;
+    }
+    Listed {
+        amounts: listed,
+        total: Total::InRange(total),
+    }
+}
+
+// ---- bytes
+
+fn put_pair(out: &mut [u8], at: usize, first: u8, second: u8)
+    requires { ⌜ at + 2 ≤ length (now out) ⌝ }
+    ensures { λ _. ⌜ Puts (now (out .entry)) at (first ∷ second ∷ []) (now (out .exit)) ⌝ }
+{
+    out[at] = first;
+    out[at + 1] = second;
+}
+
+// The 14 bytes of a line: the text's number, the level's letter, the place of the granted name, the amount.
+fn write_line(out: &mut [u8], at: usize, pick: Pick, amount: i64)
+    requires { ⌜ at + 14 ≤ length (now out) ⌝ }
+    ensures { λ _. ⌜ Puts (now (out .entry)) at (viewBytes (viewIn pick) amount) (now (out .exit)) ⌝ }
+{
+    put_four(out, at, pick.text);
+    put_pair(out, at + 4, pick.level, pick.place);
+    put_signed_eight(out, at + 6, amount);
+}
+
+// The first n lines, one behind the other, to the front of `out`.
+pub fn write_lines(out: &mut [u8], picks: [Pick; 99], amounts: [i64; 99], n: usize)
+    requires { ⌜ Writable (now out) amounts n ⌝ }
+    ensures { λ _. ⌜ Puts (now (out .entry)) 0 (viewsBytes (viewsIn picks n) (take n amounts)) (now (out .exit)) ⌝ }
+{
+    let mut i = 0;
+    while i < n {
+        write_line(out, 14 * i, picks[i], amounts[i]);
+        i += 1;
+    }
+}
