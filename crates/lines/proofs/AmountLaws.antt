@@ -155,16 +155,6 @@ module _ (picks : List Pick) (n : ℕ) where
       }
 
   module _ (listed : List ℤ) (base total : ℤ) (i : ℕ) (inv : Listing picks n listed base total i) where
-    pub list-end : n ≤ i → ListedIs picks n (record { amounts = listed; total = InRange (record { 0 = total }) })
-    list-end h =
-        let e : i ≡ n = omega (arith, inv .place) in
-        let f : amountsFrom base total (drop i (viewsIn picks n)) ≡ [] = ap (amountsFrom base total) (views-end picks n i (inv .long) h) ∙ no-amounts base total in
-        record {
-          each-in = inv .each-in;
-          total = sym (from-end total) ∙ ap (totalFrom total) (sym f) ∙ inv .to-add;
-          amounts = λ c r. ap (λ (k : ℕ). take k listed) (sym e) ∙ sym (append-nil (take i listed)) ∙ ap (λ zs. take i listed ++ zs) (sym f) ∙ inv .left;
-        }
-
     module _ (h : i < n) where
       abbrev here : View
       here = viewIn (getD picks i noPick)
@@ -225,3 +215,13 @@ module _ (picks : List Pick) (n : ℕ) where
                     ∙ inv .left);
                 to-add = sym (from-in total (r .0) (amountsFrom base′ (after .0) behind) after e) ∙ ap (totalFrom total) (sym step) ∙ inv .to-add;
               }
+
+    pub list-end : n ≤ i → ListedIs picks n (record { amounts = listed; total = InRange (record { 0 = total }) })
+    list-end h =
+        let e : i ≡ n = omega (arith, inv .place) in
+        let f : amountsFrom base total (drop i (viewsIn picks n)) ≡ [] = ap (amountsFrom base total) (views-end picks n i (inv .long) h) ∙ no-amounts base total in
+        record {
+          each-in = inv .each-in;
+          total = sym (from-end total) ∙ ap (totalFrom total) (sym f) ∙ inv .to-add;
+          amounts = λ c r. ap (λ (k : ℕ). take k listed) (sym e) ∙ sym (append-nil (take i listed)) ∙ ap (λ zs. take i listed ++ zs) (sym f) ∙ inv .left;
+        }

@@ -97,6 +97,7 @@ fn amount_of(pick: Pick, base: Cents, total: Cents) -> Cents
 }
 
 // The amounts of the first n rows' lines. Base lines come first, so what they come to is the total behind the last of them.
+// The total is tested behind each line: one that has left its range is not brought back by a later line.
 pub fn list_amounts(picks: [Pick; 99], n: usize) -> Listed
     requires { ⌜ Listable picks n ⌝ }
     ensures { λ r. ⌜ ListedIs picks n r ⌝ }
