@@ -2,14 +2,14 @@
 use Prim.Native.Nat.{ℕ, zero, suc, _+_, _-_, _*_, _/_, _%_, _≤_, _<_}
 use mathlib.Core.Path.{_≡_, refl, sym, _∙_, ap, subst}
 use mathlib.Core.Bool.{Bool, true, false, cond}
-use mathlib.Core.List.{List, [], _∷_}
-use mathlib.Core.Option.{Option, some, none, Option·map}
+use mathlib.Core.List.{List}
+use mathlib.Core.Option.{Option, none, Option·map}
 use native.Mathlib.Omega.{arith}
 use lib.ListN.{length, take, drop, getD, length-drop}
 use lib.Seq.{length-take-le}
 use Rattle.rules.specs.Lists.{isSome, keep}
 use Rattle.rules.specs.Layout.{whole}
-use Rattle.rules.specs.Book.{Row, Record, PriceRecord, rows}
+use Rattle.rules.specs.Book.{Row, PriceRecord, rows}
 use Rattle.rules.specs.BookLayout.{kinded}
 use Rattle.rules.specs.Question.{Question, on}
 use Rattle.rules.specs.Choice.{choose}
@@ -23,7 +23,7 @@ use Rattle.records.specs.Asks.{OfKind}
 use Rattle.records.specs.Ensures.{rowIn, RowIs}
 use Rattle.records.proofs.FieldLaws.{kind-byte}
 use Rattle.question.specs.declared.Ask.{Ask}
-use Rattle.question.specs.Counted.{valuesAt, Standing}
+use Rattle.question.specs.Counted.{valuesAt}
 use Rattle.question.specs.Parts.{nameAt, namesAt, NamesStand}
 use Rattle.question.specs.Asked.{askIn, AskIs}
 use Rattle.question.proofs.CountedLaws.{walk-step}

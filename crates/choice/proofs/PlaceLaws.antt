@@ -6,18 +6,18 @@ use mathlib.Core.List.{List, [], _∷_, map}
 use native.Mathlib.Omega.{arith}
 use lib.Dec.{eqb}
 use lib.ListN.{length, drop, take, getD, length-map}
-use borrow.Author.Tests.{eq-eqb, ne-eqb}
+use borrow.Author.Tests.{ne-eqb}
 use Rattle.rules.specs.Lists.{same}
 use Rattle.rules.specs.Bytes.{name, raise}
 use Rattle.rules.specs.Book.{base, surcharge, discount}
-use Rattle.layout.specs.Reads.{part, nameStop}
+use Rattle.layout.specs.Reads.{nameStop}
 use Rattle.layout.specs.Ensures.{Number, Says}
 use Rattle.layout.proofs.NameLaws.{Comparing, compare-not, compare-start, compare-again, compare-end}
-use Rattle.question.specs.Counted.{valuesAt, Stands, Step}
+use Rattle.question.specs.Counted.{valuesAt, Stands}
 use Rattle.question.specs.Parts.{nameAt, namesAt, NamesStand}
 use Rattle.question.specs.Asked.{NameStop}
 use Rattle.question.proofs.CountedLaws.{walk-step, walk-here}
-use Rattle.choice.specs.Slots.{nowhere, placeFrom, placeOf, levelOf}
+use Rattle.choice.specs.Slots.{placeFrom, placeOf, levelOf}
 
 -- ---- a name, raised, and another
 

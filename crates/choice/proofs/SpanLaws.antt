@@ -8,8 +8,8 @@ use native.Mathlib.Omega.{arith}
 use lib.Dec.{eqb, ltb}
 use lib.ListN.{length, take, drop}
 use lib.Seq.{length-take-le, take-take}
-use borrow.Author.Tests.{eq-eqb, ne-eqb, ltb-false, eqb-true, eqb-false}
-use Rattle.rules.specs.Lists.{same, isSome, keep, consIf, consSome, gather}
+use borrow.Author.Tests.{eq-eqb, ne-eqb, ltb-false, eqb-true}
+use Rattle.rules.specs.Lists.{same, isSome, keep, consIf, consSome}
 use Rattle.rules.specs.Layout.{whole}
 use Rattle.rules.specs.Bytes.{big}
 use Rattle.rules.specs.Book.{Row, Record, ArticleRecord, PriceRecord, RoundingRecord, PackagingRecord, SchemeRecord, rows}
@@ -17,7 +17,6 @@ use Rattle.rules.specs.BookLayout.{kinded}
 use Rattle.rules.specs.Question.{Question}
 use Rattle.rules.proofs.ListLaws.{keep-append}
 use Rattle.layout.specs.Reads.{part}
-use Rattle.layout.specs.Ensures.{Number, Accepts}
 use Rattle.book.specs.Records.{recordIn, recordsFrom, listed, recordsLeft}
 use Rattle.book.specs.Ensures.{Between, RecordEnd, StopIs}
 use Rattle.book.proofs.BookLaws.{inFront, record-good, from-end, from-record}

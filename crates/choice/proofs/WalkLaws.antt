@@ -1,26 +1,25 @@
 -- The walk over the records: each slot sees the rows of its level and place, and no others, in the book's order.
-use Prim.Native.Nat.{ℕ, _+_, _-_, _*_, _/_, _%_, _≤_, _<_}
+use Prim.Native.Nat.{ℕ, _+_, _-_, _*_, _≤_, _<_}
 use mathlib.Core.Path.{_≡_, refl, sym, _∙_, ap, subst}
-use mathlib.Core.Bool.{Bool, true, false, _&&_, _||_, not, cond, false≢true}
-use mathlib.Core.List.{List, [], _∷_}
+use mathlib.Core.Bool.{Bool, true, false, _&&_, _||_, not, cond}
+use mathlib.Core.List.{List, _∷_}
 use mathlib.Core.Option.{Option, some, none}
 use native.Mathlib.Omega.{arith}
-use native.Mathlib.Decide.{decLt}
-use lib.Dec.{eqb, leb, ltb}
+use lib.Dec.{eqb, ltb}
 use lib.ListN.{length, take, drop, getD, set, replicate, length-set, length-replicate, getD-replicate}
 use lib.Seq.{getD-set-same, getD-set-other}
-use borrow.Author.Tests.{lt-ltb, le-ltb, eq-eqb, ne-eqb, eqb-true, eqb-false}
+use borrow.Author.Tests.{eq-eqb, ne-eqb, eqb-true, eqb-false}
 use Rattle.rules.specs.Lists.{same, isSome, keep, consIf, consSome, pick, first}
 use Rattle.rules.specs.Layout.{whole}
 use Rattle.rules.specs.Book.{Row, Record, ArticleRecord, PriceRecord, RoundingRecord, PackagingRecord, SchemeRecord, rows, articles, articleOf}
 use Rattle.rules.specs.BookLayout.{kinded}
 use Rattle.rules.specs.Question.{Question}
-use Rattle.rules.specs.Choice.{better, choose}
-use Rattle.rules.proofs.TestLaws.{and-false, or-false, or-assoc}
+use Rattle.rules.specs.Choice.{better}
+use Rattle.rules.proofs.TestLaws.{or-false, or-assoc}
 use Rattle.rules.proofs.BestLaws.{inHand}
 use Rattle.rules.proofs.ChoiceLaws as Choice
 use Rattle.layout.specs.Reads.{part}
-use Rattle.layout.specs.Ensures.{Number, Says}
+use Rattle.layout.specs.Ensures.{Says}
 use Rattle.book.specs.Records.{recordsLeft}
 use Rattle.book.specs.Ensures.{Between, RecordHere, StopIs}
 use Rattle.book.proofs.WalkLaws.{pass-here, pass-next, pass-record, pass-end}
@@ -29,10 +28,9 @@ use Rattle.records.specs.Tests as Tests
 use Rattle.choice.specs.declared.hands.Hand.{Hand}
 use Rattle.choice.specs.declared.hands.Seen.{Seen}
 use Rattle.choice.specs.declared.hands.Passing.{Passing}
-use Rattle.choice.specs.declared.Walked.{Walked}
 use Rattle.choice.specs.declared.span.Span.{Span}
 use Rattle.choice.specs.Slots.{inSlot}
-use Rattle.choice.specs.Hands.{limitOf, betterHand, handAfter, seenAfter, HandAfter, SeenAfter, RowThere, HandIs, NoRow, OneRow, SeenIs}
+use Rattle.choice.specs.Hands.{limitOf, betterHand, handAfter, seenAfter, SeenAfter, RowThere, HandIs, NoRow, OneRow, SeenIs}
 use Rattle.choice.specs.Walk.{slotOf, passingOf, Passes, unseen, seenOf, WalkIs}
 use Rattle.choice.specs.Span.{SpanAfter}
 use Rattle.choice.proofs.PassingLaws.{slot-in}

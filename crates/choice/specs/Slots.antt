@@ -1,8 +1,8 @@
 -- The 99 slots of a price: three levels of 33 places, the unconditioned one and one for each granted name.
-use Prim.Native.Nat.{ℕ, zero, suc, _+_, _*_, _/_, _%_}
-use mathlib.Core.Bool.{Bool, true, false, _&&_, cond}
+use Prim.Native.Nat.{ℕ, zero, suc, _/_, _%_}
+use mathlib.Core.Bool.{Bool, _&&_, cond}
 use mathlib.Core.List.{List, [], _∷_, map}
-use mathlib.Core.Option.{Option, some, none, Option·map}
+use mathlib.Core.Option.{Option, Option·map}
 use lib.Dec.{eqb}
 use Rattle.rules.specs.Lists.{same, keep, gather}
 use Rattle.rules.specs.Bytes.{raise}

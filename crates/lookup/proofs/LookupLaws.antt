@@ -1,13 +1,12 @@
 -- A lookup by places meets the definition's: each turn, the hit, and the end.
 use Prim.Native.Nat.{ℕ, _+_, _≤_, _<_, _-_}
 use mathlib.Core.Path.{_≡_, refl, sym, _∙_, ap}
-use mathlib.Core.Bool.{Bool, true, false, false≢true}
-use mathlib.Core.List.{List, [], _∷_}
+use mathlib.Core.Bool.{Bool, true, false}
+use mathlib.Core.List.{List, _∷_}
 use mathlib.Core.Option.{Option, some, none}
 use native.Mathlib.Omega.{arith}
-use lib.Dec.{eqb}
 use lib.ListN.{length}
-use Rattle.rules.specs.Lists.{isSome, consSome}
+use Rattle.rules.specs.Lists.{consSome}
 use Rattle.rules.specs.Layout.{whole}
 use Rattle.rules.specs.Book.{Record, ArticleRecord, PriceRecord, RoundingRecord, PackagingRecord, SchemeRecord, roundings, roundingFor, plain}
 use Rattle.rules.specs.BookLayout.{kinded}
@@ -17,7 +16,7 @@ use Rattle.layout.specs.Ensures.{Says}
 use Rattle.book.specs.Records.{recordsLeft}
 use Rattle.book.specs.Ensures.{Between, RecordHere, StopIs}
 use Rattle.book.proofs.WalkLaws.{pass-end, pass-here, pass-less, pass-next, pass-record}
-use Rattle.records.specs.Asks.{OfKind, Accepted}
+use Rattle.records.specs.Asks.{OfKind}
 use Rattle.records.specs.Ensures.{RoundingIs}
 use Rattle.records.specs.Tests.{roundingOf}
 use Rattle.records.proofs.RoundingLaws.{rounding-kind}

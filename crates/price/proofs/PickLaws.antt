@@ -1,0 +1,178 @@
+-- A chosen row by value is the definition's, and its line can be worked out.
+use Prim.Native.Nat.{ℕ, suc, _+_, _-_, _/_, _%_, _≤_, _<_}
+use mathlib.Core.Path.{_≡_, refl, sym, _∙_, ap, subst}
+use mathlib.Core.Bool.{Bool, true, false, cond}
+use mathlib.Core.List.{List, [], _∷_, _++_, map, append-assoc, append-nil}
+use mathlib.Core.Option.{Option, some, none}
+use native.Mathlib.Omega.{arith}
+use lib.Dec.{eqb}
+use lib.ListN.{length, take, drop, getD, set, length-set}
+use lib.Seq.{take-set-le, take-suc-set}
+use borrow.Author.Tests.{eqb-true, eqb-false, ne-eqb}
+use Rattle.rules.specs.Lists.{gather, consSome}
+use Rattle.rules.specs.Book.{Row, Record, rows, roundings}
+use Rattle.rules.specs.Question.{Question}
+use Rattle.rules.specs.Lines.{Chosen}
+use Rattle.rules.proofs.ListLaws.{All}
+use Rattle.rules.specs.declared.PriceRow.{PriceRow}
+use Rattle.rules.specs.declared.Rounding.{Rounding}
+use Rattle.book.specs.Records.{recordsLeft}
+use Rattle.records.specs.Asks.{OfKind}
+use Rattle.records.specs.Ensures.{RowIs, rowIn}
+use Rattle.lookup.specs.Ensures.{RoundingUsed}
+use Rattle.choice.specs.Hands.{TakenIs}
+use Rattle.question.specs.declared.Ask.{Ask}
+use Rattle.question.specs.Asked.{askIn}
+use Rattle.choice.specs.Walk.{Asking, SlotsHold, WalkIs, unseen}
+use Rattle.choice.specs.Slots.{slotChosen, slotsChosen, upFrom}
+use Rattle.choice.specs.declared.hands.Seen.{Seen}
+use Rattle.choice.specs.declared.Walked.{Walked}
+use Rattle.choice.proofs.SlotLaws.{Granted, slots-choose}
+use Rattle.choice.specs.declared.hands.Hand.{Hand}
+use Rattle.choice.proofs.ChosenLaws.{there-kind, there-row, slot-empty, slot-full, asking-granted}
+use Rattle.lines.specs.declared.Pick.{Pick}
+use Rattle.lines.specs.Views.{View, viewOf, viewIn, viewsIn}
+use Rattle.lines.specs.Contracts.{Sound}
+use Rattle.price.specs.Picks.{Held, HandHeld, RowPicked, HandPicked, Counted, viewsFrom, Picking, PicksSoFar, PicksAre}
+
+pub held-kind : {b : List ℕ} {at end : ℕ} → Held b at end → OfKind 2 (take (end - at) (drop at b))
+held-kind h = there-kind (h .there)
+
+module _ {b : List ℕ} {at end : ℕ} (held : Held b at end) {row : PriceRow} (is : RowIs (take (end - at) (drop at b)) row)
+    {rounding : Rounding} (used : RoundingUsed b 5 (row .rounding) rounding) where
+  pub row-picked : (place : ℕ) → RowPicked b at end place (record { place = place; level = row .level; rule = row .rule; text = row .text; value = row .value; currency = row .currency; rounding = rounding })
+  unfolding rowIn
+  row-picked place =
+      record {
+        is = λ r there.
+            let e : rowIn (take (end - at) (drop at b)) row ≡ r = there-row there row is in
+            subst (λ (x : Row). _≡_ {A = View} (record { place = place; level = row .level; rule = row .rule; text = row .text; value = row .value; currency = row .currency .0 ∷ row .currency .1 ∷ row .currency .2 ∷ []; rounding = rounding })
+            (viewOf (roundings (recordsLeft b 5)) (record { place = place; row = x }))) e
+            (λ i. record { place = place; level = row .level; rule = row .rule; text = row .text; value = row .value; currency = row .currency .0 ∷ row .currency .1 ∷ row .currency .2 ∷ []; rounding = used .is i });
+        sound = record { value-in = is .value-in; rounding-in = record { step-low = used .step-low; step-high = used .step-high; before-in = used .before-in; after-in = used .after-in } };
+      }
+
+module _ {b : List ℕ} {h : Hand} where
+  pub nothing-picked : h .at ≡ 0 → (place : ℕ) (p : Pick) → HandPicked b h place p
+  nothing-picked e place p = record { picked = λ n. absurd (n e) }
+
+  pub hand-held : HandHeld b h → (h .at ≡ 0 → ⊥) → Held b (h .at) (h .end)
+  hand-held w n = w .held n
+
+  pub hand-picked : {place : ℕ} {p : Pick} → RowPicked b (h .at) (h .end) place p → HandPicked b h place p
+  hand-picked r = record { picked = λ n. r }
+
+pub counts-none : {h : Hand} → h .at ≡ 0 → Counted h 0
+counts-none {h} e = record { is = rw e; most = omega arith }
+
+pub counts-one : {h : Hand} → (h .at ≡ 0 → ⊥) → Counted h 1
+counts-one {h} n = record { is = rw (ne-eqb (h .at) 0 n); most = omega arith }
+
+-- ---- slot after slot
+
+module _ {w : List ℕ} {q : Question} {slots : List Seen} {rs : List Row} (holds : SlotsHold w rs q slots) {i : ℕ} (l : i < 99) {hand : Hand} (t : TakenIs (getD slots i unseen) hand) where
+  -- a slot's row in hand stands in the book
+  pub slot-held : HandHeld w hand
+  slot-held = record { held = λ n. let x = slot-full holds l t n in record { row = x .0; there = x .1 } }
+
+all-append : {A : Type 0} (P : A → Type 0) (xs : List A) (y : A) → All P xs → P y → All P (xs ++ (y ∷ []))
+all-append P [] y h k = (k, tt)
+all-append P (x ∷ xs) y h k = (h .0, all-append P xs y (h .1) k)
+
+map-append : {A B : Type 0} (f : A → B) (xs : List A) (y : A) → map f (xs ++ (y ∷ [])) ≡ map f xs ++ (f y ∷ [])
+map-append f [] y = refl
+map-append f (x ∷ xs) y = ap (λ zs. f x ∷ zs) (map-append f xs y)
+
+-- the slot i, and those behind it
+views-step : (rs : List Record) (q : Question) (i : ℕ) → i < 99 → (o : Option Chosen) → slotChosen (rows rs) q (i / 33) (i % 33) ≡ o
+    → viewsFrom rs q i ≡ map (viewOf (roundings rs)) (consSome o (gather (λ k. slotChosen (rows rs) q (k / 33) (k % 33)) (upFrom (i + 1) (99 - (i + 1)))))
+unfolding viewsFrom
+views-step rs q i l o e =
+    let n : 99 - i ≡ suc (99 - (i + 1)) = omega arith in
+    let m : suc i ≡ i + 1 = omega arith in
+    ap (λ (k : ℕ). map (viewOf (roundings rs)) (gather (λ k. slotChosen (rows rs) q (k / 33) (k % 33)) (upFrom i k))) n
+    ∙ ap (λ (o : Option Chosen). map (viewOf (roundings rs)) (consSome o (gather (λ k. slotChosen (rows rs) q (k / 33) (k % 33)) (upFrom (suc i) (99 - (i + 1)))))) e
+    ∙ ap (λ (j : ℕ). map (viewOf (roundings rs)) (consSome o (gather (λ k. slotChosen (rows rs) q (k / 33) (k % 33)) (upFrom j (99 - (i + 1)))))) m
+
+pub pick-start : (rs : List Record) (q : Question) (picks : List Pick) → length picks ≡ 99 → Picking rs q picks 0 0
+pick-start rs q picks l = record { few = omega arith; most = omega arith; long = l; goes = refl; sound = tt }
+
+module _ {w : List ℕ} {q : Question} {slots : List Seen} (holds : SlotsHold w (rows (recordsLeft w 5)) q slots)
+    {picks : List Pick} {n i : ℕ} (p : Picking (recordsLeft w 5) q picks n i) (l : i < 99) {hand : Hand} (t : TakenIs (getD slots i unseen) hand)
+    {pick : Pick} (h : HandPicked w hand (i % 33) pick) where
+  -- no row: the slots go on
+  skipped : hand .at ≡ 0 → Picking (recordsLeft w 5) q (set picks n pick) n (i + 1)
+  unfolding viewsFrom
+  skipped e =
+      let same : take n (set picks n pick) ≡ take n picks = take-set-le n picks n pick (omega arith) in
+      let views : viewsIn (set picks n pick) n ≡ viewsIn picks n = ap (map viewIn) same in
+      record {
+        few = omega (arith, p .few);
+        most = omega arith;
+        long = length-set picks n pick ∙ p .long;
+        goes = ap (λ (vs : List View). vs ++ viewsFrom (recordsLeft w 5) q (i + 1)) views
+            ∙ ap (λ (vs : List View). viewsIn picks n ++ vs) (sym (views-step (recordsLeft w 5) q i l none (slot-empty holds l t e)))
+            ∙ p .goes;
+        sound = subst (All Sound) (sym views) (p .sound);
+      }
+
+  -- a row: it is the next
+  taken-in : (hand .at ≡ 0 → ⊥) → Picking (recordsLeft w 5) q (set picks n pick) (n + 1) (i + 1)
+  unfolding viewsFrom
+  taken-in e =
+      let x = slot-full holds l t e in
+      let k : n < length picks = omega (arith, p .few, p .long) in
+      let m : n + 1 ≡ suc n = omega arith in
+      let front : take (n + 1) (set picks n pick) ≡ take n picks ++ (pick ∷ []) = ap (λ (j : ℕ). take j (set picks n pick)) m ∙ take-suc-set picks n pick k in
+      let views : viewsIn (set picks n pick) (n + 1) ≡ viewsIn picks n ++ (viewIn pick ∷ []) = ap (map viewIn) front ∙ map-append viewIn (take n picks) pick in
+      let v : viewIn pick ≡ viewOf (roundings (recordsLeft w 5)) (record { place = i % 33; row = x .0 }) = h .picked e .is (x .0) (x .1) in
+      record {
+        few = omega (arith, p .few);
+        most = omega arith;
+        long = length-set picks n pick ∙ p .long;
+        goes = ap (λ (vs : List View). vs ++ viewsFrom (recordsLeft w 5) q (i + 1)) views
+            ∙ append-assoc (viewsIn picks n) (viewIn pick ∷ []) (viewsFrom (recordsLeft w 5) q (i + 1))
+            ∙ ap (λ (y : View). viewsIn picks n ++ (y ∷ viewsFrom (recordsLeft w 5) q (i + 1))) v
+            ∙ ap (λ (vs : List View). viewsIn picks n ++ vs) (sym (views-step (recordsLeft w 5) q i l (some (record { place = i % 33; row = x .0 })) (x .2 .is)))
+            ∙ p .goes;
+        sound = subst (All Sound) (sym views) (all-append Sound (viewsIn picks n) (viewIn pick) (p .sound) (h .picked e .sound));
+      }
+
+  pub pick-turn : {c : ℕ} → Counted hand c → Picking (recordsLeft w 5) q (set picks n pick) (n + c) (i + 1)
+  pick-turn {c} d = go (eqb (hand .at) 0) refl
+    where
+      go : (b : Bool) → eqb (hand .at) 0 ≡ b → Picking (recordsLeft w 5) q (set picks n pick) (n + c) (i + 1)
+      go true e =
+          let z : n ≡ n + c = omega (arith, d .is ∙ ap (λ (b : Bool). cond b 0 1) e) in
+          subst (λ (k : ℕ). Picking (recordsLeft w 5) q (set picks n pick) k (i + 1)) z (skipped (eqb-true (hand .at) 0 e))
+      go false e =
+          let z : n + 1 ≡ n + c = omega (arith, d .is ∙ ap (λ (b : Bool). cond b 0 1) e) in
+          subst (λ (k : ℕ). Picking (recordsLeft w 5) q (set picks n pick) k (i + 1)) z (taken-in (eqb-false (hand .at) 0 e))
+
+pub pick-end : {w : List ℕ} {q : Question} {walked : Walked} → WalkIs w 5 q walked → Granted (q .granted) → {picks : List Pick} {n i : ℕ} → Picking (recordsLeft w 5) q picks n i → 99 ≤ i
+    → PicksAre w q (record { rows = picks; n = n; found = walked .found })
+unfolding viewsFrom slotsChosen
+pick-end {w} {q} walk g {picks} {n} {i} p h =
+    let e : i ≡ 99 = omega (arith, p .most) in
+    let rest : viewsFrom (recordsLeft w 5) q i ≡ [] = ap (viewsFrom (recordsLeft w 5) q) e in
+    record {
+      few = omega (arith, p .few, p .most);
+      long = p .long;
+      is = sym (append-nil (viewsIn picks n)) ∙ ap (λ (vs : List View). viewsIn picks n ++ vs) (sym rest) ∙ p .goes ∙ ap (map (viewOf (roundings (recordsLeft w 5)))) (slots-choose q g (rows (recordsLeft w 5)));
+      sound = p .sound;
+      found = walk .found;
+    }
+
+-- ---- for every question that the slots were filled for
+
+pub so-far-start : (b : List ℕ) (slots : List Seen) (picks : List Pick) → length picks ≡ 99 → PicksSoFar b slots picks 0 0
+so-far-start b slots picks l = record { few = omega arith; long = l; each = λ q h. pick-start (recordsLeft b 5) q picks l }
+
+pub so-far-turn : {b : List ℕ} {slots : List Seen} {picks : List Pick} {n i : ℕ} → PicksSoFar b slots picks n i → i < 99 → {hand : Hand} → TakenIs (getD slots i unseen) hand
+    → {pick : Pick} → HandPicked b hand (i % 33) pick → {c : ℕ} → Counted hand c → PicksSoFar b slots (set picks n pick) (n + c) (i + 1)
+so-far-turn {b} {slots} {picks} {n} {i} w l t {pick} h d =
+    record { few = omega (arith, w .few, d .most); long = length-set picks n pick ∙ w .long; each = λ q holds. pick-turn holds (w .each q holds) l t h d }
+
+pub so-far-end : {b : List ℕ} {q : List ℕ} {ask : Ask} {walked : Walked} → WalkIs b 5 (askIn q ask) walked → Asking q ask → {picks : List Pick} {n i : ℕ} → PicksSoFar b (walked .slots) picks n i → 99 ≤ i
+    → PicksAre b (askIn q ask) (record { rows = picks; n = n; found = walked .found })
+so-far-end {q = q} {ask} w a s h = pick-end w (asking-granted a) (s .each (askIn q ask) (w .slots)) h

@@ -1,0 +1,13 @@
+use borrow.Author.Needs.{needs}
+use Rattle.price.proofs.PickLaws.{held-kind, row-picked, nothing-picked, hand-held, hand-picked, counts-none, counts-one}
+use Rattle.price.proofs.picks.counted.Statement.{statement}
+use Rattle.price.proofs.picks.counted.Tie as tie
+
+ruleset laws = (needs, held-kind, row-picked, nothing-picked, hand-held, hand-picked, counts-none, counts-one)
+
+pub counted-spec : {M : Type 1} → statement M
+counted-spec =
+    tie.close
+    (tie.spec
+    (λ c. search laws)  -- returns
+    (λ c. search laws))  -- returns-2

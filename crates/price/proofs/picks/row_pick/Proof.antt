@@ -1,0 +1,17 @@
+use borrow.Author.Needs.{needs}
+use Rattle.price.proofs.PickLaws.{held-kind, row-picked, nothing-picked, hand-held, hand-picked, counts-none, counts-one}
+use Rattle.price.proofs.picks.row_pick.Statement.{statement}
+use Rattle.price.proofs.picks.row_pick.Tie as tie
+
+ruleset laws = (needs, held-kind, row-picked, nothing-picked, hand-held, hand-picked, counts-none, counts-one)
+
+pub row-pick-spec : {M : Type 1} → statement M
+row-pick-spec =
+    tie.close
+    (tie.spec
+    (λ c. search needs)  -- sub-row-of
+    (λ c. search needs)  -- part-row-of-start
+    (λ c. search needs)  -- part-row-of-end
+    (λ c κs. search laws)  -- row-of-requires
+    (λ c κs. search laws)  -- rounding-for-requires
+    (λ c. search laws))  -- returns

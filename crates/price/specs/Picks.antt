@@ -1,0 +1,72 @@
+-- The chosen rows by value: what a pick stands for, and how far the slots were gone through.
+use Prim.Native.Nat.{ℕ, _+_, _-_, _/_, _%_, _≤_}
+use mathlib.Core.Path.{_≡_}
+use mathlib.Core.List.{List, _++_, map}
+use mathlib.Core.Bool.{cond}
+use lib.Dec.{eqb}
+use lib.ListN.{length}
+use Rattle.rules.specs.Lists.{gather, isSome}
+use Rattle.rules.specs.Book.{Row, Record, rows, roundings, articleOf}
+use Rattle.rules.specs.Question.{Question}
+use Rattle.rules.specs.Lines.{chosen}
+use Rattle.rules.proofs.ListLaws.{All}
+use Rattle.book.specs.Records.{recordsLeft}
+use Rattle.choice.specs.declared.hands.Hand.{Hand}
+use Rattle.choice.specs.Hands.{RowThere}
+use Rattle.choice.specs.Slots.{slotChosen, upFrom}
+use Rattle.choice.specs.Walk.{SlotsHold}
+use Rattle.choice.specs.declared.hands.Seen.{Seen}
+use Rattle.price.specs.declared.picks.Picks.{Picks}
+use Rattle.lines.specs.declared.Pick.{Pick}
+use Rattle.lines.specs.Views.{View, viewOf, viewIn, viewsIn}
+use Rattle.lines.specs.Contracts.{Sound}
+
+-- a price row stands from `at` to `end`
+pub record Held (b : List ℕ) (at end : ℕ) : Type 0 where
+  pub row : Row
+  pub there : RowThere b at end row
+
+-- and where the hand holds one
+pub record HandHeld (b : List ℕ) (h : Hand) : Type 0 where
+  pub held : (h .at ≡ 0 → ⊥) → Held b (h .at) (h .end)
+
+-- `p` is the row that stands there, brought by the granted name at `place`
+pub record RowPicked (b : List ℕ) (at end place : ℕ) (p : Pick) : Type 0 where
+  pub is : (r : Row) → RowThere b at end r → viewIn p ≡ viewOf (roundings (recordsLeft b 5)) (record { place = place; row = r })
+  pub sound : Sound (viewIn p)
+
+pub record HandPicked (b : List ℕ) (h : Hand) (place : ℕ) (p : Pick) : Type 0 where
+  pub picked : (h .at ≡ 0 → ⊥) → RowPicked b (h .at) (h .end) place p
+
+-- 1 where a row is in hand
+pub record Counted (h : Hand) (n : ℕ) : Type 0 where
+  pub is : n ≡ cond (eqb (h .at) 0) 0 1
+  pub most : n ≤ 1
+
+-- ---- slot after slot
+
+-- what the slots from i on choose, as lines need it
+unfoldable pub viewsFrom : List Record → Question → ℕ → List View
+viewsFrom rs q i = map (viewOf (roundings rs)) (gather (λ k. slotChosen (rows rs) q (k / 33) (k % 33)) (upFrom i (99 - i)))
+
+-- slots below i are gone through: what they chose are the first n rows, and what is left chooses the others
+pub record Picking (rs : List Record) (q : Question) (picks : List Pick) (n i : ℕ) : Type 0 where
+  pub few : n ≤ i
+  pub most : i ≤ 99
+  pub long : length picks ≡ 99
+  pub goes : viewsIn picks n ++ viewsFrom rs q i ≡ viewsFrom rs q 0
+  pub sound : All Sound (viewsIn picks n)
+
+-- so it is for every question that the slots were filled for
+pub record PicksSoFar (b : List ℕ) (slots : List Seen) (picks : List Pick) (n i : ℕ) : Type 0 where
+  pub few : n ≤ i
+  pub long : length picks ≡ 99
+  pub each : (q : Question) → SlotsHold b (rows (recordsLeft b 5)) q slots → Picking (recordsLeft b 5) q picks n i
+
+-- the first n rows are those that the definition chooses
+pub record PicksAre (b : List ℕ) (q : Question) (r : Picks) : Type 0 where
+  pub few : r .n ≤ 99
+  pub long : length (r .rows) ≡ 99
+  pub is : viewsIn (r .rows) (r .n) ≡ map (viewOf (roundings (recordsLeft b 5))) (chosen (rows (recordsLeft b 5)) q)
+  pub sound : All Sound (viewsIn (r .rows) (r .n))
+  pub found : r .found ≡ isSome (articleOf (recordsLeft b 5) (q .article))

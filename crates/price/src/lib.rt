@@ -1,0 +1,2 @@
+// The itemised price of one article.
+pub mod picks;
