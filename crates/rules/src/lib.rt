@@ -26,7 +26,7 @@ pub struct Part {
     pub size: usize,
 }
 
-// A price record, read by value. Its two names stay in the book.
+// A price record, read by value. Its two names stay in the book. Its dates are numbers, since a row may have one that is no day.
 pub struct PriceRow {
     pub article: Part,
     pub condition: Part,
@@ -66,7 +66,7 @@ pub struct Fraction {
     pub bottom: u64,
 }
 
-// A running total after some lines: where every one of them left it in range, or where one did not.
+// What lines come to, if the total was in range after each of them; or that it was not.
 pub enum Total {
     InRange(Cents),
     OutOfRange,
@@ -74,6 +74,8 @@ pub enum Total {
 
 // ---- what a caller reads
 
+// A price: for one piece and for all, how many lines were written, which granted names brought none (a bit for each place, the lowest
+// for place 1) and how many those are, the number of the refusal or 0, and the currency.
 #[repr(C)]
 pub struct PriceAnswer {
     pub unit: i64,
@@ -92,6 +94,7 @@ pub struct Written {
     pub number: u8,
 }
 
+// Days in a row with one outcome: a unit total in a currency, or a refusal with zeros.
 #[repr(C)]
 pub struct Stretch {
     pub first: u32,
@@ -101,6 +104,7 @@ pub struct Stretch {
     pub currency: [u8; 3],
 }
 
+// Packaging data: the gross weight, the eight values, which of them are present (a bit for each), and the units of length, volume and weight.
 #[repr(C)]
 pub struct PackagingAnswer {
     pub gross: i64,
