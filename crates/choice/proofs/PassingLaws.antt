@@ -8,7 +8,7 @@ use native.Mathlib.Omega.{arith}
 use native.Mathlib.Decide.{decLt}
 use lib.Dec.{eqb, leb, ltb}
 use lib.ListN.{take, drop}
-use borrow.Author.Tests.{lt-ltb, le-ltb, eq-eqb, ne-eqb, eqb-true, eqb-false}
+use borrow.Author.Tests.{lt-leb, le-leb, lt-ltb, le-ltb, eq-eqb, ne-eqb, eqb-true, eqb-false}
 use Rattle.rules.specs.Lists.{same, between}
 use Rattle.rules.specs.Layout.{whole}
 use Rattle.rules.specs.Days.{isDay}
@@ -18,7 +18,7 @@ use Rattle.rules.specs.Question.{Question, noCurrency, askedOf}
 use Rattle.rules.specs.Choice.{isPercent}
 use Rattle.rules.specs.declared.PriceRow.{PriceRow}
 use Rattle.rules.specs.declared.Currency.{Currency}
-use Rattle.rules.proofs.TestLaws.{and-left}
+use Rattle.rules.proofs.TestLaws.{and-left, and-true, and-false}
 use Rattle.rules.proofs.ChoiceLaws.{isAsked}
 use Rattle.layout.specs.Ensures.{Number, Says}
 use Rattle.book.specs.Records.{kindOf}
@@ -105,21 +105,20 @@ slot-in q r level place l p = ap (λ b. same (r .article) (q .article) && b) (go
 
 -- ---- the tests
 
-module _ (from to date : ℕ) where
-  pub holds-then : {a b : Bool} → (leb from date && leb date to) ≡ true → a ≡ isDay from → b ≡ isDay to → Says (isDay from && (isDay to && between from to date)) (a && b)
-  holds-then t e f = record { is = rw (t, e, f) (ap (λ x. isDay from && x) (and-yes (isDay to))) }
-    where
-      and-yes : (b : Bool) → (b && true) ≡ b
-      and-yes true = refl
-      and-yes false = refl
+no-day : (a b : Bool) → (a && (b && false)) ≡ false
+no-day true b = and-false b
+no-day false b = refl
 
-  pub holds-not : (leb from date && leb date to) ≡ false → Says (isDay from && (isDay to && between from to date)) false
-  holds-not t = record { is = rw t (none (isDay from) (isDay to)) }
-    where
-      none : (a b : Bool) → (a && (b && false)) ≡ false
-      none true true = refl
-      none true false = refl
-      none false b = refl
+module _ (from to date : ℕ) where
+  pub holds-not-yet : date < from → Says (isDay from && (isDay to && between from to date)) false
+  holds-not-yet h = record { is = rw (lt-leb from date h) (no-day (isDay from) (isDay to)) }
+
+  module _ (h : from ≤ date) where
+    pub holds-no-more : to < date → Says (isDay from && (isDay to && between from to date)) false
+    holds-no-more k = record { is = rw (le-leb from date h, lt-leb date to k) (no-day (isDay from) (isDay to)) }
+
+    pub holds-then : {a b : Bool} → date ≤ to → a ≡ isDay from → b ≡ isDay to → Says (isDay from && (isDay to && between from to date)) (a && b)
+    holds-then k e f = record { is = rw (le-leb from date h, le-leb date to k, e, f) (ap (λ x. isDay from && x) (and-true (isDay to))) }
 
 three : (a b c : Bool) → (a && (b && (c && true))) ≡ ((a && b) && c)
 three true true true = refl

@@ -16,7 +16,8 @@ ghost use Rattle.book.specs.Ensures.{Between};
 ghost use Rattle.question.specs.Asked.{askIn};
 ghost use Rattle.choice.specs.Walk.{Asking, WalkIs};
 
-// Slot 33 * level + place, for 3 levels of 33 places each, and behind them one that nobody reads.
+// Slot 33 * level + place, for 3 levels of 33 places each, and behind them one that nobody reads; whether the article is there;
+// and from where to where rows of the slots stand: a walk on another day may keep to that stretch.
 pub struct Walked {
     pub slots: [Seen; 100],
     pub found: bool,
@@ -24,7 +25,7 @@ pub struct Walked {
     pub last: usize,
 }
 
-// The records of w from `from` on, each once.
+// The records of w from `from` on, each once. w is a book, or the front part of one.
 pub fn walk(w: &[u8], from: usize, q: &[u8], ask: Ask) -> Walked
     requires { ⌜ Between (now w) from ⌝ }
     requires { ⌜ Asking (now q) ask ⌝ }

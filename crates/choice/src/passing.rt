@@ -61,15 +61,17 @@ fn is_percent(value: Value) -> bool
     }
 }
 
-// Whether a row of these dates holds that day. Few do, so the dates are looked at as days last.
+// Whether a row of these dates holds that day. Few do, so whether the dates are days comes last.
 fn holds(from: u32, to: u32, date: u32) -> bool
     ensures { λ r. ⌜ Says (isDay from && (isDay to && between from to date)) r ⌝ }
 {
-    if (from <= date) & (date <= to) {
-        days::Day::is_day(from) & days::Day::is_day(to)
-    } else {
-        false
+    if date < from {
+        return false;
     }
+    if to < date {
+        return false;
+    }
+    days::Day::is_day(from) & days::Day::is_day(to)
 }
 
 // Whether a row is in the asked currency. With three zeros none is asked.
