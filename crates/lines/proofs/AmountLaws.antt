@@ -95,7 +95,7 @@ first-on false false f n e = n refl
 
 -- ---- amounts in bounds
 
-zeros-in : (n k : ℕ) → natAbs (getD (replicate n (pos 0)) k (pos 0)) ≤ mostAmount
+pub zeros-in : (n k : ℕ) → natAbs (getD (replicate n (pos 0)) k (pos 0)) ≤ mostAmount
 zeros-in zero k = omega arith
 zeros-in (suc n) zero = omega arith
 zeros-in (suc n) (suc k) = zeros-in n k

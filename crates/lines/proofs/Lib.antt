@@ -4,3 +4,4 @@ pub mod ByteLaws
 pub mod ViewLaws
 pub mod ChosenLaws
 pub mod PricedLaws
+pub mod VerdictLaws

@@ -1,5 +1,7 @@
 // From chosen rows to the lines of a price: is there a base line, is there one currency, each line's amount and the total, and the bytes of the lines.
 // The rows come by value, in the order of their lines; no book and no question is read here.
+pub mod verdict;
+
 use layout::numbers::put_four;
 use layout::numbers::put_signed_eight;
 use rules::Cents;
