@@ -10,7 +10,7 @@ use lib.ListN.{take, drop, length, getD, drop-of-length-le}
 use lib.Seq.{drop-cons, getD-take, length-take-le}
 use borrow.Author.Tests.{lt-leb}
 use lib.Signed.{leZ}
-use Rattle.integers.proofs.Signed.{abs-le, abs-parts, le-in, lt-in, leZ-true, leZ-false}
+use Rattle.integers.proofs.Signed.{abs-le, abs-parts, sum-parts, le-in, lt-in, leZ-true, leZ-false}
 use Rattle.rules.specs.Lists.{all}
 use Rattle.rules.specs.Bytes.{eitherSide}
 use Rattle.rules.specs.Lines.{sum, running, mostTotal, totalOf}
@@ -19,6 +19,8 @@ use Rattle.rules.specs.declared.Total.{Total}
 use Rattle.rules.specs.declared.Total.the-variants.{InRange, OutOfRange}
 use Rattle.amounts.specs.Contracts.{totalAfter, addTo}
 use Rattle.rules.proofs.RangeLaws.{either-is, either-in, in-either}
+use Rattle.rules.proofs.ListLaws.{All}
+use Rattle.rules.proofs.TestLaws.{and-left, and-right}
 
 never : {c : Cents} → InRange c ≡ OutOfRange → ⊥
 never e = let w : _≡_ {A = ℕ} 0 1 = cc in omega arith
@@ -211,3 +213,18 @@ module _ (xs : List ℤ) (n : ℕ) where
             so-far-in = after-in-range so-far (getD xs i (pos 0)) c e;
             left = sym (from-in so-far (getD xs i (pos 0)) (drop (i + 1) (take n xs)) c e) ∙ ap (totalFrom so-far) (sym next-is) ∙ here .left;
           }
+
+-- ---- where no total leaves the range, no line is longer than it is wide
+
+part-near : (a z : ℤ) → natAbs z ≤ natAbs (a +ℤ z) + natAbs a
+part-near a (pos n) = omega (arith, abs-parts (a +ℤ pos n), abs-parts a, sum-parts a (pos n))
+part-near a (negsuc n) = omega (arith, abs-parts (a +ℤ negsuc n), abs-parts a, sum-parts a (negsuc n))
+
+lines-near : (from : ℤ) (zs : List ℤ) → natAbs from ≤ 1_000_000_000 → staysInRange from zs ≡ true → All (λ z. natAbs z ≤ 2_000_000_000) zs
+lines-near from [] h e = tt
+lines-near from (z ∷ zs) h e =
+    let k : natAbs (from +ℤ z) ≤ 1_000_000_000 = either-in mostTotal (from +ℤ z) (and-left (eitherSide mostTotal (from +ℤ z)) (staysInRange (from +ℤ z) zs) e) in
+    (omega (arith, k, part-near from z), lines-near (from +ℤ z) zs k (and-right (eitherSide mostTotal (from +ℤ z)) (staysInRange (from +ℤ z) zs) e))
+
+pub amounts-near : (zs : List ℤ) (c : Cents) → totalOf zs ≡ InRange c → All (λ z. natAbs z ≤ 2_000_000_000) zs
+amounts-near zs c e = lines-near (pos 0) zs (omega arith) (total-stays zs c e)

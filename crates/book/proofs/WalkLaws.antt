@@ -85,6 +85,10 @@ module _ (b : List ℕ) (ok : isSome (records b) ≡ true) where
   pub all-left : recordsFrom b 5 ≡ records b
   all-left = sym (records-are b ∙ ap (λ t. when t (recordsFrom b 5)) accepted-header)
 
+  -- an accepted book is the list of its records
+  pub book-left : records b ≡ some (recordsLeft b 5)
+  book-left = book-records ∙ ap (λ o. some (listed o)) (sym all-left)
+
   pub pass-start : Between b 5
   pass-start = record { low = omega arith; fits = go (decLt (length b) 5); ok = ap isSome all-left ∙ ok }
     where

@@ -93,7 +93,7 @@ above n (c ∷ cs) = (omega arith, weaker (placed (suc n) cs) (above (suc n) cs)
     weaker [] h = tt
     weaker (g ∷ gs) h = let l : suc n ≤ g .place = h .0 in (omega arith, weaker gs (h .1))
 
-abbrev foundAt : ℕ → List (List ℕ) → Grant → Bool
+abbrev pub foundAt : ℕ → List (List ℕ) → Grant → Bool
 foundAt n names g = eqb (placeFrom n names (g .name)) (g .place)
 
 found-behind : (n : ℕ) (c : List ℕ) (cs : List (List ℕ)) (g : Grant) → suc n ≤ g .place
@@ -105,7 +105,7 @@ found-behind n c cs g l = rw (same-sym (g .name) (map raise c)) (go (same (map r
     go true = and-false (foundAt (suc n) cs g) ∙ sym (ne-eqb n (g .place) (λ e. omega arith))
     go false = and-true (foundAt (suc n) cs g)
 
-firsts-found : (n : ℕ) (names : List (List ℕ)) → firsts (placed n names) ≡ keep (foundAt n names) (placed n names)
+pub firsts-found : (n : ℕ) (names : List (List ℕ)) → firsts (placed n names) ≡ keep (foundAt n names) (placed n names)
 unfolding placeFrom
 firsts-found n [] = refl
 firsts-found n (c ∷ cs) =

@@ -16,6 +16,7 @@ use mathlib.Core.Bool.{false}
 use borrow.Author.Tests.{lt-ltb, le-ltb}
 use Rattle.integers.proofs.Signed.{lt-in}
 use Rattle.integers.proofs.FloorLaws.{flip-neg}
+use Rattle.rules.specs.Refusals.{over}
 use Rattle.rules.specs.Bytes.{bigFrom, big, bytesOf, twos, signedOf, signedBytesOf}
 use Rattle.layout.specs.Ensures.{Number, FitsSigned, Puts, twosIn}
 use Rattle.layout.proofs.NumberLaws.{digit}
@@ -43,6 +44,10 @@ module _ {old : List ℕ} {at : ℕ} {bs new : List ℕ} (p : Puts old at bs new
   -- and then others behind them
   pub puts-then : {at′ : ℕ} {cs last : List ℕ} → at + length bs ≡ at′ → Puts new at′ cs last → Puts old at (bs ++ cs) last
   puts-then {cs} e q = puts-of (simp length-append (omega (arith, p .long, q .room))) (sets-of q ∙ (ap₂ (λ l (i : ℕ). sets l i cs) (sets-of p) (sym e) ∙ sets-sets bs cs old at))
+
+-- bytes put at the very front go over what was there
+pub puts-front : {old bs new : List ℕ} → Puts old 0 bs new → new ≡ over bs old
+puts-front {old} {bs} p = p .is ∙ ap (λ (k : ℕ). bs ++ drop k old) (zero-add (length bs))
 
 -- ---- the bytes of a number
 
@@ -128,9 +133,12 @@ big-bytes m (suc k) n =
     ∙ (digit m (n / 256 ^ k % 256) (256 ^ k) (n % 256 ^ k)
     ∙ ap₂ (λ (p r : ℕ). m * p + r) (sym (pow-succ' 256 k)) (sym (mod-suc k n)))
 
+number-back : (k n : ℕ) → n < 256 ^ k → big (bytesOf k n) ≡ n
+number-back k n h = big-bytes 0 k n ∙ (simp (zero-mul, zero-add) (mod-eq-of-lt h))
+
 -- A number written as k bytes and read as k bytes is the same number, for every width, place and number that fits.
 pub read-back : {old new : List ℕ} {at : ℕ} (k n : ℕ) → n < 256 ^ k → Puts old at (bytesOf k n) new → big (take k (drop at new)) ≡ n
-read-back k n h p = ap big (puts-there p k (length-bytes k n)) ∙ (big-bytes 0 k n ∙ (simp (zero-mul, zero-add) (mod-eq-of-lt h)))
+read-back k n h p = ap big (puts-there p k (length-bytes k n)) ∙ number-back k n h
 
 -- ---- and with a sign
 
@@ -162,6 +170,10 @@ module _ (k : ℕ) where
         let e : ltb (2 ^ (8 * k) - 1 - n) (2 ^ (8 * k - 1)) ≡ false = le-ltb (2 ^ (8 * k) - 1 - n) (2 ^ (8 * k - 1)) (omega (arith, two-halves, f .fits)) in
         rw e (ap negsuc (omega (arith, two-halves, f .fits)))
 
+    -- nor do its bytes
+    pub bytes-back : (z : ℤ) → FitsSigned k z → signedOf k (big (signedBytesOf k z)) ≡ z
+    bytes-back z f = ap (signedOf k) (number-back k (twos k z) (twos-below z f)) ∙ twos-back z f
+
     -- A signed number written as k bytes and read as k bytes is the same number, below zero too, for every width of at least a byte.
     pub signed-read-back : {old new : List ℕ} {at : ℕ} (z : ℤ) → FitsSigned k z → Puts old at (signedBytesOf k z) new → signedOf k (big (take k (drop at new))) ≡ z
-    signed-read-back z f p = ap (signedOf k) (read-back k (twos k z) (twos-below z f) p) ∙ twos-back z f
+    signed-read-back z f p = ap (λ bs. signedOf k (big bs)) (puts-there p k (length-bytes k (twos k z))) ∙ bytes-back z f

@@ -23,11 +23,11 @@ use Rattle.lines.specs.Verdict.{refusedBy, VerdictIs}
 use Rattle.lines.proofs.AmountLaws.{zeros-in}
 use Rattle.lines.proofs.PricedLaws.{price-4, price-5, price-6, price-done, unit-is, bytes-are}
 
-not-so : (b : Bool) → not b ≡ true → b ≡ false
+pub not-so : (b : Bool) → not b ≡ true → b ≡ false
 not-so false e = refl
 not-so true e = sym e
 
-so : (b : Bool) → not b ≡ false → b ≡ true
+pub so : (b : Bool) → not b ≡ false → b ≡ true
 so true e = refl
 so false e = sym e
 

@@ -45,8 +45,14 @@ unfolding ones members
 ones-members zero set h = ap ones (lt-one h)
 ones-members (suc n) set h = ones-step set ∙ ap (λ (x : ℕ). set % 2 + x) (ones-members n (set / 2) (omega (arith, pow-suc 2 n))) ∙ sym (lowest n set)
 
+-- no more than there are places
+few-members : (n set : ℕ) → length (members n set) ≤ n
+unfolding members
+few-members zero set = omega arith
+few-members (suc n) set = omega (arith, one-more n set, few-members n set)
+
 pub counts : (set : ℕ) → set < 2 ^ 32 → Counts set (ones set)
-counts set h = record { is = refl; places = ones-members 32 set h }
+counts set h = record { is = refl; places = ones-members 32 set h; few = omega (arith, ones-members 32 set h, few-members 32 set) }
 
 -- ---- one place more
 

@@ -1,5 +1,5 @@
 -- A set of places as the bits of a number, the lowest for place 1.
-use Prim.Native.Nat.{ℕ, zero, suc, _-_, _/_, _%_, _^_}
+use Prim.Native.Nat.{ℕ, zero, suc, _-_, _/_, _%_, _^_, _≤_}
 use mathlib.Core.Path.{_≡_}
 use mathlib.Core.Bool.{Bool}
 use mathlib.Core.List.{List, [], _∷_}
@@ -24,3 +24,4 @@ members n set = keep (isIn set) (placesTo n)
 pub record Counts (set r : ℕ) : Type 0 where
   pub is : r ≡ ones set
   pub places : r ≡ length (members 32 set)
+  pub few : r ≤ 32

@@ -1,1 +1,5 @@
 pub mod PickLaws
+pub mod UnusedSetLaws
+pub mod CallLaws
+pub mod ReadLaws
+pub mod Promises

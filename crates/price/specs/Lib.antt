@@ -1,1 +1,4 @@
 pub mod Picks
+pub mod Unused
+pub mod Call
+pub mod Read

@@ -1,2 +1,5 @@
 // The itemised price of one article.
+pub mod answer;
+pub mod call;
 pub mod picks;
+pub mod unused;

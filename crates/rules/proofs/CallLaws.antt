@@ -1,6 +1,6 @@
 -- The price and the calendar call read backwards: what an answered one rests on.
 use Prim.Native.Nat.{ℕ}
-use mathlib.Core.Path.{_≡_, refl, subst}
+use mathlib.Core.Path.{_≡_, refl, sym, _∙_, ap, subst}
 use mathlib.Core.Bool.{Bool, true, false}
 use mathlib.Core.List.{List}
 use mathlib.Core.Option.{some}
@@ -10,9 +10,14 @@ use Rattle.rules.specs.Book.{Record, Article, articleOf}
 use Rattle.rules.specs.BookLayout.{records}
 use Rattle.rules.specs.Question.{Question, questionOf}
 use Rattle.rules.specs.Refusals.{Result, done, refused, _>>=_, orRefuse, refuseUnless, numberOf}
-use Rattle.rules.specs.Price.{Priced, Answer, priced, answerOf, written, price}
+use Rattle.rules.specs.Lists.{first}
+use Rattle.rules.specs.Lines.{amounts, ofBase, linesOf, totalOf}
+use Rattle.rules.specs.declared.Cents.{Cents}
+use Rattle.rules.specs.declared.Total.{Total}
+use Rattle.rules.specs.declared.Total.the-variants.{InRange, OutOfRange}
+use Rattle.rules.specs.Price.{Priced, Answer, inOneCurrency, inRange, priced, answerOf, written, price}
 use Rattle.rules.specs.Calendar.{Stretch, stretches, outcome, periodTo, calendarIn}
-use Rattle.rules.proofs.RefusalLaws.{then-done, or-done, unless-done, done-is}
+use Rattle.rules.proofs.RefusalLaws.{then-done, or-done, unless-done, done-is, not-refused, NeverZero, done-never, refused-never, or-never, unless-never, then-never}
 
 -- ---- the price call
 
@@ -49,6 +54,41 @@ price-answered b s room a e =
       is = i;
       fits = subst (λ (k : Answer). leb (length (written k)) room ≡ true) i (unless-done 7 (leb (length (written (answerOf (y .0) (p .0)))) room) (w .1));
     }
+
+range-never : (t : Total) → NeverZero (inRange t)
+range-never (InRange c) = done-never c
+range-never OutOfRange = refused-never 5
+
+pub priced-never : (book : List Record) (q : Question) → NeverZero (priced book q)
+unfolding priced
+priced-never book q =
+    or-never 3 (first ofBase (linesOf book q)) _ (λ b.
+    unless-never 4 (inOneCurrency (b .row .currency) (linesOf book q)) _
+    (then-never (inRange (totalOf (amounts (linesOf book q)))) _ (range-never (totalOf (amounts (linesOf book q)))) (λ c. done-never (record { lines = linesOf book q; currency = b .row .currency }))))
+
+-- so a price call with the number 0 has an answer
+pub price-never : (b s : List ℕ) (room : ℕ) → NeverZero (price b s room)
+unfolding price
+price-never b s room =
+    or-never 0 (records b) _ (λ book.
+    or-never 1 (questionOf s) _ (λ q.
+    or-never 2 (articleOf book (q .article)) _ (λ a.
+    then-never (priced book q) _ (priced-never book q) (λ p.
+    unless-never 6 (leb (length (written (answerOf q p))) room) _ (done-never (answerOf q p))))))
+
+-- a price has the lines of the question, and these are in range
+pub priced-range : (book : List Record) (q : Question) {p : Priced} → priced book q ≡ done p → (c : Cents) × (totalOf (amounts (p .lines)) ≡ InRange c) × (p .lines ≡ linesOf book q)
+unfolding priced
+priced-range book q {p} e =
+    let x = then-done (orRefuse 4 (first ofBase (linesOf book q))) _ e in
+    let y = then-done (refuseUnless 5 (inOneCurrency (x .0 .row .currency) (linesOf book q))) _ (x .2) in
+    let z = then-done (inRange (totalOf (amounts (linesOf book q)))) _ (y .2) in
+    let i = done-is _ p (z .2) in
+    (z .0, ap (λ (k : Priced). totalOf (amounts (k .lines))) (sym i) ∙ in-range (totalOf (amounts (linesOf book q))) (z .1), ap (λ (k : Priced). k .lines) (sym i))
+  where
+    in-range : (t : Total) {c : Cents} → inRange t ≡ done c → t ≡ InRange c
+    in-range (InRange d) {c} e = ap InRange (done-is d c e)
+    in-range OutOfRange {c} e = absurd (not-refused 6 c e)
 
 -- with an accepted book and question and an article that the book has, 4 is the price's own
 pub call-4 : (b s : List ℕ) (room : ℕ) {book : List Record} {q : Question} {a : Article} → records b ≡ some book → questionOf s ≡ some q → articleOf book (q .article) ≡ some a

@@ -82,7 +82,7 @@ any-same : {A : Type 0} (p q : A → Bool) → ((x : A) → p x ≡ q x) → (xs
 any-same p q h [] = refl
 any-same p q h (x ∷ xs) = rw (h x) (ap (λ b. q x || b) (any-same p q h xs))
 
-any-map : {A B : Type 0} (f : A → B) (p : B → Bool) (xs : List A) → any p (map f xs) ≡ any (λ x. p (f x)) xs
+pub any-map : {A B : Type 0} (f : A → B) (p : B → Bool) (xs : List A) → any p (map f xs) ≡ any (λ x. p (f x)) xs
 any-map f p [] = refl
 any-map f p (x ∷ xs) = ap (λ b. p (f x) || b) (any-map f p xs)
 

@@ -1,8 +1,9 @@
--- A `do` block of results read backwards: where it is done, each of its lines was.
-use Prim.Native.Nat.{ℕ}
+-- A `do` block of results read backwards: where it is done, each of its lines was; where it is refused, not by the number 0.
+use Prim.Native.Nat.{ℕ, suc}
 use mathlib.Core.Path.{_≡_, refl, ap}
 use mathlib.Core.Bool.{Bool, true, false}
 use mathlib.Core.Option.{Option, some, none, Option·none-ne-some, Option·some-injective}
+use native.Mathlib.Omega.{arith}
 use Rattle.rules.specs.Refusals.{Result, done, refused, _>>=_, orRefuse, refuseUnless}
 
 abbrev answerIn : {A : Type 0} → Result A → Option A
@@ -26,3 +27,31 @@ or-done n (some x) {a} e = ap some (done-is x a e)
 pub unless-done : (n : ℕ) (b : Bool) {t : Unit {0}} → refuseUnless n b ≡ done t → b ≡ true
 unless-done n true e = refl
 unless-done n false {t} e = absurd (not-refused n t e)
+
+-- ---- 0 is no refusal's number
+
+abbrev numbered : {A : Type 0} → ℕ → Result A → ℕ
+numbered other (done a) = other
+numbered other (refused n) = n
+
+abbrev pub NeverZero : {A : Type 0} → Result A → Type 0
+NeverZero r = r ≡ refused 0 → ⊥
+
+pub done-never : {A : Type 0} (a : A) → NeverZero (done a)
+done-never a e = let z : _≡_ {A = ℕ} 1 0 = ap (numbered 1) e in omega arith
+
+pub refused-never : {A : Type 0} (n : ℕ) → NeverZero {A = A} (refused (suc n))
+refused-never {A} n e = let z : _≡_ {A = ℕ} (suc n) 0 = ap (numbered 1) e in omega arith
+
+-- a `do` block, line by line
+pub or-never : {A B : Type 0} (n : ℕ) (o : Option A) (f : A → Result B) → ((a : A) → NeverZero (f a)) → NeverZero (orRefuse (suc n) o >>= f)
+or-never n none f k = refused-never n
+or-never n (some a) f k = k a
+
+pub unless-never : {B : Type 0} (n : ℕ) (b : Bool) (f : Unit {0} → Result B) → NeverZero (f tt) → NeverZero (refuseUnless (suc n) b >>= f)
+unless-never n true f k = k
+unless-never n false f k = refused-never n
+
+pub then-never : {A B : Type 0} (r : Result A) (f : A → Result B) → NeverZero r → ((a : A) → NeverZero (f a)) → NeverZero (r >>= f)
+then-never (done a) f h k = k a
+then-never (refused n) f h k = λ e. h (ap refused (ap (numbered 1) e))

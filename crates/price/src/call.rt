@@ -1,0 +1,42 @@
+// The price call: refusals 1, 2, 3, 4, 5, 6, 7 in that order, and the lines at the front of the lent output.
+use crate::answer::answer;
+use crate::answer::refusal;
+use crate::picks::picks_of;
+use crate::unused::unused;
+use book::book_ok;
+use lines::verdict::judge;
+use lines::write_lines;
+use question::ask_of;
+use question::question_ok;
+use rules::PriceAnswer;
+ghost use Rattle.price.specs.Call.{PriceIs};
+
+// No byte is written before all seven are tested.
+pub fn price(book: &[u8], question: &[u8], out: &mut [u8]) -> PriceAnswer
+    ensures { λ r. ⌜ PriceIs (now (book .entry)) (now (question .entry)) (now (out .entry)) r (now (out .exit)) ⌝ }
+{
+    if !book_ok(book) {
+        return refusal(1);
+    }
+    if !question_ok(question) {
+        return refusal(2);
+    }
+    let ask = ask_of(question);
+    let picks = picks_of(book, question, ask);
+    if !picks.found {
+        return refusal(3);
+    }
+    let rows = picks.rows;
+    let n = picks.n;
+    let v = judge(rows, n);
+    if v.number != 0 {
+        return refusal(v.number);
+    }
+    if out.len() < 14 * n {
+        return refusal(7);
+    }
+    let idle = unused(question, ask, rows, n);
+    let amounts = v.amounts;
+    write_lines(out, rows, amounts, n);
+    answer(ask.quantity, n, v, idle)
+}
