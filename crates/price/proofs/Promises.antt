@@ -63,9 +63,10 @@ unfolding answerOf
 answered-lines b s room a e {book} {q} f g =
     let x = price-answered b s room a e in
     let same-book : x .book ≡ book = Option·some-injective (x .book) book (sym (x .is-book) ∙ f) in
-    let same-question : x .question ≡ q = Option·some-injective (x .question) q (sym (x .is-question) ∙ g) in
-    (ap (λ (k : Answer). k .lines) (sym (x .is)) ∙ priced-range (x .book) (x .question) (x .is-priced) .2 ∙ (λ i. linesOf (same-book i) (same-question i)),
-    ap (λ (k : Answer). k .total) (sym (x .is)) ∙ (λ i. pos (same-question i .quantity) *ℤ x .is i .unit))
+    let same-question : x .question ≡ q = Option·some-injective (x .question) q (sym (x .is-question) ∙ g) in (
+      ap (λ (k : Answer). k .lines) (sym (x .is)) ∙ priced-range (x .book) (x .question) (x .is-priced) .2 ∙ (λ i. linesOf (same-book i) (same-question i)),
+      ap (λ (k : Answer). k .total) (sym (x .is)) ∙ (λ i. pos (same-question i .quantity) *ℤ x .is i .unit),
+    )
 
 module _ (b s lent : List ℕ) {r : PriceAnswer} {after : List ℕ} (is : PriceIs b s lent r after) where
   -- The amounts read back from the written lines sum to the unit total.
@@ -115,10 +116,11 @@ module _ (b s lent : List ℕ) {r : PriceAnswer} {after : List ℕ} (is : PriceI
         go : (x : Result Answer) → price b s (length lent) ≡ x → (after ≡ over (linesBytes (linesOf book q)) lent) × (r .lines ≡ length (linesOf book q)) × (r .total ≡ pos (q .quantity) *ℤ r .unit)
         go (done a) e =
             let z : r ≡ shown (done a) = is .answer ∙ ap shown e in
-            let x = answered-lines b s (length lent) a e is-book is-question in
-            (is .output ∙ ap (λ (x : Result Answer). lentAfterPrice x lent) e ∙ ap (λ (ls : List Line). over (linesBytes ls) lent) (x .0),
-            ap (λ (y : PriceAnswer). y .lines) z ∙ ap (λ (ls : List Line). length ls) (x .0),
-            ap (λ (y : PriceAnswer). y .total) z ∙ x .1 ∙ ap (λ (u : ℤ). pos (q .quantity) *ℤ u) (sym (ap (λ (y : PriceAnswer). y .unit) z)))
+            let x = answered-lines b s (length lent) a e is-book is-question in (
+              is .output ∙ ap (λ (x : Result Answer). lentAfterPrice x lent) e ∙ ap (λ (ls : List Line). over (linesBytes ls) lent) (x .0),
+              ap (λ (y : PriceAnswer). y .lines) z ∙ ap (λ (ls : List Line). length ls) (x .0),
+              ap (λ (y : PriceAnswer). y .total) z ∙ x .1 ∙ ap (λ (u : ℤ). pos (q .quantity) *ℤ u) (sym (ap (λ (y : PriceAnswer). y .unit) z)),
+            )
         go (refused n) e = absurd (price-never b s (length lent) (e ∙ ap refused (sym (ap (λ (y : PriceAnswer). y .number) (is .answer ∙ ap shown e)) ∙ h)))
 
     -- "No price" is said exactly when, of the base rows without a condition and of those under each granted name, none survives the steps of choice.

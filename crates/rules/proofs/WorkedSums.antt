@@ -230,6 +230,8 @@ more =
     ∷ case AskPrice (bookOf (in2024 base 1 (fixed (pos 100)) EUR 0 0 ∷ in2024 surcharge 1 (fixed (pos 1)) USD 0 0 ∷ []) []) (ask 20240630 1 []) (Refusal 5)
     ∷ case AskPrice (bookOf (in2024 base 1 (fixed (pos 100_000_000)) EUR 0 0 ∷ in2024 surcharge 1 (percent (pos 90_000)) EUR 0 0 ∷ []) []) (ask 20240630 1 []) (Listed (pos 100_000_000 ∷ pos 900_000_000 ∷ []) (pos 1_000_000_000))
     ∷ case AskPrice (bookOf (in2024 base 1 (fixed (pos 100_000_000)) EUR 0 0 ∷ in2024 surcharge 1 (percent (pos 90_001)) EUR 0 0 ∷ []) []) (ask 20240630 1 []) (Refusal 6)
+    -- out of range, and in two currencies: the currencies come first
+    ∷ case AskPrice (bookOf (in2024 base 1 (fixed (pos 100_000_000)) EUR 0 0 ∷ in2024 surcharge 1 (percent (pos 90_001)) EUR 0 0 ∷ in2024 discount 1 (fixed (minus 1)) USD 0 0 ∷ []) []) (ask 20240630 1 []) (Refusal 5)
     -- a text of both books is the asked book's, one of the other is the fallback's
     ∷ case (AskText 1) askedTexts otherTexts (InBook 1 11 (text "A"))
     ∷ case (AskText 2) askedTexts otherTexts (InBook 2 18 (text "C"))
