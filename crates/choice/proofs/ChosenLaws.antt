@@ -1,22 +1,23 @@
 -- What the slots hold after the walk is what the definition chooses, slot by slot.
 use Prim.Native.Nat.{ℕ, zero, suc, _+_, _-_, _*_, _/_, _%_, _≤_, _<_}
 use mathlib.Core.Path.{_≡_, refl, sym, _∙_, ap, subst}
-use mathlib.Core.Bool.{Bool, true, false, cond}
+use mathlib.Core.Bool.{Bool, true, false, _&&_, cond}
 use mathlib.Core.List.{List}
 use mathlib.Core.Option.{Option, none, Option·map}
 use native.Mathlib.Omega.{arith}
+use lib.Dec.{eqb}
 use lib.ListN.{length, take, drop, getD, length-drop}
 use lib.Seq.{length-take-le}
-use Rattle.rules.specs.Lists.{isSome, keep}
+use Rattle.rules.specs.Lists.{same, isSome, keep}
 use Rattle.rules.specs.Layout.{whole}
-use Rattle.rules.specs.Book.{Row, PriceRecord, rows}
+use Rattle.rules.specs.Book.{Row, Record, PriceRecord, rows}
 use Rattle.rules.specs.BookLayout.{kinded}
 use Rattle.rules.specs.Question.{Question, on}
 use Rattle.rules.specs.Choice.{choose}
 use Rattle.rules.specs.Lines.{Chosen}
 use Rattle.rules.specs.declared.PriceRow.{PriceRow}
 use Rattle.rules.proofs.ChoiceLaws as Choice
-use Rattle.rules.proofs.ListLaws.{All}
+use Rattle.rules.proofs.ListLaws.{All, keep-keep}
 use Rattle.layout.specs.Reads.{nameStop}
 use Rattle.book.specs.Records.{recordsLeft}
 use Rattle.records.specs.Asks.{OfKind}
@@ -30,11 +31,12 @@ use Rattle.question.proofs.CountedLaws.{walk-step}
 use Rattle.question.proofs.PartLaws.{granted-stop}
 use Rattle.choice.specs.declared.hands.Hand.{Hand}
 use Rattle.choice.specs.declared.hands.Seen.{Seen}
+use Rattle.choice.specs.declared.span.Window.{Window}
 use Rattle.choice.specs.declared.Walked.{Walked}
-use Rattle.choice.specs.Slots.{inSlot, slotChosen}
+use Rattle.choice.specs.Slots.{levelOf, placeOf, inSlot, slotChosen}
 use Rattle.choice.specs.Hands.{takenOf, TakenIs, RowThere, HandIs, NoRow, OneRow, SeenIs}
 use Rattle.choice.specs.Walk.{Asking, askOn, unseen, seenOf, Chooses, SlotsHold, WalkIs}
-use Rattle.choice.specs.Span.{inSlots}
+use Rattle.choice.specs.Span.{ownRows, Windows}
 use Rattle.choice.proofs.PassingLaws.{same-row}
 use Rattle.choice.proofs.SlotLaws.{Granted}
 use Rattle.choice.proofs.SpanLaws.{front}
@@ -129,7 +131,7 @@ asking-granted {q} {ask} a = record {
   full = names-full q (ask .granted) (ask .conditions) (a .names);
 }
 
--- ---- a walk over the span of another, on another day
+-- ---- a walk over the window of another
 
 module _ {w : List ℕ} {n : ℕ} (fits : n ≤ length w) where
   there-whole : {at end : ℕ} {r : Row} → RowThere (take n w) at end r → RowThere w at end r
@@ -144,11 +146,26 @@ module _ {w : List ℕ} {n : ℕ} (fits : n ≤ length w) where
   seen-whole : {s : Seen} {state : Choice.Seen} → SeenIs (take n w) s state → SeenIs w s state
   seen-whole p = record { seen = p .seen; asked = hand-whole (p .asked); other = hand-whole (p .other) }
 
-pub walk-within : {w : List ℕ} {from : ℕ} {q : Question} {r r′ : Walked} (d : ℕ) → WalkIs w from q r → WalkIs (take (r .last) w) (r .first) (on q d) r′ → SlotsHold w (rows (recordsLeft w from)) (on q d) (r′ .slots)
-unfolding inSlots inSlot seenOf on
-walk-within {w} {from} {q} {r} {r′} d a b = record {
+-- the rows of a slot are of the asked article and sort
+slot-own : (q : Question) (level place : ℕ) (rs : List Record) → keep (inSlot q level place) (ownRows q rs) ≡ keep (inSlot q level place) (rows rs)
+unfolding ownRows inSlot
+slot-own q level place rs =
+    keep-keep (inSlot q level place) _ (rows rs)
+    ∙ (λ i. keep (λ r. twice (same (r .article) (q .article)) (eqb (r .sort) (q .sort)) (eqb (levelOf (r .level)) level && eqb (placeOf (q .granted) (r .condition)) place) i) (rows rs))
+  where
+    twice : (a b c : Bool) → ((a && b) && (a && (b && c))) ≡ (a && (b && c))
+    twice true true c = refl
+    twice true false c = refl
+    twice false b c = refl
+
+pub walk-within : {w : List ℕ} {from : ℕ} {q : Question} {window : Window} {r : Walked} → Windows w from q window → WalkIs (take (window .last) w) (window .first) q r
+    → SlotsHold w (rows (recordsLeft w from)) q (r .slots)
+unfolding seenOf
+walk-within {w} {from} {q} {window} {r} a b = record {
   long = b .slots .long;
   each = λ level place l m.
-      subst (SeenIs w (getD (r′ .slots) (level * 33 + place) unseen)) (ap (Choice.walk d (q .quantity) (q .currency) Choice.start) (a .span .same level place l m))
-      (seen-whole (a .span .fits) (b .slots .each level place l m));
+      subst (SeenIs w (getD (r .slots) (level * 33 + place) unseen))
+      (ap (Choice.walk (q .date) (q .quantity) (q .currency) Choice.start)
+      (sym (slot-own q level place (recordsLeft (take (window .last) w) (window .first))) ∙ ap (keep (inSlot q level place)) (a .same) ∙ slot-own q level place (recordsLeft w from)))
+      (seen-whole (a .fits) (b .slots .each level place l m));
 }

@@ -7,9 +7,9 @@ use mathlib.Core.Option.{Option, some, none}
 use native.Mathlib.Omega.{arith}
 use native.Mathlib.Decide.{decLt}
 use lib.Dec.{eqb, leb, ltb}
-use lib.ListN.{take, drop}
+use lib.ListN.{take, drop, getD}
 use borrow.Author.Tests.{lt-leb, le-leb, lt-ltb, le-ltb, eq-eqb, ne-eqb, eqb-true, eqb-false}
-use Rattle.rules.specs.Lists.{same, between}
+use Rattle.rules.specs.Lists.{same, isSome, between}
 use Rattle.rules.specs.Layout.{whole}
 use Rattle.rules.specs.Days.{isDay}
 use Rattle.rules.specs.Book.{Row, Record, ArticleRecord, PriceRecord, RoundingRecord, PackagingRecord, SchemeRecord}
@@ -31,7 +31,7 @@ use Rattle.question.specs.Parts.{namesAt}
 use Rattle.question.specs.Asked.{askIn, lettersOf}
 use Rattle.choice.specs.declared.hands.Passing.{Passing}
 use Rattle.choice.specs.Slots.{levelOf, placeOf, inSlot}
-use Rattle.choice.specs.Walk.{slotAt, slotOf, passingOf, inAsked, RowPasses, Passes}
+use Rattle.choice.specs.Walk.{slotAt, slotOf, passingOf, inAsked, RowPasses, Passes, unasked, isRounding}
 
 -- ---- the slot
 
@@ -155,6 +155,7 @@ pub row-passes : (t : List ℕ) (row : PriceRow) (at end : ℕ) (q : List ℕ) (
     → Says (inAsked (askedOf (lettersOf (ask .currency))) (lettersOf (row .currency))) asked
     → RowPasses (askIn q ask) at end (rowIn t row)
     (record {
+      own = eqb (row .sort) (ask .sort);
       slot = slot;
       stands = not (eqb (row .level) 66 && percent) && holds;
       asked = asked;
@@ -165,6 +166,7 @@ unfolding passingOf rowIn
 row-passes t row at end q ask s p h a = record {
   is = λ i.
       record {
+        own = eqb (row .sort) (ask .sort);
         slot = s .is i;
         stands = not (eqb (row .level) 66 && sym (p .is) i) && sym (h .is) i;
         asked = (sym (a .is) ∙ sym (in-asked (askedOf (lettersOf (ask .currency))) (rowIn t row))) i;
@@ -221,10 +223,20 @@ module _ (t q : List ℕ) (ask : Ask) {b : Bool} where
         other = λ f. absurd (false≢true (sym f ∙ says ∙ e));
       }
 
-      pub passes-other : {p : Passing} → b ≡ false → p .slot ≡ 99 → Passes (askIn q ask) at end (whole kinded t) p
+      pub passes-other : b ≡ false → Passes (askIn q ask) at end (whole kinded t) unasked
       unfolding Tests.startsWith
-      passes-other e z = record {
+      passes-other e = record {
         below = omega arith;
         row = λ x f g. absurd (false≢true (sym (says ∙ e) ∙ (ap (Tests.rowOf (askIn q ask .article)) f ∙ g)));
-        other = λ f. z;
+        other = λ f. refl;
       }
+
+-- ---- roundings
+
+pub rounding-says : (t : List ℕ) → Accepted t → Says (isRounding (whole kinded t)) (eqb (getD t 0 0) 3)
+unfolding isRounding
+rounding-says t a = record { is = go (whole kinded t) refl }
+  where
+    go : (o : Option Record) → whole kinded t ≡ o → isRounding o ≡ eqb (getD t 0 0) 3
+    go none e = absurd (false≢true (sym (ap isSome e) ∙ a .ok))
+    go (some r) e = ap (λ (k : ℕ). eqb k 3) (sym (kind-byte t r e))

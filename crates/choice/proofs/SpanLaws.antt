@@ -1,32 +1,32 @@
--- The span: the records in it are a run of the book's, and outside of it stands no row of a slot.
-use Prim.Native.Nat.{ℕ, zero, suc, _+_, _-_, _*_, _≤_, _<_}
+-- The window: the records of a span are a run of the book's, and outside of it stands none that counts.
+use Prim.Native.Nat.{ℕ, zero, suc, _+_, _-_, _≤_, _<_}
 use mathlib.Core.Path.{_≡_, refl, sym, _∙_, ap, subst}
 use mathlib.Core.Bool.{Bool, true, false, _&&_, cond, false≢true}
 use mathlib.Core.List.{List, [], _∷_, _++_, append-nil, append-assoc}
 use mathlib.Core.Option.{Option, some, none}
 use native.Mathlib.Omega.{arith}
-use lib.Dec.{eqb, ltb}
+use lib.Dec.{eqb}
 use lib.ListN.{length, take, drop}
 use lib.Seq.{length-take-le, take-take}
-use borrow.Author.Tests.{eq-eqb, ne-eqb, ltb-false, eqb-true}
+use borrow.Author.Tests.{eq-eqb, ne-eqb, eqb-true}
 use Rattle.rules.specs.Lists.{same, isSome, keep, consIf, consSome}
 use Rattle.rules.specs.Layout.{whole}
 use Rattle.rules.specs.Bytes.{big}
-use Rattle.rules.specs.Book.{Row, Record, ArticleRecord, PriceRecord, RoundingRecord, PackagingRecord, SchemeRecord, rows}
+use Rattle.rules.specs.Book.{Record, ArticleRecord, PriceRecord, RoundingRecord, PackagingRecord, SchemeRecord, rows, roundings}
 use Rattle.rules.specs.BookLayout.{kinded}
-use Rattle.rules.specs.Question.{Question}
+use Rattle.rules.specs.Question.{Question, on}
 use Rattle.rules.proofs.ListLaws.{keep-append}
 use Rattle.layout.specs.Reads.{part}
+use Rattle.layout.specs.Ensures.{Says}
 use Rattle.book.specs.Records.{recordIn, recordsFrom, listed, recordsLeft}
 use Rattle.book.specs.Ensures.{Between, RecordEnd, StopIs}
 use Rattle.book.proofs.BookLaws.{inFront, record-good, from-end, from-record}
 use Rattle.choice.specs.declared.hands.Passing.{Passing}
 use Rattle.choice.specs.declared.span.Span.{Span}
-use Rattle.choice.specs.Slots.{inSlot}
-use Rattle.choice.specs.Walk.{slotOf, passingOf, Passes}
-use Rattle.choice.specs.Span.{spanAfter, SpanAfter, inSlots, Spans}
+use Rattle.choice.specs.declared.span.Window.{Window}
+use Rattle.choice.specs.Walk.{passingOf, Passes, isRounding}
+use Rattle.choice.specs.Span.{spanAfter, SpanAfter, rowSpan, roundingSpan, WindowAfter, ownRows, Windows}
 use Rattle.choice.proofs.SlotLaws.{gather-append}
-use Rattle.choice.proofs.PassingLaws.{slot-in}
 
 -- ---- what the function computes
 
@@ -94,131 +94,175 @@ module _ {w : List ℕ} {b : ℕ} (fits : b ≤ length w) where
   run-between : {a : ℕ} {rs : List Record} → 5 ≤ a → Run w b a rs → Between (take b w) a
   run-between l x = record { low = l; fits = omega (arith, length-take-le b w fits, run-le x); ok = ap isSome (run-records x) }
 
--- ---- records that are of no slot
+-- ---- records that count
 
--- the record is of none
-abbrev Outside : Question → Record → Type 0
-Outside q r = (level place : ℕ) → level < 3 → place < 33 → inSlots q level place (r ∷ []) ≡ []
+-- what is gathered of them, record by record
+pub record Gathers {A : Type 0} (f : List Record → List A) : Type 0 where
+  pub empty : f [] ≡ []
+  pub append : (xs ys : List Record) → f (xs ++ ys) ≡ f xs ++ f ys
 
-pub pass-outside : {q : Question} {at end : ℕ} {o : Option Record} {p : Passing} → Passes q at end o p → ltb (p .slot) 99 ≡ false → (r : Record) → o ≡ some r → Outside q r
-unfolding inSlots passingOf
-pass-outside pass f (ArticleRecord a) e level place l m = refl
-pass-outside {q} {at} {end} {o} {p} pass f (PriceRecord r) e level place l m = ap (λ b. consIf b r []) (slot-in q r level place l m ∙ go (same (r .article) (q .article)) refl)
+pub rows-gather : (q : Question) → Gathers (ownRows q)
+unfolding ownRows
+rows-gather q = record { empty = refl; append = λ xs ys. ap (keep _) (gather-append _ xs ys) ∙ keep-append _ (rows xs) (rows ys) }
+
+pub roundings-gather : Gathers roundings
+roundings-gather = record { empty = refl; append = λ xs ys. gather-append _ xs ys }
+
+pub rows-outside : {q : Question} {at end : ℕ} {o : Option Record} {p : Passing} → Passes q at end o p → p .own ≡ false → (r : Record) → o ≡ some r → ownRows q (r ∷ []) ≡ []
+unfolding ownRows passingOf
+rows-outside pass f (ArticleRecord a) e = refl
+rows-outside {q} {at} {end} {o} {p} pass f (PriceRecord r) e = ap (λ b. consIf b r []) (go (same (r .article) (q .article)) refl)
   where
-    go : (b : Bool) → same (r .article) (q .article) ≡ b → (b && eqb (slotOf q r) (level * 33 + place)) ≡ false
-    go true t =
-        let k : p .slot ≡ slotOf q r = ap (λ x. x .slot) (pass .row r e t) in
-        ne-eqb (slotOf q r) (level * 33 + place) (λ g. omega (arith, ltb-false (p .slot) 99 f))
+    go : (b : Bool) → same (r .article) (q .article) ≡ b → (b && eqb (r .sort) (q .sort)) ≡ false
+    go true t = sym (ap (λ (x : Passing). x .own) (pass .row r e t)) ∙ f
     go false t = refl
-pass-outside pass f (RoundingRecord r) e level place l m = refl
-pass-outside pass f (PackagingRecord r) e level place l m = refl
-pass-outside pass f (SchemeRecord r) e level place l m = refl
+rows-outside pass f (RoundingRecord r) e = refl
+rows-outside pass f (PackagingRecord r) e = refl
+rows-outside pass f (SchemeRecord r) e = refl
 
-slots-append : (q : Question) (level place : ℕ) (xs ys : List Record) → inSlots q level place (xs ++ ys) ≡ inSlots q level place xs ++ inSlots q level place ys
-unfolding inSlots
-slots-append q level place xs ys = ap (keep (inSlot q level place)) (gather-append _ xs ys) ∙ keep-append (inSlot q level place) (rows xs) (rows ys)
+pub roundings-outside : {o : Option Record} {b : Bool} → Says (isRounding o) b → b ≡ false → (r : Record) → o ≡ some r → roundings (r ∷ []) ≡ []
+unfolding isRounding
+roundings-outside s f (ArticleRecord a) e = refl
+roundings-outside s f (PriceRecord a) e = refl
+roundings-outside s f (RoundingRecord r) e = absurd (false≢true (sym (s .is ∙ f) ∙ ap isRounding e))
+roundings-outside s f (PackagingRecord r) e = refl
+roundings-outside s f (SchemeRecord r) e = refl
 
 -- ---- the loop
 
--- the records in the span, those behind it up to `at`, and those that are left are all; of those behind it none is of a slot
-pub record Spanning (w : List ℕ) (from : ℕ) (q : Question) (s : Span) (at : ℕ) : Type 0 where
+-- the records in the span, those behind it up to `at`, and those that are left are all; of those behind it none counts
+pub record Spanning {A : Type 0} (f : List Record → List A) (w : List ℕ) (from : ℕ) (s : Span) (at : ℕ) : Type 0 where
   pub low : 5 ≤ s .first
   pub inside : List Record
   pub behind : List Record
   pub run : Run w (s .last) (s .first) inside
   pub gap : Run w at (s .last) behind
-  pub none : (level place : ℕ) → level < 3 → place < 33 → inSlots q level place behind ≡ []
-  pub rest : (level place : ℕ) → level < 3 → place < 33
-      → inSlots q level place inside ++ inSlots q level place (recordsLeft w at) ≡ inSlots q level place (recordsLeft w from)
+  pub none : f behind ≡ []
+  pub rest : f inside ++ f (recordsLeft w at) ≡ f (recordsLeft w from)
 
-module _ {w : List ℕ} {from : ℕ} {q : Question} where
-  pub span-start : 5 ≤ from → Spanning w from q (record { first = from; last = from }) from
-  unfolding inSlots
-  span-start l = record { low = l; inside = []; behind = []; run = Stay from refl; gap = Stay from refl; none = λ level place l m. refl; rest = λ level place l m. refl }
+-- and when none is left: the records in the span have all that counts
+pub record Spans {A : Type 0} (f : List Record → List A) (w : List ℕ) (from : ℕ) (s : Span) : Type 0 where
+  pub fits : s .last ≤ length w
+  pub between : Between (take (s .last) w) (s .first)
+  pub same : f (recordsLeft (take (s .last) w) (s .first)) ≡ f (recordsLeft w from)
 
-  module _ {s : Span} {at end : ℕ} (inv : Spanning w from q s at) (b : Between w at) (stop : StopIs w at end) where
+module _ {A : Type 0} {f : List Record → List A} (g : Gathers f) {w : List ℕ} {from : ℕ} where
+  pub span-start : 5 ≤ from → Spanning f w from (record { first = from; last = from }) from
+  span-start l = record {
+    low = l;
+    inside = [];
+    behind = [];
+    run = Stay from refl;
+    gap = Stay from refl;
+    none = g .empty;
+    rest = ap (λ (xs : List A). xs ++ f (recordsLeft w from)) (g .empty);
+  }
+
+  module _ {s : Span} {at end : ℕ} (inv : Spanning f w from s at) (b : Between w at) (stop : StopIs w at end) where
     -- one record more
     module _ (r : Record) (is : whole kinded (part w (at + 2) end) ≡ some r) (step : recordsLeft w at ≡ r ∷ recordsLeft w end) where
       one : Run w end at (r ∷ [])
       one = Step at end r [] stop is (Stay end refl)
 
-      left : (level place : ℕ) → inSlots q level place (recordsLeft w at) ≡ inSlots q level place (r ∷ []) ++ inSlots q level place (recordsLeft w end)
-      left level place = ap (inSlots q level place) step ∙ slots-append q level place (r ∷ []) (recordsLeft w end)
+      left : f (recordsLeft w at) ≡ f (r ∷ []) ++ f (recordsLeft w end)
+      left = ap f step ∙ g .append (r ∷ []) (recordsLeft w end)
 
-      past : Outside q r → Spanning w from q s end
+      past : f (r ∷ []) ≡ [] → Spanning f w from s end
       past out = record {
         low = inv .low;
         inside = inv .inside;
         behind = inv .behind ++ (r ∷ []);
         run = inv .run;
         gap = run-append (inv .gap) one;
-        none = λ level place l m. slots-append q level place (inv .behind) (r ∷ []) ∙ (λ i. inv .none level place l m i ++ out level place l m i);
-        rest = λ level place l m.
-            ap (λ (xs : List Row). inSlots q level place (inv .inside) ++ xs)
-            (sym (left level place ∙ ap (λ (xs : List Row). xs ++ inSlots q level place (recordsLeft w end)) (out level place l m)))
-            ∙ inv .rest level place l m;
+        none = g .append (inv .behind) (r ∷ []) ∙ (λ i. inv .none i ++ out i);
+        rest = ap (λ (xs : List A). f (inv .inside) ++ xs) (sym (left ∙ ap (λ (xs : List A). xs ++ f (recordsLeft w end)) out)) ∙ inv .rest;
       }
 
-      begins : s .first ≡ s .last → Spanning w from q (record { first = at; last = end }) end
-      unfolding inSlots
+      begins : s .first ≡ s .last → Spanning f w from (record { first = at; last = end }) end
       begins e = record {
         low = b .low;
         inside = r ∷ [];
         behind = [];
         run = one;
         gap = Stay end refl;
-        none = λ level place l m. refl;
-        rest = λ level place l m.
-            sym (left level place)
-            ∙ ap (λ (rs : List Record). inSlots q level place rs ++ inSlots q level place (recordsLeft w at)) (sym (run-empty (inv .run) e))
-            ∙ inv .rest level place l m;
+        none = g .empty;
+        rest =
+            sym left
+            ∙ ap (λ (xs : List A). xs ++ f (recordsLeft w at)) (sym (ap f (run-empty (inv .run) e) ∙ g .empty))
+            ∙ inv .rest;
       }
 
-      wider : Spanning w from q (record { first = s .first; last = end }) end
+      wider : Spanning f w from (record { first = s .first; last = end }) end
       wider = record {
         low = inv .low;
         inside = inv .inside ++ (inv .behind ++ (r ∷ []));
         behind = [];
         run = run-append (inv .run) (run-append (inv .gap) one);
         gap = Stay end refl;
-        none = λ level place l m. unfold inSlots in refl;
-        rest = λ level place l m.
-            ap (λ (xs : List Row). xs ++ inSlots q level place (recordsLeft w end))
-            (slots-append q level place (inv .inside) (inv .behind ++ (r ∷ []))
-            ∙ ap (λ (xs : List Row). inSlots q level place (inv .inside) ++ xs)
-            (slots-append q level place (inv .behind) (r ∷ []) ∙ ap (λ (xs : List Row). xs ++ inSlots q level place (r ∷ [])) (inv .none level place l m)))
-            ∙ append-assoc (inSlots q level place (inv .inside)) (inSlots q level place (r ∷ [])) (inSlots q level place (recordsLeft w end))
-            ∙ ap (λ (xs : List Row). inSlots q level place (inv .inside) ++ xs) (sym (left level place))
-            ∙ inv .rest level place l m;
+        none = g .empty;
+        rest =
+            ap (λ (xs : List A). xs ++ f (recordsLeft w end))
+            (g .append (inv .inside) (inv .behind ++ (r ∷ []))
+            ∙ ap (λ (xs : List A). f (inv .inside) ++ xs) (g .append (inv .behind) (r ∷ []) ∙ ap (λ (xs : List A). xs ++ f (r ∷ [])) (inv .none)))
+            ∙ append-assoc (f (inv .inside)) (f (r ∷ [])) (f (recordsLeft w end))
+            ∙ ap (λ (xs : List A). f (inv .inside) ++ xs) (sym left)
+            ∙ inv .rest;
       }
 
-      turned : (counts : Bool) → (counts ≡ false → Outside q r) → Spanning w from q (spanAfter s counts at end) end
+      turned : (counts : Bool) → (counts ≡ false → f (r ∷ []) ≡ []) → Spanning f w from (spanAfter s counts at end) end
       unfolding spanAfter
       turned false out = past (out refl)
       turned true out = go (eqb (s .first) (s .last)) refl
         where
-          go : (t : Bool) → eqb (s .first) (s .last) ≡ t → Spanning w from q (record { first = cond t at (s .first); last = end }) end
+          go : (t : Bool) → eqb (s .first) (s .last) ≡ t → Spanning f w from (record { first = cond t at (s .first); last = end }) end
           go true e = begins (eqb-true (s .first) (s .last) e)
           go false e = wider
 
     pub span-turn : {counts : Bool} {new : Span} → recordsLeft w at ≡ consSome (whole kinded (part w (at + 2) end)) (recordsLeft w end)
-        → ((r : Record) → whole kinded (part w (at + 2) end) ≡ some r → counts ≡ false → Outside q r) → SpanAfter s counts at end new → Spanning w from q new end
+        → (counts ≡ false → (r : Record) → whole kinded (part w (at + 2) end) ≡ some r → f (r ∷ []) ≡ []) → SpanAfter s counts at end new → Spanning f w from new end
     span-turn {counts} step out after = rw (after .is) (go (whole kinded (part w (at + 2) end)) refl)
       where
-        go : (o : Option Record) → whole kinded (part w (at + 2) end) ≡ o → Spanning w from q (spanAfter s counts at end) end
+        go : (o : Option Record) → whole kinded (part w (at + 2) end) ≡ o → Spanning f w from (spanAfter s counts at end) end
         go none e = absurd (false≢true (sym (ap isSome e) ∙ stop .ok))
-        go (some r) e = turned r e (step ∙ ap (λ o. consSome o (recordsLeft w end)) e) counts (out r e)
+        go (some r) e = turned r e (step ∙ ap (λ o. consSome o (recordsLeft w end)) e) counts (λ c. out c r e)
 
-  pub span-end : {s : Span} {at : ℕ} → Spanning w from q s at → at ≤ length w → recordsLeft w at ≡ [] → Spans w from q (s .first) (s .last)
-  unfolding inSlots
+  pub span-end : {s : Span} {at : ℕ} → Spanning f w from s at → at ≤ length w → recordsLeft w at ≡ [] → Spans f w from s
   span-end {s} {at} inv h e =
       let fits : s .last ≤ length w = omega (arith, run-le (inv .gap)) in
       record {
         fits = fits;
         between = run-between fits (inv .low) (inv .run);
-        same = λ level place l m.
-            ap (λ o. inSlots q level place (listed o)) (run-records fits (inv .run))
-            ∙ sym (append-nil (inSlots q level place (inv .inside)))
-            ∙ ap (λ (rs : List Record). inSlots q level place (inv .inside) ++ inSlots q level place rs) (sym e)
-            ∙ inv .rest level place l m;
+        same =
+            ap (λ o. f (listed o)) (run-records fits (inv .run))
+            ∙ sym (append-nil (f (inv .inside)))
+            ∙ ap (λ (xs : List A). f (inv .inside) ++ xs) (sym (ap f e ∙ g .empty))
+            ∙ inv .rest;
       }
+
+-- ---- the window
+
+pub window-noted : {w : Window} {own rounding : Bool} {at end : ℕ} {a b : Span} → SpanAfter (rowSpan w) own at end a → SpanAfter (roundingSpan w) rounding at end b
+    → WindowAfter w own rounding at end (record { first = a .first; last = a .last; from = b .first; to = b .last })
+window-noted a b = record { rows = a; roundings = b }
+
+pub windows : {b : List ℕ} {start : ℕ} {q : Question} {w : Window} → Spans (ownRows q) b start (rowSpan w) → Spans roundings b start (roundingSpan w) → Windows b start q w
+windows a b = record {
+  fits = a .fits;
+  between = a .between;
+  same = a .same;
+  rounding-fits = b .fits;
+  rounding-between = b .between;
+  rounding-same = b .same;
+}
+
+-- the day plays no part in it
+pub window-on : {b : List ℕ} {start : ℕ} {q : Question} {w : Window} → Windows b start q w → (d : ℕ) → Windows b start (on q d) w
+unfolding ownRows on
+window-on w d = record {
+  fits = w .fits;
+  between = w .between;
+  same = w .same;
+  rounding-fits = w .rounding-fits;
+  rounding-between = w .rounding-between;
+  rounding-same = w .rounding-same;
+}

@@ -5,13 +5,13 @@ use mathlib.Core.Bool.{Bool, true, false, _&&_, _||_, not, cond}
 use mathlib.Core.List.{List, _∷_}
 use mathlib.Core.Option.{Option, some, none}
 use native.Mathlib.Omega.{arith}
-use lib.Dec.{eqb, ltb}
+use lib.Dec.{eqb}
 use lib.ListN.{length, take, drop, getD, set, replicate, length-set, length-replicate, getD-replicate}
 use lib.Seq.{getD-set-same, getD-set-other}
 use borrow.Author.Tests.{eq-eqb, ne-eqb, eqb-true, eqb-false}
 use Rattle.rules.specs.Lists.{same, isSome, keep, consIf, consSome, pick, first}
 use Rattle.rules.specs.Layout.{whole}
-use Rattle.rules.specs.Book.{Row, Record, ArticleRecord, PriceRecord, RoundingRecord, PackagingRecord, SchemeRecord, rows, articles, articleOf}
+use Rattle.rules.specs.Book.{Row, Record, ArticleRecord, PriceRecord, RoundingRecord, PackagingRecord, SchemeRecord, rows, roundings, articles, articleOf}
 use Rattle.rules.specs.BookLayout.{kinded}
 use Rattle.rules.specs.Question.{Question}
 use Rattle.rules.specs.Choice.{better}
@@ -28,13 +28,13 @@ use Rattle.records.specs.Tests as Tests
 use Rattle.choice.specs.declared.hands.Hand.{Hand}
 use Rattle.choice.specs.declared.hands.Seen.{Seen}
 use Rattle.choice.specs.declared.hands.Passing.{Passing}
-use Rattle.choice.specs.declared.span.Span.{Span}
+use Rattle.choice.specs.declared.span.Window.{Window}
 use Rattle.choice.specs.Slots.{inSlot}
 use Rattle.choice.specs.Hands.{limitOf, betterHand, handAfter, seenAfter, SeenAfter, RowThere, HandIs, NoRow, OneRow, SeenIs}
-use Rattle.choice.specs.Walk.{slotOf, passingOf, Passes, unseen, seenOf, WalkIs}
-use Rattle.choice.specs.Span.{SpanAfter}
+use Rattle.choice.specs.Walk.{slotOf, passingOf, Passes, isRounding, unseen, seenOf, WalkIs}
+use Rattle.choice.specs.Span.{rowSpan, roundingSpan, WindowAfter, ownRows}
 use Rattle.choice.proofs.PassingLaws.{slot-in}
-use Rattle.choice.proofs.SpanLaws.{Spanning, span-start, pass-outside, span-turn, span-end}
+use Rattle.choice.proofs.SpanLaws.{Spanning, rows-gather, roundings-gather, rows-outside, roundings-outside, span-start, span-turn, span-end, windows}
 
 -- ---- a slot sees a row
 
@@ -119,7 +119,7 @@ module _ {w : List ℕ} {q : Question} {at end : ℕ} {o : Option Record} {p : P
       Done = Sees w q level place (getD (set slots (p .slot) new) (level * 33 + place) unseen) (rows rs) all
 
       skip : Tests.rowOf (q .article) o ≡ false → Seen-to rs → Done
-      skip e s = sees-not l m slots (p .slot) new (λ f. omega (arith, pass .other e)) s
+      skip e s = sees-not l m slots (p .slot) new (λ f. omega (arith, ap (λ (x : Passing). x .slot) (pass .other e))) s
 
       mine : (r : Row) → o ≡ some (PriceRecord r) → p ≡ passingOf q at end r → same (r .article) (q .article) ≡ true → (b : Bool) → eqb (slotOf q r) (level * 33 + place) ≡ b → Seen-to (PriceRecord r ∷ rs) → Done
       mine r e f a true h s =
@@ -162,19 +162,21 @@ pub accepted : {w : List ℕ} {at end : ℕ} → StopIs w at end → Accepted (t
 accepted s = record { ok = s .ok }
 
 -- once the records from `at` on have gone by, the slots will have seen all from `from` on
-pub record Walking (w : List ℕ) (from : ℕ) (q : Question) (slots : List Seen) (found : Bool) (span : Span) (at : ℕ) : Type 0 where
+pub record Walking (w : List ℕ) (from : ℕ) (q : Question) (slots : List Seen) (found : Bool) (window : Window) (at : ℕ) : Type 0 where
   pub between : Between w at
-  pub spanning : Spanning w from q span at
+  pub rows-span : Spanning (ownRows q) w from (rowSpan window) at
+  pub roundings-span : Spanning roundings w from (roundingSpan window) at
   pub long : length slots ≡ 100
   pub sees : (level place : ℕ) → level < 3 → place < 33 → Sees w q level place (getD slots (level * 33 + place) unseen) (rows (recordsLeft w at)) (rows (recordsLeft w from))
   pub article : (found || isSome (articleOf (recordsLeft w at) (q .article))) ≡ isSome (articleOf (recordsLeft w from) (q .article))
 
 module _ (w : List ℕ) (from : ℕ) (q : Question) where
-  pub walk-start : Between w from → Walking w from q (replicate 100 unseen) false (record { first = from; last = from }) from
+  pub walk-start : Between w from → Walking w from q (replicate 100 unseen) false (record { first = from; last = from; from = from; to = from }) from
   unfolding seenOf
   walk-start b = record {
     between = b;
-    spanning = span-start (b .low);
+    rows-span = span-start (rows-gather q) (b .low);
+    roundings-span = span-start roundings-gather (b .low);
     long = length-replicate 100 unseen;
     sees = λ level place l p.
         let k : level * 33 + place < 100 = omega arith in
@@ -182,18 +184,20 @@ module _ (w : List ℕ) (from : ℕ) (q : Question) where
     article = refl;
   }
 
-  module _ {slots : List Seen} {found : Bool} {span : Span} {at : ℕ} (inv : Walking w from q slots found span at) where
+  module _ {slots : List Seen} {found : Bool} {window : Window} {at : ℕ} (inv : Walking w from q slots found window at) where
     pub walk-here : at < length w → RecordHere w at
     walk-here h = pass-here (inv .between) h
 
-    module _ (h : at < length w) {end : ℕ} (stop : StopIs w at end) {p : Passing} {new : Seen} {wider : Span} {b : Bool} where
-      pub walk-turn : Passes q (at + 2) end (whole kinded (take (end - (at + 2)) (drop (at + 2) w))) p → SeenAfter (getD slots (p .slot) unseen) p new → SpanAfter span (ltb (p .slot) 99) at end wider
-          → Says (Tests.articleOf (q .article) (whole kinded (take (end - (at + 2)) (drop (at + 2) w)))) b → Walking w from q (set slots (p .slot) new) (found || b) wider end
-      walk-turn pass after widened art =
+    module _ (h : at < length w) {end : ℕ} (stop : StopIs w at end) {p : Passing} {new : Seen} {next : Window} {rounding b : Bool} where
+      pub walk-turn : Passes q (at + 2) end (whole kinded (take (end - (at + 2)) (drop (at + 2) w))) p → SeenAfter (getD slots (p .slot) unseen) p new → WindowAfter window (p .own) rounding at end next
+          → Says (isRounding (whole kinded (take (end - (at + 2)) (drop (at + 2) w)))) rounding
+          → Says (Tests.articleOf (q .article) (whole kinded (take (end - (at + 2)) (drop (at + 2) w)))) b → Walking w from q (set slots (p .slot) new) (found || b) next end
+      walk-turn pass after noted kind art =
           let step = pass-record (inv .between) h stop in
           record {
             between = pass-next (inv .between) h stop;
-            spanning = span-turn (inv .spanning) (inv .between) stop step (λ r e f. pass-outside pass f r e) widened;
+            rows-span = span-turn (rows-gather q) (inv .rows-span) (inv .between) stop step (rows-outside pass) (noted .rows);
+            roundings-span = span-turn roundings-gather (inv .roundings-span) (inv .between) stop step (roundings-outside kind) (noted .roundings);
             long = length-set slots (p .slot) new ∙ inv .long;
             sees = λ level place l m.
                 sees-turn pass (λ r e. record { low = omega arith; order = omega (arith, stop .low); fits = stop .fits; is = e }) slots (inv .long) after (recordsLeft w end) l m
@@ -205,7 +209,7 @@ module _ (w : List ℕ) (from : ℕ) (q : Question) where
                 ∙ inv .article;
           }
 
-    pub walk-end : length w ≤ at → WalkIs w from q (record { slots = slots; found = found; first = span .first; last = span .last })
+    pub walk-end : length w ≤ at → WalkIs w from q (record { slots = slots; found = found; window = window })
     unfolding articleOf
     walk-end h =
         let none-left = pass-end (inv .between) h in
@@ -221,5 +225,5 @@ module _ (w : List ℕ) (from : ℕ) (q : Question) where
               sym (or-false found)
               ∙ ap (λ (rs : List Record). found || isSome (articleOf rs (q .article))) (sym none-left)
               ∙ inv .article;
-          span = span-end (inv .spanning) (inv .between .fits) none-left;
+          window = windows (span-end (rows-gather q) (inv .rows-span) (inv .between .fits) none-left) (span-end roundings-gather (inv .roundings-span) (inv .between .fits) none-left);
         }

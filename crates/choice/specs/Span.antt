@@ -1,30 +1,46 @@
--- The stretch of the records in which rows of the slots stand: a later walk may keep to it.
-use Prim.Native.Nat.{ℕ, _<_, _≤_}
+-- Where in the book the records stand that a question asks for: a later walk, and a lookup, may keep to these stretches.
+use Prim.Native.Nat.{ℕ, _≤_}
 use mathlib.Core.Path.{_≡_}
-use mathlib.Core.Bool.{Bool, cond}
+use mathlib.Core.Bool.{Bool, _&&_, cond}
 use mathlib.Core.List.{List}
 use lib.Dec.{eqb}
 use lib.ListN.{length, take}
-use Rattle.rules.specs.Lists.{keep}
-use Rattle.rules.specs.Book.{Row, Record, rows}
+use Rattle.rules.specs.Lists.{same, keep}
+use Rattle.rules.specs.Book.{Row, Record, rows, roundings}
 use Rattle.rules.specs.Question.{Question}
 use Rattle.book.specs.Records.{recordsLeft}
 use Rattle.book.specs.Ensures.{Between}
 use Rattle.choice.specs.declared.span.Span.{Span}
-use Rattle.choice.specs.Slots.{inSlot}
+use Rattle.choice.specs.declared.span.Window.{Window}
 
 unfoldable pub spanAfter : Span → Bool → ℕ → ℕ → Span
 spanAfter s counts at end = cond counts (record { first = cond (eqb (s .first) (s .last)) at (s .first); last = end }) s
 
+-- `r` is the span once the record from `at` to `end` has gone by, if that counts
 pub record SpanAfter (s : Span) (counts : Bool) (at end : ℕ) (r : Span) : Type 0 where
   pub is : r ≡ spanAfter s counts at end
 
--- the rows of a slot among some records
-unfoldable pub inSlots : Question → ℕ → ℕ → List Record → List Row
-inSlots q level place rs = keep (inSlot q level place) (rows rs)
+-- the two spans of a window
+abbrev pub rowSpan : Window → Span
+rowSpan w = record { first = w .first; last = w .last }
 
--- a walk over w up to `last`, from `first` on, meets the same rows of every slot as one over w from `from` on
-pub record Spans (w : List ℕ) (from : ℕ) (q : Question) (first last : ℕ) : Type 0 where
-  pub fits : last ≤ length w
-  pub between : Between (take last w) first
-  pub same : (level place : ℕ) → level < 3 → place < 33 → inSlots q level place (recordsLeft (take last w) first) ≡ inSlots q level place (recordsLeft w from)
+abbrev pub roundingSpan : Window → Span
+roundingSpan w = record { first = w .from; last = w .to }
+
+-- `r` is the window once a record has gone by that is a row of the asked article and sort, or a rounding, or neither
+pub record WindowAfter (w : Window) (own rounding : Bool) (at end : ℕ) (r : Window) : Type 0 where
+  pub rows : SpanAfter (rowSpan w) own at end (rowSpan r)
+  pub roundings : SpanAfter (roundingSpan w) rounding at end (roundingSpan r)
+
+-- the rows of the asked article and sort
+unfoldable pub ownRows : Question → List Record → List Row
+ownRows q rs = keep (λ r. same (r .article) (q .article) && eqb (r .sort) (q .sort)) (rows rs)
+
+-- of the records of b from `start` on: those from `first` to `last` have all of these rows, and those from `from` to `to` all roundings
+pub record Windows (b : List ℕ) (start : ℕ) (q : Question) (w : Window) : Type 0 where
+  pub fits : w .last ≤ length b
+  pub between : Between (take (w .last) b) (w .first)
+  pub same : ownRows q (recordsLeft (take (w .last) b) (w .first)) ≡ ownRows q (recordsLeft b start)
+  pub rounding-fits : w .to ≤ length b
+  pub rounding-between : Between (take (w .to) b) (w .from)
+  pub rounding-same : roundings (recordsLeft (take (w .to) b) (w .from)) ≡ roundings (recordsLeft b start)

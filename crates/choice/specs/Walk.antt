@@ -11,7 +11,7 @@ use Rattle.rules.specs.Book.{Row, Record, PriceRecord, rows, articleOf}
 use Rattle.rules.specs.Question.{Question}
 use Rattle.rules.specs.Choice.{reaches}
 use Rattle.rules.proofs.ChoiceLaws as Choice
-use Rattle.book.specs.Records.{recordsLeft}
+use Rattle.book.specs.Records.{kindOf, recordsLeft}
 use Rattle.records.specs.Tests.{rowOf}
 use Rattle.question.specs.declared.Ask.{Ask}
 use Rattle.question.specs.Parts.{NamesStand}
@@ -21,7 +21,7 @@ use Rattle.choice.specs.declared.hands.Seen.{Seen}
 use Rattle.choice.specs.declared.hands.Passing.{Passing}
 use Rattle.choice.specs.Slots.{levelOf, placeOf, inSlot, slotChosen}
 use Rattle.choice.specs.Hands.{SeenIs}
-use Rattle.choice.specs.Span.{Spans}
+use Rattle.choice.specs.Span.{Windows}
 
 -- ---- the question, as far as its date plays no part
 
@@ -56,12 +56,21 @@ slotOf q r = cond (eqb (r .sort) (q .sort)) (slotAt (levelOf (r .level)) (placeO
 
 unfoldable pub passingOf : Question → ℕ → ℕ → Row → Passing
 passingOf q at end r = record {
+  own = eqb (r .sort) (q .sort);
   slot = slotOf q r;
   stands = Choice.stands (q .date) r;
   asked = Choice.isAsked (q .currency) r;
   reaches = reaches (q .quantity) r;
   hand = record { at = at; end = end; upto = r .upTo; from = r .from };
 }
+
+-- no row in hand
+abbrev pub noHand : Hand
+noHand = record { at = 0; end = 0; upto = 0; from = 0 }
+
+-- what any other record is
+abbrev pub unasked : Passing
+unasked = record { own = false; slot = 99; stands = false; asked = false; reaches = false; hand = noHand }
 
 -- a row in this currency is in the asked one
 abbrev pub inAsked : Option (List ℕ) → List ℕ → Bool
@@ -77,14 +86,16 @@ pub record RowPasses (q : Question) (at end : ℕ) (r : Row) (p : Passing) : Typ
 pub record Passes (q : Question) (at end : ℕ) (o : Option Record) (p : Passing) : Type 0 where
   pub below : p .slot < 100
   pub row : (r : Row) → o ≡ some (PriceRecord r) → same (r .article) (q .article) ≡ true → p ≡ passingOf q at end r
-  pub other : rowOf (q .article) o ≡ false → p .slot ≡ 99
+  pub other : rowOf (q .article) o ≡ false → p ≡ unasked
+
+-- whether a record is a rounding
+unfoldable pub isRounding : Option Record → Bool
+isRounding none = false
+isRounding (some r) = eqb (kindOf r) 3
 
 -- ---- the walk
 
 -- a slot that saw nothing
-abbrev pub noHand : Hand
-noHand = record { at = 0; end = 0; upto = 0; from = 0 }
-
 abbrev pub unseen : Seen
 unseen = record { seen = false; asked = noHand; other = noHand }
 
@@ -104,4 +115,4 @@ pub record SlotsHold (w : List ℕ) (rs : List Row) (q : Question) (slots : List
 pub record WalkIs (w : List ℕ) (from : ℕ) (q : Question) (r : Walked) : Type 0 where
   pub slots : SlotsHold w (rows (recordsLeft w from)) q (r .slots)
   pub found : r .found ≡ isSome (articleOf (recordsLeft w from) (q .article))
-  pub span : Spans w from q (r .first) (r .last)
+  pub window : Windows w from q (r .window)

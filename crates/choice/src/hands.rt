@@ -34,8 +34,10 @@ impl Seen {
     };
 }
 
-// A row that goes by: the slot it is of, or 99 for none; whether it holds that day, is in the asked currency, and reaches the quantity.
+// A row that goes by: whether it is of the asked article and sort; the slot it is of, or 99 for none; and whether it holds that day,
+// is in the asked currency, and reaches the quantity.
 pub struct Passing {
+    pub own: bool,
     pub slot: usize,
     pub stands: bool,
     pub asked: bool,

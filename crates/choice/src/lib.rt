@@ -2,14 +2,15 @@
 pub mod hands;
 mod passing;
 pub mod slots;
-mod span;
+pub mod span;
 
 use crate::hands::Seen;
 use crate::hands::see;
 use crate::passing::is_asked_article;
+use crate::passing::is_rounding_record;
 use crate::passing::passing;
-use crate::span::Span;
-use crate::span::widened;
+use crate::span::Window;
+use crate::span::noted;
 use book::record_stop;
 use question::Ask;
 ghost use Rattle.book.specs.Ensures.{Between};
@@ -17,12 +18,11 @@ ghost use Rattle.question.specs.Asked.{askIn};
 ghost use Rattle.choice.specs.Walk.{Asking, WalkIs};
 
 // Slot 33 * level + place, for 3 levels of 33 places each, and behind them one that nobody reads; whether the article is there;
-// and from where to where rows of the slots stand: a walk on another day may keep to that stretch.
+// and where its rows and the roundings stand.
 pub struct Walked {
     pub slots: [Seen; 100],
     pub found: bool,
-    pub first: usize,
-    pub last: usize,
+    pub window: Window,
 }
 
 // The records of w from `from` on, each once. w is a book, or the front part of one.
@@ -33,27 +33,29 @@ pub fn walk(w: &[u8], from: usize, q: &[u8], ask: Ask) -> Walked
 {
     let mut slots = [Seen::NOTHING; 100];
     let mut found = false;
-    let mut span = Span {
+    let mut window = Window {
         first: from,
         last: from,
+        from,
+        to: from,
     };
     let mut at = from;
     while at < w.len() {
         let end = record_stop(w, at);
         let start = at + 2;
-        let p = passing(&w[start..end], start, end, q, ask);
+        let t = &w[start..end];
+        found = found | is_asked_article(t, q, ask);
+        let p = passing(t, start, end, q, ask);
+        window = noted(window, p.own, is_rounding_record(t), at, end);
         let i = p.slot;
         let old = slots[i];
         let new = see(old, p);
         slots[i] = new;
-        span = widened(span, i < 99, at, end);
-        found = found | is_asked_article(&w[start..end], q, ask);
         at = end;
     }
     Walked {
         slots,
         found,
-        first: span.first,
-        last: span.last,
+        window,
     }
 }

@@ -22,7 +22,7 @@ ghost use Rattle.records.specs.Asks.{Accepted};
 ghost use Rattle.records.specs.Tests.{articleOf};
 ghost use Rattle.records.specs.Ensures.{rowIn, RowIs};
 ghost use Rattle.question.specs.Asked.{askIn, lettersOf};
-ghost use Rattle.choice.specs.Walk.{Asking, slotAt, slotOf, inAsked, RowPasses, Passes};
+ghost use Rattle.choice.specs.Walk.{Asking, slotAt, slotOf, inAsked, RowPasses, Passes, isRounding};
 
 fn slot_at(level: usize, place: usize) -> usize
     ensures { λ r. ⌜ Number (slotAt level place) 100 r ⌝ }
@@ -88,6 +88,7 @@ fn row_passing(t: &[u8], row: PriceRow, at: usize, end: usize, q: &[u8], ask: As
     requires { ⌜ Asking (now q) ask ⌝ }
     ensures { λ r. ⌜ RowPasses (askIn (now (q .entry)) ask) at end (rowIn (now (t .entry)) row) r ⌝ }
 {
+    let own = row.sort == ask.sort;
     let slot = slot_of(t, row, q, ask);
     let value = row.value;
     let percent_base = (row.level == b'B') & is_percent(value);
@@ -103,6 +104,7 @@ fn row_passing(t: &[u8], row: PriceRow, at: usize, end: usize, q: &[u8], ask: As
         from: row.from,
     };
     Passing {
+        own,
         slot,
         stands,
         asked,
@@ -125,6 +127,7 @@ pub fn passing(t: &[u8], at: usize, end: usize, q: &[u8], ask: Ask) -> Passing
         row_passing(t, row, at, end, q, ask)
     } else {
         Passing {
+            own: false,
             slot: 99,
             stands: false,
             asked: false,
@@ -132,6 +135,14 @@ pub fn passing(t: &[u8], at: usize, end: usize, q: &[u8], ask: Ask) -> Passing
             hand: Hand::EMPTY,
         }
     }
+}
+
+// Whether t is a rounding, of whatever number: by its kind byte alone.
+pub fn is_rounding_record(t: &[u8]) -> bool
+    requires { ⌜ Accepted (now t) ⌝ }
+    ensures { λ r. ⌜ Says (isRounding (whole kinded (now (t .entry)))) r ⌝ }
+{
+    t[0] == 3
 }
 
 // Whether t is the record of the asked article.

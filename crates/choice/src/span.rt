@@ -1,14 +1,22 @@
-// The stretch of the records in which rows of the slots stand.
-ghost use Rattle.choice.specs.Span.{SpanAfter};
+// Where in the book the records stand that a question asks for: later walks and lookups may keep to these stretches.
+ghost use Rattle.choice.specs.Span.{SpanAfter, WindowAfter};
 
-// From the place of the first such record to the end of the last; while there is none, both are the same.
-pub struct Span {
+// All rows of the asked article and sort stand from `first` to `last`, all roundings from `from` to `to`.
+pub struct Window {
     pub first: usize,
     pub last: usize,
+    pub from: usize,
+    pub to: usize,
+}
+
+// From the place of the first record that counts to the end of the last; while there is none, both are the same.
+struct Span {
+    first: usize,
+    last: usize,
 }
 
 // The span once the record from `at` to `end` has gone by, if that counts.
-pub fn widened(span: Span, counts: bool, at: usize, end: usize) -> Span
+fn widened(span: Span, counts: bool, at: usize, end: usize) -> Span
     ensures { λ r. ⌜ SpanAfter span counts at end r ⌝ }
 {
     if counts {
@@ -24,4 +32,26 @@ pub fn widened(span: Span, counts: bool, at: usize, end: usize) -> Span
         };
     }
     span
+}
+
+// The window once a record has gone by: it may be a row of the asked article and sort, or a rounding.
+pub fn noted(window: Window, own: bool, rounding: bool, at: usize, end: usize) -> Window
+    ensures { λ r. ⌜ WindowAfter window own rounding at end r ⌝ }
+{
+    let rows = Span {
+        first: window.first,
+        last: window.last,
+    };
+    let roundings = Span {
+        first: window.from,
+        last: window.to,
+    };
+    let a = widened(rows, own, at, end);
+    let b = widened(roundings, rounding, at, end);
+    Window {
+        first: a.first,
+        last: a.last,
+        from: b.first,
+        to: b.last,
+    }
 }

@@ -1,24 +1,29 @@
 -- A lookup by places meets the definition's: each turn, the hit, and the end.
-use Prim.Native.Nat.{ℕ, _+_, _≤_, _<_, _-_}
+use Prim.Native.Nat.{ℕ, zero, suc, _+_, _≤_, _<_, _-_}
 use mathlib.Core.Path.{_≡_, refl, sym, _∙_, ap}
 use mathlib.Core.Bool.{Bool, true, false}
-use mathlib.Core.List.{List, _∷_}
-use mathlib.Core.Option.{Option, some, none}
+use mathlib.Core.List.{List, [], _∷_}
+use mathlib.Core.Option.{Option, some, none, Option·none-ne-some, Option·some-injective}
 use native.Mathlib.Omega.{arith}
-use lib.ListN.{length}
+use lib.ListN.{length, drop}
+use borrow.Author.Tests.{ne-eqb}
 use Rattle.rules.specs.Lists.{consSome}
-use Rattle.rules.specs.Layout.{whole}
+use Rattle.rules.specs.Layout.{Layout, _>>=_, give, bytes, toEnd, whole, back}
+use Rattle.rules.specs.Bytes.{number}
 use Rattle.rules.specs.Book.{Record, ArticleRecord, PriceRecord, RoundingRecord, PackagingRecord, SchemeRecord, roundings, roundingFor, plain}
-use Rattle.rules.specs.BookLayout.{kinded}
+use Rattle.rules.specs.BookLayout.{kinded, oneRecord}
 use Rattle.rules.specs.declared.Rounding.{Rounding}
+use Rattle.rules.proofs.ListLaws.{All}
+use Rattle.rules.proofs.GivesLaws.{Gives, gives-field, gives-any, gives-value, whole-gives}
 use Rattle.layout.specs.Reads.{part}
 use Rattle.layout.specs.Ensures.{Says}
-use Rattle.book.specs.Records.{recordsLeft}
+use Rattle.book.specs.Records.{recordsFrom, listed, recordsLeft}
 use Rattle.book.specs.Ensures.{Between, RecordHere, StopIs}
 use Rattle.book.proofs.WalkLaws.{pass-end, pass-here, pass-less, pass-next, pass-record}
 use Rattle.records.specs.Asks.{OfKind}
-use Rattle.records.specs.Ensures.{RoundingIs}
+use Rattle.records.specs.Ensures.{Bounded, RoundingIs}
 use Rattle.records.specs.Tests.{roundingOf}
+use Rattle.records.proofs.BoundLaws.{in-bounds}
 use Rattle.records.proofs.RoundingLaws.{rounding-kind}
 use Rattle.lookup.specs.Ensures.{RoundingUsed, Looking}
 
@@ -37,21 +42,74 @@ hit : (n : ℕ) (r : Rounding) (rs : List Record) → roundingOf n (some (Roundi
 unfolding roundingOf roundingFor
 hit n r rs e = rw e
 
-module _ {b : List ℕ} {from : ℕ} (number : ℕ) where
-  pub look-start : Between b from → Looking b from number from
-  look-start w = record { between = w; rest = refl }
+-- ---- no record has number 0
 
-  pub look-end : {at : ℕ} → Looking b from number at → length b ≤ at → {r : Rounding} → r ≡ plain → RoundingUsed b from number r
-  unfolding roundingFor
-  look-end {at} l h {r} e =
-      let p : roundingFor number (roundings (recordsLeft b at)) ≡ plain = rw (pass-end (l .between) h) in
+-- of values one after the other each is what one alone is
+gives-to-end : {A : Type 0} {P : A → Type 0} (n : ℕ) {m : Layout A} → Gives m P → Gives (toEnd n m) (All P)
+gives-to-end {A} {P} zero {m} g = record { sure = go }
+  where
+    go : (s : List ℕ) (v : List A) (t : List ℕ) → toEnd zero m s ≡ some (v, t) → All P v
+    go [] v t e = gives-value [] {P = All P} tt .sure [] v t e
+    go (x ∷ s) v t e = absurd (Option·none-ne-some (v, t) e)
+gives-to-end {A} {P} (suc n) {m} g = record { sure = go (gives-to-end n g) }
+  where
+    go : Gives (toEnd n m) (All P) → (s : List ℕ) (v : List A) (t : List ℕ) → toEnd (suc n) m s ≡ some (v, t) → All P v
+    go rest [] v t e = gives-value [] {P = All P} tt .sure [] v t e
+    go rest (x ∷ s) v t e =
+        gives-field m (λ a. toEnd n m >>= λ xs. give (a ∷ xs)) g
+        (λ a h. gives-field (toEnd n m) (λ xs. give (a ∷ xs)) rest (λ xs hs. gives-value (a ∷ xs) {P = All P} (h, hs))) .sure (x ∷ s) v t e
+
+gives-record : Gives oneRecord Bounded
+gives-record =
+    gives-field (number 2) _ (gives-any (number 2)) λ n _.
+    gives-field (bytes n) _ (gives-any (bytes n)) λ t _.
+    record { sure = λ s r u e. in-bounds t r (go (whole kinded t) s e) }
+  where
+    go : (o : Option Record) (s : List ℕ) {y : Record × List ℕ} → back o s ≡ some y → o ≡ some (y .0)
+    go none s {y} e = absurd (Option·none-ne-some y e)
+    go (some r) s {y} e = ap (λ (z : Record × List ℕ). some (z .0)) (Option·some-injective (r, s) y e)
+
+bounded : (b : List ℕ) (at : ℕ) → All Bounded (recordsLeft b at)
+unfolding recordsFrom
+bounded b at = go (recordsFrom b at) refl
+  where
+    go : (o : Option (List Record)) → recordsFrom b at ≡ o → All Bounded (listed o)
+    go none e = tt
+    go (some rs) e = whole-gives (record { sure = λ s v t f. gives-to-end (length s) gives-record .sure s v t f }) (drop at b) rs e
+
+none-zero : (rs : List Record) → All Bounded rs → roundingFor 0 (roundings rs) ≡ plain
+unfolding roundingFor
+none-zero [] h = refl
+none-zero (ArticleRecord a ∷ rs) h = none-zero rs (h .1)
+none-zero (PriceRecord r ∷ rs) h = none-zero rs (h .1)
+none-zero (RoundingRecord r ∷ rs) h = rw (ne-eqb (r .number) 0 (λ e. omega (arith, h .0 .number-low))) (none-zero rs (h .1))
+none-zero (PackagingRecord p ∷ rs) h = none-zero rs (h .1)
+none-zero (SchemeRecord s ∷ rs) h = none-zero rs (h .1)
+
+-- ---- the lookup
+
+module _ {b : List ℕ} {from : ℕ} (number : ℕ) where
+  plain-used : {r : Rounding} → r ≡ plain → plain ≡ roundingFor number (roundings (recordsLeft b from)) → RoundingUsed b from number r
+  plain-used e p =
       record {
-        is = e ∙ sym p ∙ l .rest;
+        is = e ∙ p;
         step-low = rw e (omega arith);
         step-high = rw e (omega arith);
         before-in = rw e (omega arith);
         after-in = rw e (omega arith);
       }
+
+  pub look-zero : number ≡ 0 → {r : Rounding} → r ≡ plain → RoundingUsed b from number r
+  look-zero z e = plain-used e (sym (none-zero (recordsLeft b from) (bounded b from)) ∙ ap (λ (n : ℕ). roundingFor n (roundings (recordsLeft b from))) (sym z))
+
+  pub look-start : Between b from → Looking b from number from
+  look-start w = record { between = w; rest = refl }
+
+  pub look-end : {at : ℕ} → Looking b from number at → length b ≤ at → {r : Rounding} → r ≡ plain → RoundingUsed b from number r
+  unfolding roundingFor
+  look-end {at} l h e =
+      let p : roundingFor number (roundings (recordsLeft b at)) ≡ plain = rw (pass-end (l .between) h) in
+      plain-used e (sym p ∙ l .rest)
 
   module _ {at : ℕ} (l : Looking b from number at) (h : at < length b) where
     pub look-here : RecordHere b at

@@ -21,10 +21,14 @@ fn plain_rounding() -> Rounding
 }
 
 // The rounding of a number, looked for from a place of the book on: that of the first record that has it, or else the plain one.
+// No record has number 0, so that for it none is read.
 pub fn rounding_for(b: &[u8], from: usize, number: u16) -> Rounding
     requires { ⌜ Between (now b) from ⌝ }
     ensures { λ r. ⌜ RoundingUsed (now (b .entry)) from number r ⌝ }
 {
+    if number == 0 {
+        return plain_rounding();
+    }
     let mut at = from;
     while at < b.len() {
         let end = book::record_stop(b, at);

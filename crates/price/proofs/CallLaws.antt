@@ -35,7 +35,7 @@ use Rattle.lines.proofs.PricedLaws.{line-count, line-places, bytes-count}
 use Rattle.lines.proofs.ChosenLaws.{chosen-base-first}
 use Rattle.lines.proofs.VerdictLaws.{so, not-so}
 use Rattle.price.specs.declared.picks.Picks.{Picks}
-use Rattle.price.specs.Picks.{PicksAre}
+use Rattle.price.specs.Picks.{PickedAre, PicksAre}
 use Rattle.price.specs.Unused.{idle, UnusedIs}
 use Rattle.price.specs.Call.{answered, PriceIs}
 use Rattle.price.proofs.UnusedSetLaws.{idle-lines}
@@ -98,24 +98,24 @@ module _ (b s lent : List ℕ) where
 
 -- ---- the rows that stand for the question
 
-module _ {b : List ℕ} {q : Question} {p : Picks} (picked : PicksAre b q p) where
-  stand : StandFor (recordsLeft b 5) q (p .rows) (p .n)
+module _ {b : List ℕ} {q : Question} {picks : List Pick} {n : ℕ} (picked : PickedAre b q picks n) where
+  stand : StandFor (recordsLeft b 5) q picks n
   stand = record { is = picked .is }
 
-  pub can-judge : Listable (p .rows) (p .n)
+  pub can-judge : Listable picks n
   can-judge = record { few = picked .few; sound = picked .sound; base-first = ap baseFirst (picked .is) ∙ chosen-base-first (roundings (recordsLeft b 5)) (rows (recordsLeft b 5)) q }
 
-  pub can-write : {v : Verdict} → VerdictIs (p .rows) (p .n) v → {lent : List ℕ} → 14 * p .n ≤ length lent → Writable lent (v .amounts) (p .n)
+  pub can-write : {v : Verdict} → VerdictIs picks n v → {lent : List ℕ} → 14 * n ≤ length lent → Writable lent (v .amounts) n
   can-write j h = record { few = picked .few; room = h; each-in = j .each-in }
 
   -- how many bytes the lines take
-  size : length (linesBytes (linesOf (recordsLeft b 5) q)) ≡ 14 * p .n
-  size = bytes-count (recordsLeft b 5) q (p .rows) (p .n) stand (omega (arith, picked .few, picked .long))
+  size : length (linesBytes (linesOf (recordsLeft b 5) q)) ≡ 14 * n
+  size = bytes-count (recordsLeft b 5) q picks n stand (omega (arith, picked .few, picked .long))
 
   -- the granted places that brought no line
-  module _ {set : ℕ} (u : UnusedIs (q .granted) (map (λ v. v .place) (viewsIn (p .rows) (p .n))) set) where
-    unused-is : unusedOf q (linesOf (recordsLeft b 5) q) ≡ idle (q .granted) (map (λ v. v .place) (viewsIn (p .rows) (p .n)))
-    unused-is = idle-lines q (linesOf (recordsLeft b 5) q) ∙ ap (idle (q .granted)) (line-places (recordsLeft b 5) q (p .rows) (p .n) stand)
+  module _ {set : ℕ} (u : UnusedIs (q .granted) (map (λ v. v .place) (viewsIn picks n)) set) where
+    unused-is : unusedOf q (linesOf (recordsLeft b 5) q) ≡ idle (q .granted) (map (λ v. v .place) (viewsIn picks n))
+    unused-is = idle-lines q (linesOf (recordsLeft b 5) q) ∙ ap (idle (q .granted)) (line-places (recordsLeft b 5) q picks n stand)
 
     set-is : set ≡ setOf (unusedOf q (linesOf (recordsLeft b 5) q))
     set-is = u .is ∙ ap setOf (sym unused-is)
@@ -126,17 +126,17 @@ module _ (b s lent : List ℕ) {ok : Bool} (is : ok ≡ isSome (records b)) (t :
     {v : Verdict} (j : VerdictIs (p .rows) (p .n) v) where
   pub no-price : (v .number ≡ 0 → ⊥) → {r : PriceAnswer} → r ≡ shown (refused (v .number)) → PriceIs b s lent r lent
   no-price z =
-      let e = j .refuses z (recordsLeft b 5) (askIn s ask) (stand picked) in
+      let e = j .refuses z (recordsLeft b 5) (askIn s ask) (stand (picked .picked)) in
       refuses b s lent (priced-call b s lent is t a picked f ∙ rw (e .is))
 
   module _ (z : v .number ≡ 0) where
     at-price : price b s (length lent) ≡ roomFor (length lent) (answerOf (askIn s ask) (record { lines = linesOf (recordsLeft b 5) (askIn s ask); currency = letters (v .currency) }))
-    at-price = let e = j .answered z (recordsLeft b 5) (askIn s ask) (stand picked) in priced-call b s lent is t a picked f ∙ rw (e .is)
+    at-price = let e = j .answered z (recordsLeft b 5) (askIn s ask) (stand (picked .picked)) in priced-call b s lent is t a picked f ∙ rw (e .is)
 
     pub no-room : length lent < 14 * p .n → {r : PriceAnswer} → r ≡ shown (refused 7) → PriceIs b s lent r lent
     unfolding answerOf
     no-room h =
-        let e : leb (length (linesBytes (linesOf (recordsLeft b 5) (askIn s ask)))) (length lent) ≡ false = rw (size picked) (lt-leb (14 * p .n) (length lent) h) in
+        let e : leb (length (linesBytes (linesOf (recordsLeft b 5) (askIn s ask)))) (length lent) ≡ false = rw (size (picked .picked)) (lt-leb (14 * p .n) (length lent) h) in
         refuses b s lent (at-price ∙ rw e)
 
     -- with room, the lines go to the front, and what is read is the definition's
@@ -148,11 +148,11 @@ module _ (b s lent : List ℕ) {ok : Bool} (is : ok ≡ isSome (records b)) (t :
         let book : List Record = recordsLeft b 5 in
         let q : Question = askIn s ask in
         let ls : List Line = linesOf book q in
-        let x = j .answered z book q (stand picked) in
-        let fits : leb (length (linesBytes ls)) (length lent) ≡ true = rw (size picked) (le-leb (14 * p .n) (length lent) h) in
+        let x = j .answered z book q (stand (picked .picked)) in
+        let fits : leb (length (linesBytes ls)) (length lent) ≡ true = rw (size (picked .picked)) (le-leb (14 * p .n) (length lent) h) in
         let is-done : price b s (length lent) ≡ done (answerOf q (record { lines = ls; currency = letters (v .currency) })) = at-price ∙ rw fits in
-        let count : length ls ≡ p .n = line-count book q (p .rows) (p .n) (stand picked) (omega (arith, picked .few, picked .long)) in
-        let set′ : set ≡ setOf (unusedOf q ls) = set-is picked u in
+        let count : length ls ≡ p .n = line-count book q (p .rows) (p .n) (stand (picked .picked)) (omega (arith, picked .picked .few, picked .picked .long)) in
+        let set′ : set ≡ setOf (unusedOf q ls) = set-is (picked .picked) u in
         let ones′ : ones set ≡ length (unusedOf q ls) = ap ones set′ ∙ unused-count q ls in
         let bytes : viewsBytes (viewsIn (p .rows) (p .n)) (take (p .n) (v .amounts)) ≡ linesBytes ls = sym (x .bytes) in
         record {

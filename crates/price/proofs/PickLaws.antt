@@ -7,10 +7,10 @@ use mathlib.Core.Option.{Option, some, none}
 use native.Mathlib.Omega.{arith}
 use lib.Dec.{eqb}
 use lib.ListN.{length, take, drop, getD, set, length-set}
-use lib.Seq.{take-set-le, take-suc-set}
+use lib.Seq.{length-take-le, take-set-le, take-suc-set}
 use borrow.Author.Tests.{eqb-true, eqb-false, ne-eqb}
 use Rattle.rules.specs.Lists.{gather, consSome}
-use Rattle.rules.specs.Book.{Row, Record, rows, roundings}
+use Rattle.rules.specs.Book.{Row, Record, rows, roundings, roundingFor}
 use Rattle.rules.specs.Question.{Question}
 use Rattle.rules.specs.Lines.{Chosen}
 use Rattle.rules.proofs.ListLaws.{All}
@@ -24,22 +24,33 @@ use Rattle.choice.specs.Hands.{TakenIs}
 use Rattle.question.specs.declared.Ask.{Ask}
 use Rattle.question.specs.Asked.{askIn}
 use Rattle.choice.specs.Walk.{Asking, SlotsHold, WalkIs, unseen}
+use Rattle.choice.specs.Span.{Windows}
 use Rattle.choice.specs.Slots.{slotChosen, slotsChosen, upFrom}
 use Rattle.choice.specs.declared.hands.Seen.{Seen}
 use Rattle.choice.specs.declared.Walked.{Walked}
+use Rattle.choice.specs.declared.span.Window.{Window}
 use Rattle.choice.proofs.SlotLaws.{Granted, slots-choose}
 use Rattle.choice.specs.declared.hands.Hand.{Hand}
-use Rattle.choice.proofs.ChosenLaws.{there-kind, there-row, slot-empty, slot-full, asking-granted}
+use Rattle.choice.proofs.ChosenLaws.{there-kind, there-row, slot-empty, slot-full, asking-granted, walk-within}
 use Rattle.lines.specs.declared.Pick.{Pick}
 use Rattle.lines.specs.Views.{View, viewOf, viewIn, viewsIn}
 use Rattle.lines.specs.Contracts.{Sound}
-use Rattle.price.specs.Picks.{Held, HandHeld, RowPicked, HandPicked, Counted, viewsFrom, Picking, PicksSoFar, PicksAre}
+use Rattle.price.specs.declared.picks.Picks.{Picks}
+use Rattle.price.specs.Picks.{RoundingsIn, Held, HandHeld, RowPicked, HandPicked, Counted, viewsFrom, Picking, PicksSoFar, Filled, PickedAre, PicksFrom, PicksAre}
 
 pub held-kind : {b : List ℕ} {at end : ℕ} → Held b at end → OfKind 2 (take (end - at) (drop at b))
 held-kind h = there-kind (h .there)
 
-module _ {b : List ℕ} {at end : ℕ} (held : Held b at end) {row : PriceRow} (is : RowIs (take (end - at) (drop at b)) row)
-    {rounding : Rounding} (used : RoundingUsed b 5 (row .rounding) rounding) where
+module _ {b : List ℕ} {w : Window} (told : RoundingsIn b w) where
+  pub window-long : length (take (w .to) b) ≡ w .to
+  window-long = length-take-le (w .to) b (told .window .rounding-fits)
+
+  -- a lookup may keep to the window
+  rounding-used : {number : ℕ} {r : Rounding} → RoundingUsed (take (w .to) b) (w .from) number r → r ≡ roundingFor number (roundings (recordsLeft b 5))
+  rounding-used {number} u = u .is ∙ ap (roundingFor number) (told .window .rounding-same)
+
+module _ {b : List ℕ} {w : Window} (told : RoundingsIn b w) {at end : ℕ} (held : Held b at end) {row : PriceRow} (is : RowIs (take (end - at) (drop at b)) row)
+    {rounding : Rounding} (used : RoundingUsed (take (w .to) b) (w .from) (row .rounding) rounding) where
   pub row-picked : (place : ℕ) → RowPicked b at end place (record { place = place; level = row .level; rule = row .rule; text = row .text; value = row .value; currency = row .currency; rounding = rounding })
   unfolding rowIn
   row-picked place =
@@ -48,7 +59,7 @@ module _ {b : List ℕ} {at end : ℕ} (held : Held b at end) {row : PriceRow} (
             let e : rowIn (take (end - at) (drop at b)) row ≡ r = there-row there row is in
             subst (λ (x : Row). _≡_ {A = View} (record { place = place; level = row .level; rule = row .rule; text = row .text; value = row .value; currency = row .currency .0 ∷ row .currency .1 ∷ row .currency .2 ∷ []; rounding = rounding })
             (viewOf (roundings (recordsLeft b 5)) (record { place = place; row = x }))) e
-            (λ i. record { place = place; level = row .level; rule = row .rule; text = row .text; value = row .value; currency = row .currency .0 ∷ row .currency .1 ∷ row .currency .2 ∷ []; rounding = used .is i });
+            (λ i. record { place = place; level = row .level; rule = row .rule; text = row .text; value = row .value; currency = row .currency .0 ∷ row .currency .1 ∷ row .currency .2 ∷ []; rounding = rounding-used told used i });
         sound = record { value-in = is .value-in; rounding-in = record { step-low = used .step-low; step-high = used .step-high; before-in = used .before-in; after-in = used .after-in } };
       }
 
@@ -149,10 +160,9 @@ module _ {w : List ℕ} {q : Question} {slots : List Seen} (holds : SlotsHold w 
           let z : n + 1 ≡ n + c = omega (arith, d .is ∙ ap (λ (b : Bool). cond b 0 1) e) in
           subst (λ (k : ℕ). Picking (recordsLeft w 5) q (set picks n pick) k (i + 1)) z (taken-in (eqb-false (hand .at) 0 e))
 
-pub pick-end : {w : List ℕ} {q : Question} {walked : Walked} → WalkIs w 5 q walked → Granted (q .granted) → {picks : List Pick} {n i : ℕ} → Picking (recordsLeft w 5) q picks n i → 99 ≤ i
-    → PicksAre w q (record { rows = picks; n = n; found = walked .found })
+pub pick-end : {w : List ℕ} {q : Question} → Granted (q .granted) → {picks : List Pick} {n i : ℕ} → Picking (recordsLeft w 5) q picks n i → 99 ≤ i → PickedAre w q picks n
 unfolding viewsFrom slotsChosen
-pick-end {w} {q} walk g {picks} {n} {i} p h =
+pick-end {w} {q} g {picks} {n} {i} p h =
     let e : i ≡ 99 = omega (arith, p .most) in
     let rest : viewsFrom (recordsLeft w 5) q i ≡ [] = ap (viewsFrom (recordsLeft w 5) q) e in
     record {
@@ -160,7 +170,6 @@ pick-end {w} {q} walk g {picks} {n} {i} p h =
       long = p .long;
       is = sym (append-nil (viewsIn picks n)) ∙ ap (λ (vs : List View). viewsIn picks n ++ vs) (sym rest) ∙ p .goes ∙ ap (map (viewOf (roundings (recordsLeft w 5)))) (slots-choose q g (rows (recordsLeft w 5)));
       sound = p .sound;
-      found = walk .found;
     }
 
 -- ---- for every question that the slots were filled for
@@ -173,6 +182,39 @@ pub so-far-turn : {b : List ℕ} {slots : List Seen} {picks : List Pick} {n i : 
 so-far-turn {b} {slots} {picks} {n} {i} w l t {pick} h d =
     record { few = omega (arith, w .few, d .most); long = length-set picks n pick ∙ w .long; each = λ q holds. pick-turn holds (w .each q holds) l t h d }
 
-pub so-far-end : {b : List ℕ} {q : List ℕ} {ask : Ask} {walked : Walked} → WalkIs b 5 (askIn q ask) walked → Asking q ask → {picks : List Pick} {n i : ℕ} → PicksSoFar b (walked .slots) picks n i → 99 ≤ i
-    → PicksAre b (askIn q ask) (record { rows = picks; n = n; found = walked .found })
-so-far-end {q = q} {ask} w a s h = pick-end w (asking-granted a) (s .each (askIn q ask) (w .slots)) h
+pub so-far-end : {b : List ℕ} {slots : List Seen} (w : Window) (found : Bool) {picks : List Pick} {n i : ℕ} → PicksSoFar b slots picks n i → 99 ≤ i
+    → PicksFrom b slots w found (record { rows = picks; n = n; found = found; window = w })
+so-far-end w found s h = record { each = λ q holds g. pick-end g (s .each q holds) h; told = refl; kept = refl }
+
+-- ---- the slots that a walk has filled
+
+module _ {b : List ℕ} {slots : List Seen} {w : Window} (filled : Filled b slots w) where
+  pub filled-roundings : RoundingsIn b w
+  filled-roundings = record { asked = filled .asked; window = filled .window }
+
+  pub filled-held : {i : ℕ} → i < 99 → {hand : Hand} → TakenIs (getD slots i unseen) hand → HandHeld b hand
+  filled-held l t = slot-held (filled .holds) l t
+
+-- ---- by a walk over the book, or over a window of it
+
+module _ {b : List ℕ} {q : Question} {walked : Walked} where
+  pub of-filled : WalkIs b 5 q walked → Filled b (walked .slots) (walked .window)
+  of-filled walk = record { asked = q; holds = walk .slots; window = walk .window }
+
+  pub within-filled : {w : Window} → Windows b 5 q w → WalkIs (take (w .last) b) (w .first) q walked → Filled b (walked .slots) w
+  within-filled window walk = record { asked = q; holds = walk-within window walk; window = window }
+
+module _ {b q : List ℕ} {ask : Ask} (a : Asking q ask) {walked : Walked} {r : Picks} where
+  pub of-picks : WalkIs b 5 (askIn q ask) walked → PicksFrom b (walked .slots) (walked .window) (walked .found) r → PicksAre b (askIn q ask) r
+  of-picks walk p = record {
+    picked = p .each (askIn q ask) (walk .slots) (asking-granted a);
+    found = p .told ∙ walk .found;
+    window = subst (Windows b 5 (askIn q ask)) (sym (p .kept)) (walk .window);
+  }
+
+  pub within-picks : {w : Window} {found : Bool} → Windows b 5 (askIn q ask) w → WalkIs (take (w .last) b) (w .first) (askIn q ask) walked → PicksFrom b (walked .slots) w found r
+      → PickedAre b (askIn q ask) (r .rows) (r .n)
+  within-picks window walk p = p .each (askIn q ask) (walk-within window walk) (asking-granted a)
+
+pub within-long : {b : List ℕ} {q : Question} {w : Window} → Windows b 5 q w → length (take (w .last) b) ≡ w .last
+within-long {b} {w = w} window = length-take-le (w .last) b (window .fits)

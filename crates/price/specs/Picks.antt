@@ -2,7 +2,7 @@
 use Prim.Native.Nat.{ℕ, _+_, _-_, _/_, _%_, _≤_}
 use mathlib.Core.Path.{_≡_}
 use mathlib.Core.List.{List, _++_, map}
-use mathlib.Core.Bool.{cond}
+use mathlib.Core.Bool.{Bool, cond}
 use lib.Dec.{eqb}
 use lib.ListN.{length}
 use Rattle.rules.specs.Lists.{gather, isSome}
@@ -12,14 +12,22 @@ use Rattle.rules.specs.Lines.{chosen}
 use Rattle.rules.proofs.ListLaws.{All}
 use Rattle.book.specs.Records.{recordsLeft}
 use Rattle.choice.specs.declared.hands.Hand.{Hand}
+use Rattle.choice.specs.declared.span.Window.{Window}
 use Rattle.choice.specs.Hands.{RowThere}
 use Rattle.choice.specs.Slots.{slotChosen, upFrom}
+use Rattle.choice.specs.Span.{Windows}
 use Rattle.choice.specs.Walk.{SlotsHold}
+use Rattle.choice.proofs.SlotLaws.{Granted}
 use Rattle.choice.specs.declared.hands.Seen.{Seen}
 use Rattle.price.specs.declared.picks.Picks.{Picks}
 use Rattle.lines.specs.declared.Pick.{Pick}
 use Rattle.lines.specs.Views.{View, viewOf, viewIn, viewsIn}
 use Rattle.lines.specs.Contracts.{Sound}
+
+-- the window is that of some question: the roundings in it are all of the book
+pub record RoundingsIn (b : List ℕ) (w : Window) : Type 0 where
+  pub asked : Question
+  pub window : Windows b 5 asked w
 
 -- a price row stands from `at` to `end`
 pub record Held (b : List ℕ) (at end : ℕ) : Type 0 where
@@ -63,10 +71,26 @@ pub record PicksSoFar (b : List ℕ) (slots : List Seen) (picks : List Pick) (n 
   pub long : length picks ≡ 99
   pub each : (q : Question) → SlotsHold b (rows (recordsLeft b 5)) q slots → Picking (recordsLeft b 5) q picks n i
 
+-- a walk has filled the slots for some question, and the window is of the same
+pub record Filled (b : List ℕ) (slots : List Seen) (w : Window) : Type 0 where
+  pub asked : Question
+  pub holds : SlotsHold b (rows (recordsLeft b 5)) asked slots
+  pub window : Windows b 5 asked w
+
 -- the first n rows are those that the definition chooses
+pub record PickedAre (b : List ℕ) (q : Question) (picks : List Pick) (n : ℕ) : Type 0 where
+  pub few : n ≤ 99
+  pub long : length picks ≡ 99
+  pub is : viewsIn picks n ≡ map (viewOf (roundings (recordsLeft b 5))) (chosen (rows (recordsLeft b 5)) q)
+  pub sound : All Sound (viewsIn picks n)
+
+-- `r` has the rows of the slots, and what was told beside them
+pub record PicksFrom (b : List ℕ) (slots : List Seen) (w : Window) (found : Bool) (r : Picks) : Type 0 where
+  pub each : (q : Question) → SlotsHold b (rows (recordsLeft b 5)) q slots → Granted (q .granted) → PickedAre b q (r .rows) (r .n)
+  pub told : r .found ≡ found
+  pub kept : r .window ≡ w
+
 pub record PicksAre (b : List ℕ) (q : Question) (r : Picks) : Type 0 where
-  pub few : r .n ≤ 99
-  pub long : length (r .rows) ≡ 99
-  pub is : viewsIn (r .rows) (r .n) ≡ map (viewOf (roundings (recordsLeft b 5))) (chosen (rows (recordsLeft b 5)) q)
-  pub sound : All Sound (viewsIn (r .rows) (r .n))
+  pub picked : PickedAre b q (r .rows) (r .n)
   pub found : r .found ≡ isSome (articleOf (recordsLeft b 5) (q .article))
+  pub window : Windows b 5 q (r .window)

@@ -1,6 +1,8 @@
 // The chosen rows of a price by value, slot after slot, with their roundings looked up.
 use choice::hands::Hand;
+use choice::hands::Seen;
 use choice::hands::taken;
+use choice::span::Window;
 use choice::walk;
 use lines::Pick;
 use question::Ask;
@@ -11,14 +13,17 @@ use rules::Value;
 use rules::Way;
 ghost use Rattle.book.specs.Ensures.{Between};
 ghost use Rattle.question.specs.Asked.{askIn};
+ghost use Rattle.choice.specs.Span.{Windows};
 ghost use Rattle.choice.specs.Walk.{Asking};
-ghost use Rattle.price.specs.Picks.{Held, HandHeld, RowPicked, HandPicked, Counted, PicksAre};
+ghost use Rattle.price.specs.Picks.{RoundingsIn, Held, HandHeld, RowPicked, HandPicked, Counted, Filled, PicksFrom, PickedAre, PicksAre};
 
-// The first n of the rows count. `found`: the book has a record of the article.
+// The first n of the rows count. `found`, once the whole book was walked: it has a record of the article. `window`: where its rows and the
+// roundings stand.
 pub struct Picks {
     pub rows: [Pick; 99],
     pub n: usize,
     pub found: bool,
+    pub window: Window,
 }
 
 const NONE: Pick = Pick {
@@ -38,13 +43,14 @@ const NONE: Pick = Pick {
 };
 
 // The row that stands from `at` to `end`.
-fn row_pick(b: &[u8], at: usize, end: usize, place: u8) -> Pick
-    requires { ⌜ Between (now b) 5 ⌝ }
+fn row_pick(b: &[u8], window: Window, at: usize, end: usize, place: u8) -> Pick
+    requires { ⌜ RoundingsIn (now b) window ⌝ }
     requires { ⌜ Held (now b) at end ⌝ }
     ensures { λ r. ⌜ RowPicked (now (b .entry)) at end place r ⌝ }
 {
     let row = records::row_of(&b[at..end]);
-    let rounding = lookup::rounding_for(b, 5, row.rounding);
+    let to = window.to;
+    let rounding = lookup::rounding_for(&b[..to], window.from, row.rounding);
     let value = row.value;
     let currency = row.currency;
     Pick {
@@ -59,8 +65,8 @@ fn row_pick(b: &[u8], at: usize, end: usize, place: u8) -> Pick
 }
 
 // A row in hand; with no row in hand a pick that does not count.
-fn hand_pick(b: &[u8], hand: Hand, place: u8) -> Pick
-    requires { ⌜ Between (now b) 5 ⌝ }
+fn hand_pick(b: &[u8], window: Window, hand: Hand, place: u8) -> Pick
+    requires { ⌜ RoundingsIn (now b) window ⌝ }
     requires { ⌜ HandHeld (now b) hand ⌝ }
     ensures { λ r. ⌜ HandPicked (now (b .entry)) hand place r ⌝ }
 {
@@ -69,7 +75,7 @@ fn hand_pick(b: &[u8], hand: Hand, place: u8) -> Pick
     if at == 0 {
         return NONE;
     }
-    row_pick(b, at, end, place)
+    row_pick(b, window, at, end, place)
 }
 
 fn counted(hand: Hand) -> usize
@@ -78,7 +84,29 @@ fn counted(hand: Hand) -> usize
     if hand.at == 0 { 0 } else { 1 }
 }
 
-// One walk over the book fills the slots; then slot after slot, those that hold a row count.
+// The filled slots, one after the other: those that hold a row count.
+pub fn picks_from(b: &[u8], slots: [Seen; 100], window: Window, found: bool) -> Picks
+    requires { ⌜ Filled (now b) slots window ⌝ }
+    ensures { λ r. ⌜ PicksFrom (now (b .entry)) slots window found r ⌝ }
+{
+    let mut rows = [NONE; 99];
+    let mut n = 0;
+    let mut i = 0;
+    while i < 99 {
+        let hand = taken(slots[i]);
+        rows[n] = hand_pick(b, window, hand, (i % 33) as u8);
+        n = n + counted(hand);
+        i += 1;
+    }
+    Picks {
+        rows,
+        n,
+        found,
+        window,
+    }
+}
+
+// By one walk over the whole book.
 pub fn picks_of(b: &[u8], q: &[u8], ask: Ask) -> Picks
     requires { ⌜ Between (now b) 5 ⌝ }
     requires { ⌜ Asking (now q) ask ⌝ }
@@ -86,18 +114,18 @@ pub fn picks_of(b: &[u8], q: &[u8], ask: Ask) -> Picks
 {
     let walked = walk(b, 5, q, ask);
     let slots = walked.slots;
-    let mut rows = [NONE; 99];
-    let mut n = 0;
-    let mut i = 0;
-    while i < 99 {
-        let hand = taken(slots[i]);
-        rows[n] = hand_pick(b, hand, (i % 33) as u8);
-        n = n + counted(hand);
-        i += 1;
-    }
-    Picks {
-        rows,
-        n,
-        found: walked.found,
-    }
+    let window = walked.window;
+    picks_from(b, slots, window, walked.found)
+}
+
+// By a walk over the window that an earlier one told. Whether the article has a record was told then, and is not looked for again.
+pub fn picks_within(b: &[u8], window: Window, q: &[u8], ask: Ask) -> Picks
+    requires { ⌜ Asking (now q) ask ⌝ }
+    requires { ⌜ Windows (now b) 5 (askIn (now q) ask) window ⌝ }
+    ensures { λ r. ⌜ PickedAre (now (b .entry)) (askIn (now (q .entry)) ask) (r .rows) (r .n) ⌝ }
+{
+    let last = window.last;
+    let walked = walk(&b[..last], window.first, q, ask);
+    let slots = walked.slots;
+    picks_from(b, slots, window, false)
 }

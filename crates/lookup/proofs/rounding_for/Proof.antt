@@ -2,11 +2,11 @@ use Prim.Native.Nat.{_-_}
 use lib.ListN.{length}
 use borrow.Author.Needs.{needs}
 use Rattle.lookup.specs.Ensures.{Looking}
-use Rattle.lookup.proofs.LookupLaws.{look-start, look-end, look-here, look-less, look-next, look-kind, look-found}
+use Rattle.lookup.proofs.LookupLaws.{look-zero, look-start, look-end, look-here, look-less, look-next, look-kind, look-found}
 use Rattle.lookup.proofs.rounding_for.Statement.{statement}
 use Rattle.lookup.proofs.rounding_for.Tie as tie
 
-ruleset laws = (needs, look-start, look-end, look-here, look-less, look-next, look-kind, look-found)
+ruleset laws = (needs, look-zero, look-start, look-end, look-here, look-less, look-next, look-kind, look-found)
 
 abbrev Inv-loop : tie.InvT-loop
 Inv-loop b from number at₀ at = Looking b from number at
@@ -20,6 +20,8 @@ rounding-for-spec =
     (tie.spec
     Inv-loop
     μ-loop
+    (λ c κs. search laws)  -- plain-rounding-requires
+    (λ c. search laws)  -- returns
     (λ c. search laws)  -- loop-holds
     (λ c κs. search laws)  -- record-stop-requires
     (λ c. search needs)  -- add-body

@@ -32,7 +32,7 @@ returns-3 c =
     no-article _ _ _ (book .book-ok .ensures) (asks .before .if1 .left) (picks .before .ask-of .ensures) (picks .picks-of .ensures) (c .before .if3 .taken) (c .refusal3 .ensures)
 
 judge-requires : tie.Need-judge-requires
-judge-requires c κs = can-judge (c .before .before .before .picks-of .ensures)
+judge-requires c κs = can-judge (c .before .before .before .picks-of .ensures .picked)
 
 returns-4 : tie.Need-returns-4
 returns-4 c =
@@ -56,13 +56,13 @@ unused-requires : tie.Need-unused-requires
 unused-requires c κs =
     let judged = c .before .before .before in
     let picks = judged .before .before .before .before in
-    (asking (picks .before .ask-of .ensures), picks .picks-of .ensures .few)
+    (asking (picks .before .ask-of .ensures), picks .picks-of .ensures .picked .few)
 
 write-lines-requires : tie.Need-write-lines-requires
 write-lines-requires c κs =
     let judged = c .before .before .before .before .before .before in
     let picks = judged .before .before .before .before in
-    can-write (picks .picks-of .ensures) (judged .judge .ensures) (search needs)
+    can-write (picks .picks-of .ensures .picked) (judged .judge .ensures) (search needs)
 
 answer-requires : tie.Need-answer-requires
 answer-requires c κs =

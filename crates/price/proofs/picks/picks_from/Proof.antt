@@ -1,0 +1,36 @@
+-- `price::picks::picks_from` meets its contract: the slots gone through and those that are left choose the rows, by the laws `so-far-..`.
+use Prim.Native.Nat.{_-_}
+use Rattle.price.specs.Picks.{PicksSoFar}
+use borrow.Author.Needs.{needs}
+use Rattle.price.proofs.PickLaws.{filled-roundings, filled-held, so-far-start, so-far-turn, so-far-end}
+use Rattle.price.proofs.picks.picks_from.Statement.{statement}
+use Rattle.price.proofs.picks.picks_from.Tie as tie
+
+ruleset laws = (needs, filled-roundings, filled-held, so-far-start, so-far-turn, so-far-end)
+
+abbrev Inv-loop : tie.InvT-loop
+Inv-loop b window found slots rows₀ n₀ i₀ rows n i = PicksSoFar b slots rows n i
+
+abbrev μ-loop : tie.MeasureT-loop
+μ-loop b window found slots rows₀ n₀ i₀ rows n i = 99 - i
+
+pub picks-from-spec : {M : Type 1} → statement M
+picks-from-spec =
+    tie.close
+    (tie.spec
+    Inv-loop
+    μ-loop
+    (λ c. search laws)  -- loop-holds
+    (λ c. search needs)  -- mul-taken
+    (λ c. search needs)  -- array-copy-out-taken
+    (λ c κs. search laws)  -- taken-requires
+    (λ c. search needs)  -- cast-hand-pick
+    (λ c κs. search laws)  -- hand-pick-requires
+    (λ c. search needs)  -- mul-rows
+    (λ c. search needs)  -- array-set-from-rows
+    (λ c κs. search laws)  -- counted-requires
+    (λ c. search needs)  -- add-n
+    (λ c. search needs)  -- add-i
+    (λ c. search needs)  -- loop-less
+    (λ c. search laws)  -- loop-again
+    (λ c. search laws))  -- returns

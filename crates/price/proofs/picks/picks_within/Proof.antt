@@ -1,0 +1,16 @@
+-- `price::picks::picks_within` meets its contract: a walk over the window fills the slots as one over the book, by the laws `within-..`.
+use borrow.Author.Needs.{needs}
+use Rattle.price.proofs.PickLaws.{within-long, within-filled, within-picks}
+use Rattle.price.proofs.picks.picks_within.Statement.{statement}
+use Rattle.price.proofs.picks.picks_within.Tie as tie
+
+ruleset laws = (needs, within-long, within-filled, within-picks)
+
+pub picks-within-spec : {M : Type 1} → statement M
+picks-within-spec =
+    tie.close
+    (tie.spec
+    (λ c. search laws)  -- slice-aggregate-walk
+    (λ c κs. search laws)  -- walk-requires
+    (λ c κs. search laws)  -- picks-from-requires
+    (λ c. search laws))  -- returns
