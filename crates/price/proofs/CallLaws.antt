@@ -99,7 +99,7 @@ module _ (b s lent : List ℕ) where
 -- ---- the rows that stand for the question
 
 module _ {b : List ℕ} {q : Question} {picks : List Pick} {n : ℕ} (picked : PickedAre b q picks n) where
-  stand : StandFor (recordsLeft b 5) q picks n
+  pub stand : StandFor (recordsLeft b 5) q picks n
   stand = record { is = picked .is }
 
   pub can-judge : Listable picks n

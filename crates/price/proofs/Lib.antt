@@ -3,3 +3,4 @@ pub mod UnusedSetLaws
 pub mod CallLaws
 pub mod ReadLaws
 pub mod Promises
+pub mod DayPriceLaws

@@ -2,3 +2,4 @@ pub mod Picks
 pub mod Unused
 pub mod Call
 pub mod Read
+pub mod Day

@@ -1,5 +1,6 @@
 // The itemised price of one article.
 pub mod answer;
 pub mod call;
+pub mod day;
 pub mod picks;
 pub mod unused;

@@ -1,0 +1,36 @@
+// The price of one day within a window of the book: what a calendar asks, day after day.
+use crate::picks::picks_within;
+use choice::span::Window;
+use lines::verdict::judge;
+use question::Ask;
+use rules::Currency;
+ghost use Rattle.rules.specs.Calendar.{outcome};
+ghost use Rattle.book.specs.Records.{recordsLeft};
+ghost use Rattle.question.specs.Asked.{askIn};
+ghost use Rattle.choice.specs.Span.{Windows};
+ghost use Rattle.choice.specs.Walk.{Asking};
+ghost use Rattle.price.specs.Day.{DayPriceIs};
+
+// The number of the refusal, with zeros; or 0, the currency, and what one piece costs in cents.
+pub struct DayPrice {
+    pub number: u8,
+    pub currency: Currency,
+    pub unit: i64,
+}
+
+// On the question's day.
+pub fn day_price(b: &[u8], w: Window, q: &[u8], ask: Ask) -> DayPrice
+    requires { ⌜ Asking (now q) ask ⌝ }
+    requires { ⌜ Windows (now b) 5 (askIn (now q) ask) w ⌝ }
+    ensures { λ r. ⌜ DayPriceIs (outcome (recordsLeft (now (b .entry)) 5) (askIn (now (q .entry)) ask) (ask .date)) r ⌝ }
+{
+    let picks = picks_within(b, w, q, ask);
+    let rows = picks.rows;
+    let v = judge(rows, picks.n);
+    let currency = v.currency;
+    DayPrice {
+        number: v.number,
+        currency,
+        unit: v.unit,
+    }
+}
