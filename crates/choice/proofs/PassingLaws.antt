@@ -191,7 +191,7 @@ same-row {x} e = ap asRow e
     asRow (some (SchemeRecord s)) = x
 
 -- the asked article's number, as the code takes it out of the question
-abbrev numberIn : List ℕ → Ask → List ℕ
+abbrev pub numberIn : List ℕ → Ask → List ℕ
 numberIn q ask = take (ask .article .at + ask .article .size - ask .article .at) (drop (ask .article .at) q)
 
 number-is : (q : List ℕ) (ask : Ask) → numberIn q ask ≡ askIn q ask .article
@@ -204,7 +204,7 @@ module _ (t q : List ℕ) (ask : Ask) {b : Bool} where
   article-says s = record { is = sym (ap (λ (n : List ℕ). Tests.articleOf n (whole kinded t)) (number-is q ask)) ∙ s .is }
 
   module _ (s : Says (Tests.rowOf (numberIn q ask) (whole kinded t)) b) where
-    says : Tests.rowOf (askIn q ask .article) (whole kinded t) ≡ b
+    pub says : Tests.rowOf (askIn q ask .article) (whole kinded t) ≡ b
     says = sym (ap (λ (n : List ℕ). Tests.rowOf n (whole kinded t)) (number-is q ask)) ∙ s .is
 
     pub row-kind : b ≡ true → Accepted t → OfKind 2 t

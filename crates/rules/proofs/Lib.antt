@@ -13,5 +13,7 @@ pub mod NoPriceLaws
 pub mod UnusedLaws
 pub mod RoundingLaws
 pub mod CalendarLaws
+pub mod StaysLaws
+pub mod WalkLaws
 pub mod CallLaws
 pub mod Promises

@@ -13,6 +13,7 @@ pub mod Lines
 pub mod Refusals
 pub mod Price
 pub mod Calendar
+pub mod Changes
 pub mod FinalNumber
 pub mod Packaging
 pub mod Text

@@ -1,0 +1,133 @@
+-- The call: what is listed, if it fits; else the refusals behind it, and nothing is written.
+use Prim.Native.Nat.{ℕ, _+_, _*_, _≤_, _<_}
+use native.Mathlib.Nat.{zero-add}
+use mathlib.Core.Path.{_≡_, refl, sym, _∙_, ap}
+use mathlib.Core.Bool.{Bool, true, false, cond}
+use mathlib.Core.List.{List, _++_}
+use mathlib.Core.Option.{Option, some, none}
+use native.Mathlib.Omega.{arith}
+use lib.Dec.{eqb, leb}
+use lib.ListN.{length, take, drop}
+use lib.Seq.{length-take-le}
+use borrow.Author.Tests.{eq-eqb, ne-eqb, eqb-false, le-leb, lt-leb, leb-true}
+use Rattle.rules.specs.Book.{Record, articleOf}
+use Rattle.rules.specs.BookLayout.{records}
+use Rattle.rules.specs.Question.{Question, questionOf}
+use Rattle.rules.specs.Refusals.{Result, done, refused, _>>=_, orRefuse, refuseUnless, lentAfter}
+use Rattle.rules.specs.Calendar.{Stretch, stretches, outcome, periodTo, mostDays, stretchesBytes, calendarIn, calendar, shownBytes}
+use Rattle.rules.specs.declared.Written.{Written}
+use Rattle.layout.specs.Ensures.{Puts}
+use Rattle.stretches.specs.declared.runs.Runs.{Runs}
+use Rattle.calendar.specs.declared.listing.Listing.{Listing}
+use Rattle.calendar.specs.Calls.{CalendarIs}
+use Rattle.calendar.specs.Listing.{within, listing, finished, stretchesIn, listed, ListingIs, refusalOf, RefusalIs, Writable}
+use Rattle.calendar.proofs.ByteLaws.{runs-count, bytes-length}
+
+-- ---- the definition's call in two parts
+
+or-then : {A B C : Type 0} (n : ℕ) (o : Option A) (f : A → Result B) (k : B → Result C) (g : A → Result C) → ((a : A) → (f a >>= k) ≡ g a) → ((orRefuse n o >>= f) >>= k) ≡ (orRefuse n o >>= g)
+or-then n none f k g h = refl
+or-then n (some a) f k g h = h a
+
+module _ {B : Type 0} (form : List Stretch → List B) (b s : List ℕ) (end room : ℕ) where
+  abbrev fitting : List Stretch → Result (List Stretch)
+  fitting ss = refuseUnless 10 (leb (length ss) 1200) >>= λ _. refuseUnless 7 (leb (length (form ss)) room) >>= λ _. done ss
+
+  pub two-parts : calendarIn form b s end room ≡ finished (λ ss. length (form ss)) room (listing b s end)
+  unfolding calendarIn finished listing within
+  two-parts =
+      sym
+      (or-then 1 (records b) (λ book. orRefuse 2 (questionOf s) >>= λ q. within book q end) fitting
+      (λ book. orRefuse 2 (questionOf s) >>= λ q. orRefuse 9 (periodTo (q .date) end) >>= λ days. orRefuse 3 (articleOf book (q .article)) >>= λ _. fitting (stretches (outcome book q) days))
+      (λ book.
+      or-then 2 (questionOf s) (λ q. within book q end) fitting
+      (λ q. orRefuse 9 (periodTo (q .date) end) >>= λ days. orRefuse 3 (articleOf book (q .article)) >>= λ _. fitting (stretches (outcome book q) days))
+      (λ q.
+      or-then 9 (periodTo (q .date) end) (λ days. orRefuse 3 (articleOf book (q .article)) >>= λ _. done (stretches (outcome book q) days)) fitting
+      (λ days. orRefuse 3 (articleOf book (q .article)) >>= λ _. fitting (stretches (outcome book q) days))
+      (λ days.
+      or-then 3 (articleOf book (q .article)) (λ _. done (stretches (outcome book q) days)) fitting (λ _. fitting (stretches (outcome book q) days)) (λ a. refl)))))
+
+-- ---- the second part
+
+module _ (listed stretches size room : ℕ) where
+  pub refused-listed : (listed ≡ 0 → ⊥) → RefusalIs listed stretches size room listed
+  unfolding refusalOf
+  refused-listed n = record { is = rw (ne-eqb listed 0 n) }
+
+  module _ (z : listed ≡ 0) where
+    pub refused-10 : 1200 < stretches → RefusalIs listed stretches size room 10
+    unfolding refusalOf
+    refused-10 l = record { is = rw (eq-eqb listed 0 z, lt-leb stretches 1200 l) }
+
+    pub refused-7 : stretches ≤ 1200 → room < size → RefusalIs listed stretches size room 7
+    unfolding refusalOf
+    refused-7 k l = record { is = rw (eq-eqb listed 0 z, le-leb stretches 1200 k, lt-leb size room l) }
+
+    pub not-refused : stretches ≤ 1200 → size ≤ room → RefusalIs listed stretches size room 0
+    unfolding refusalOf
+    not-refused k l = record { is = rw (eq-eqb listed 0 z, le-leb stretches 1200 k, le-leb size room l) }
+
+-- `r` refuses, or all is there and fits
+pub record Finished (size : List Stretch → ℕ) (room : ℕ) (o : Result (List Stretch)) (l : Listing) (r : ℕ) : Type 0 where
+  pub refuses : (r ≡ 0 → ⊥) → finished size room o ≡ refused r
+  pub answers : r ≡ 0 → finished size room o ≡ done (stretchesIn (l .runs))
+  pub fits : r ≡ 0 → size (stretchesIn (l .runs)) ≤ room
+
+module _ (size : List Stretch → ℕ) (room : ℕ) (ss : List Stretch) (n : ℕ) where
+  ended : (x y z : Bool) → leb (length ss) 1200 ≡ y → leb (size ss) room ≡ z
+      → finished size room (cond x (done ss) (refused n)) ≡ cond x (cond y (cond z (done ss) (refused 7)) (refused 10)) (refused n)
+  unfolding finished
+  ended false y z e f = refl
+  ended true false z e f = rw e
+  ended true true false e f = rw (e, f)
+  ended true true true e f = rw (e, f)
+
+pub finish : (size : List Stretch → ℕ) {room : ℕ} {o : Result (List Stretch)} {l : Listing} {r k : ℕ} → ListingIs o l → size (stretchesIn (l .runs)) ≡ k → RefusalIs (l .number) (l .runs .n) k room r → Finished size room o l r
+unfolding refusalOf
+finish size {room} {o} {l} {r} {k} w e f =
+    let count : length (stretchesIn (l .runs)) ≡ l .runs .n = runs-count (l .runs) (omega (arith, w .long, w .few)) in
+    go (eqb (l .number) 0) (leb (length (stretchesIn (l .runs))) 1200) (leb (size (stretchesIn (l .runs))) room) refl refl
+    (ap (finished size room) (w .is) ∙ ended size room (stretchesIn (l .runs)) (l .number) (eqb (l .number) 0) (leb (length (stretchesIn (l .runs))) 1200) (leb (size (stretchesIn (l .runs))) room) refl refl)
+    (rw (count, e) (f .is))
+  where
+    go : (x y z : Bool) → eqb (l .number) 0 ≡ x → leb (size (stretchesIn (l .runs))) room ≡ z
+        → finished size room o ≡ cond x (cond y (cond z (done (stretchesIn (l .runs))) (refused 7)) (refused 10)) (refused (l .number))
+        → r ≡ cond x (cond y (cond z 0 7) 10) (l .number) → Finished size room o l r
+    go false y z a b is num =
+        let n : l .number ≡ 0 → ⊥ = eqb-false (l .number) 0 a in
+        record { refuses = λ h. is ∙ ap refused (sym num); answers = λ h. absurd (n (sym num ∙ h)); fits = λ h. absurd (n (sym num ∙ h)) }
+    go true false z a b is num = record { refuses = λ h. is ∙ ap refused (sym num); answers = λ h. absurd (omega arith); fits = λ h. absurd (omega arith) }
+    go true true false a b is num = record { refuses = λ h. is ∙ ap refused (sym num); answers = λ h. absurd (omega arith); fits = λ h. absurd (omega arith) }
+    go true true true a b is num = record { refuses = λ h. absurd (h num); answers = λ h. is; fits = λ h. leb-true (size (stretchesIn (l .runs))) room b }
+
+-- ---- as bytes
+
+module _ (b s : List ℕ) (end : ℕ) (lent : List ℕ) {l : Listing} {r : ℕ} (w : ListingIs (listing b s end) l) (f : RefusalIs (l .number) (l .runs .n) (20 * l .runs .n) (length lent) r) where
+  size-is : length (stretchesBytes (stretchesIn (l .runs))) ≡ 20 * l .runs .n
+  size-is = bytes-length (take (l .runs .n) (l .runs .list)) ∙ ap (λ (k : ℕ). 20 * k) (length-take-le (l .runs .n) (l .runs .list) (omega (arith, w .long, w .few)))
+
+  ends : Finished (λ ss. length (stretchesBytes ss)) (length lent) (listing b s end) l r
+  ends = finish (λ ss. length (stretchesBytes ss)) w size-is f
+
+  abbrev called : Result (List Stretch)
+  called = calendar b s end (length lent)
+
+  pub calendar-refused : (r ≡ 0 → ⊥) → CalendarIs b s end lent (record { length = 0; number = r }) lent
+  unfolding shownBytes lentAfter
+  calendar-refused h =
+      let is : called ≡ refused r = two-parts stretchesBytes b s end (length lent) ∙ ends .refuses h in
+      record { answer = rw is; output = rw is }
+
+  pub calendar-writable : r ≡ 0 → Writable lent (l .runs)
+  calendar-writable h = record { long = w .long; few = w .few; room = omega (arith, ends .fits h, size-is) }
+
+  pub calendar-done : r ≡ 0 → {new : List ℕ} → Puts lent 0 (stretchesBytes (stretchesIn (l .runs))) new
+      → CalendarIs b s end lent (record { length = 20 * l .runs .n; number = 0 }) new
+  unfolding shownBytes lentAfter
+  calendar-done h {new} p =
+      let is : called ≡ done (stretchesIn (l .runs)) = two-parts stretchesBytes b s end (length lent) ∙ ends .answers h in
+      record {
+        answer = rw is (λ i. record { length = sym size-is i; number = 0 });
+        output = rw is (p .is ∙ ap (λ (k : ℕ). stretchesBytes (stretchesIn (l .runs)) ++ drop k lent) (zero-add (length (stretchesBytes (stretchesIn (l .runs))))));
+      }

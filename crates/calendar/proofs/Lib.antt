@@ -1,0 +1,3 @@
+pub mod ListingLaws
+pub mod ByteLaws
+pub mod CallLaws

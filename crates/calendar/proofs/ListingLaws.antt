@@ -1,0 +1,155 @@
+-- What is listed: the marks make only days of change due, and each refusal stands in its order.
+use Prim.Native.Nat.{ℕ, _+_, _≤_, _<_}
+use mathlib.Core.Path.{_≡_, refl, sym, _∙_, ap, subst}
+use mathlib.Core.Bool.{Bool, true, false, false≢true}
+use mathlib.Core.List.{List}
+use mathlib.Core.Option.{Option, some, none}
+use native.Mathlib.Omega.{arith}
+use lib.Dec.{eqb}
+use lib.ListN.{length, take, getD}
+use lib.Seq.{length-take-le}
+use borrow.Author.Tests.{ne-eqb}
+use Rattle.rules.specs.Lists.{any, keep, isSome}
+use Rattle.rules.specs.Days.{isDay, next}
+use Rattle.rules.specs.Book.{Row, Record, Article, articleOf, rows}
+use Rattle.rules.specs.BookLayout.{records}
+use Rattle.rules.specs.Question.{Question, questionOf}
+use Rattle.rules.specs.Refusals.{Result, done, refused, _>>=_, orRefuse}
+use Rattle.rules.specs.Calendar.{Stretch, stretches, outcome, periodTo, mostDays}
+use Rattle.rules.specs.Changes.{dated, movingRows, daysOfChange, changes, isChange}
+use Rattle.rules.proofs.StaysLaws.{stays-next}
+use Rattle.rules.proofs.CalendarLaws.{period-days, period-end, period-count}
+use Rattle.book.specs.Records.{recordsLeft, recordsFrom, recordsOf, listed as recordsIn}
+use Rattle.book.specs.Ensures.{Between}
+use Rattle.book.proofs.WalkLaws.{book-records, all-left, pass-start}
+use Rattle.question.specs.declared.Ask.{Ask}
+use Rattle.question.specs.Asked.{askIn, AskIs}
+use Rattle.choice.specs.declared.span.Window.{Window}
+use Rattle.choice.specs.Span.{ownRows, Windows}
+use Rattle.period.specs.declared.Period.{Period}
+use Rattle.period.specs.Contracts.{PeriodIs}
+use Rattle.period.specs.Places.{Dates}
+use Rattle.period.specs.Marks.{MarksAre}
+use Rattle.period.proofs.PlaceLaws.{period-dates}
+use Rattle.stretches.specs.declared.runs.Runs.{Runs}
+use Rattle.calendar.specs.declared.listing.Listing.{Listing}
+use Rattle.price.specs.declared.picks.Picks.{Picks}
+use Rattle.price.specs.Picks.{PicksAre}
+use Rattle.stretches.specs.Runs.{Marked, RunsAre}
+use Rattle.calendar.specs.Listing.{within, listing, stretchesIn, listed, ListingIs, Refused}
+
+-- ---- the marks
+
+-- the days of change are those of the rows of the article and sort
+change-own : (rs ss : List Record) (q : Question) (d : ℕ) → ownRows q rs ≡ ownRows q ss → isChange rs q d ≡ isChange ss q d
+unfolding isChange changes movingRows ownRows
+change-own rs ss q d e = ap (λ (l : List Row). any (eqb d) (daysOfChange (keep dated l))) e
+
+module _ {b : List ℕ} {q : Question} {w : Window} (h : Windows b 5 q w) where
+  pub window-size : w .last ≡ length (take (w .last) b)
+  window-size = sym (length-take-le (w .last) b (h .fits))
+
+  pub window-between : Between (take (w .last) b) (w .first)
+  window-between = h .between
+
+  pub marked : {dates : List ℕ} {marks : List Bool} → Dates dates → 0 < length dates → MarksAre (take (w .last) b) (w .first) q dates marks → Marked (outcome (recordsLeft b 5) q) dates marks
+  marked {dates} {marks} d l m = record {
+    some-day = l;
+    few = d .few;
+    stays = λ i k e.
+        let n : getD dates (i + 1) 0 ≡ next (getD dates i 0) = d .follow i k in
+        let quiet : isChange (recordsLeft b 5) q (next (getD dates i 0)) ≡ false =
+        ap (isChange (recordsLeft b 5) q) (sym n)
+        ∙ sym (change-own (recordsLeft (take (w .last) b) (w .first)) (recordsLeft b 5) q (getD dates (i + 1) 0) (h .same))
+        ∙ sym (m .is (i + 1) k)
+        ∙ e in
+        stays-next (recordsLeft b 5) q (getD dates i 0) (d .each-day i (omega arith)) (subst (λ (x : ℕ). isDay x ≡ true) n (d .each-day (i + 1) k)) quiet
+        ∙ ap (outcome (recordsLeft b 5) q) (sym n);
+  }
+
+-- ---- refusals
+
+pub refused-is : {number : ℕ} {r : Runs} → 0 < number → length (r .list) ≡ mostDays → r .n ≤ mostDays → Refused number (record { runs = r; number = number })
+refused-is {number} h l f = record { long = l; few = f; is = rw (ne-eqb number 0 (λ e. omega arith)) }
+
+-- ---- an accepted book and question
+
+-- 3 where the book has no such article
+article-3 : (o : Option Article) (ss : List Stretch) {b : Bool} → b ≡ isSome o → b ≡ false → (orRefuse 3 o >>= λ _. done ss) ≡ refused 3
+article-3 none ss e f = refl
+article-3 (some a) ss e f = absurd (false≢true (sym f ∙ e))
+
+article-there : (o : Option Article) (ss : List Stretch) {b : Bool} → b ≡ isSome o → b ≡ true → (orRefuse 3 o >>= λ _. done ss) ≡ done ss
+article-there none ss e f = absurd (false≢true (sym e ∙ f))
+article-there (some a) ss e f = refl
+
+module _ (b s : List ℕ) (ask : Ask) {end : ℕ} {p : Period} (h : PeriodIs (ask .date) end p) where
+  abbrev listed-within : Result (List Stretch)
+  listed-within = within (recordsLeft b 5) (askIn s ask) end
+
+  abbrev days : List ℕ
+  days = take (p .n) (p .dates)
+
+  pub within-9 : {r : Listing} → p .n ≡ 0 → Refused 9 r → ListingIs listed-within r
+  unfolding within
+  within-9 z r = record { long = r .long; few = r .few; is = rw (h .none-is z) (sym (r .is)) }
+
+  module _ (n : p .n ≡ 0 → ⊥) where
+    is-period : periodTo (ask .date) end ≡ some days
+    is-period = h .some-is (omega arith)
+
+    pub within-3 : {k : Picks} → PicksAre b (askIn s ask) k → k .found ≡ false → {r : Listing} → Refused 3 r → ListingIs listed-within r
+    unfolding within
+    within-3 k f w = record { long = w .long; few = w .few; is = rw is-period (article-3 (articleOf (recordsLeft b 5) (askIn s ask .article)) (stretches (outcome (recordsLeft b 5) (askIn s ask)) days) (k .found) f ∙ sym (w .is)) }
+
+    pub within-done : {k : Picks} → PicksAre b (askIn s ask) k → k .found ≡ true → {r : Runs} → RunsAre (stretches (outcome (recordsLeft b 5) (askIn s ask)) days) r
+        → ListingIs listed-within (record { runs = r; number = 0 })
+    unfolding within
+    within-done k f w = record { long = w .long; few = w .few; is = rw is-period (article-there (articleOf (recordsLeft b 5) (askIn s ask .article)) (stretches (outcome (recordsLeft b 5) (askIn s ask)) days) (k .found) f ∙ ap done (sym (w .is))) }
+
+module _ {start end : ℕ} {p : Period} (h : PeriodIs start end p) where
+  pub days-size : p .n ≡ length (take (p .n) (p .dates))
+  days-size = sym (length-take-le (p .n) (p .dates) (omega (arith, h .few, h .long)))
+
+  module _ (n : p .n ≡ 0 → ⊥) where
+    pub days-there : 0 < length (take (p .n) (p .dates))
+    days-there = omega (arith, days-size)
+
+    pub days-dates : isDay start ≡ true → Dates (take (p .n) (p .dates))
+    days-dates d =
+        let ds : List ℕ = take (p .n) (p .dates) in
+        let is : periodTo start end ≡ some ds = h .some-is (omega arith) in
+        period-dates d (period-end start end ds is) (period-days start end ds is) (period-count start end ds is)
+
+-- ---- any bytes
+
+pub is-question : (s : List ℕ) {y : Bool} → y ≡ isSome (questionOf s) → y ≡ true → isSome (questionOf s) ≡ true
+is-question s e f = sym e ∙ f
+
+module _ (b s : List ℕ) (end : ℕ) {x : Bool} (e : x ≡ isSome (records b)) where
+  pub listing-1 : x ≡ false → {r : Listing} → Refused 1 r → ListingIs (listing b s end) r
+  unfolding listing
+  listing-1 f w = record { long = w .long; few = w .few; is = go (records b) (sym e ∙ f) ∙ sym (w .is) }
+    where
+      go : (o : Option (List Record)) → isSome o ≡ false → (orRefuse 1 o >>= λ book. orRefuse 2 (questionOf s) >>= λ q. within book q end) ≡ refused 1
+      go none g = refl
+      go (some rs) g = absurd (false≢true (sym g))
+
+  module _ (f : x ≡ true) where
+    pub listing-start : Between b 5
+    listing-start = pass-start b (sym e ∙ f)
+
+    book-is : records b ≡ some (recordsLeft b 5)
+    book-is = book-records b (sym e ∙ f) ∙ ap (λ o. some (recordsIn o)) (sym (all-left b (sym e ∙ f)))
+
+    pub listing-2 : {y : Bool} → y ≡ isSome (questionOf s) → y ≡ false → {r : Listing} → Refused 2 r → ListingIs (listing b s end) r
+    unfolding listing
+    listing-2 g k w = record { long = w .long; few = w .few; is = rw book-is (go (questionOf s) (sym g ∙ k) ∙ sym (w .is)) }
+      where
+        go : (o : Option Question) → isSome o ≡ false → (orRefuse 2 o >>= λ q. within (recordsLeft b 5) q end) ≡ refused 2
+        go none g = refl
+        go (some q) g = absurd (false≢true (sym g))
+
+    pub listing-is : {ask : Ask} → AskIs s ask → {r : Listing} → ListingIs (within (recordsLeft b 5) (askIn s ask) end) r → ListingIs (listing b s end) r
+    unfolding listing
+    listing-is a w = record { long = w .long; few = w .few; is = rw (book-is, a .is) (w .is) }

@@ -1,0 +1,12 @@
+-- What the calendar calls hand out.
+use Prim.Native.Nat.{ℕ}
+use mathlib.Core.Path.{_≡_}
+use mathlib.Core.List.{List}
+use lib.ListN.{length}
+use Rattle.rules.specs.Calendar.{calendar, shownBytes, lentAfterCalendar}
+use Rattle.rules.specs.declared.Written.{Written}
+
+-- the calendar call on a book b, a question s, an end date and a lent output: what it returns and what is then in the output
+pub record CalendarIs (b s : List ℕ) (end : ℕ) (lent : List ℕ) (r : Written) (after : List ℕ) : Type 0 where
+  pub answer : r ≡ shownBytes (calendar b s end (length lent))
+  pub output : after ≡ lentAfterCalendar (calendar b s end (length lent)) lent

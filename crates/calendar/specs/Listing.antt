@@ -1,0 +1,73 @@
+-- The stretches that a call asks for, before it is known whether they fit into the lent output.
+use Prim.Native.Nat.{ℕ, _*_, _≤_}
+use mathlib.Core.Path.{_≡_}
+use mathlib.Core.Bool.{cond}
+use mathlib.Core.List.{List, map}
+use lib.Dec.{eqb, leb}
+use lib.ListN.{length, take}
+use Rattle.rules.specs.Book.{Record, articleOf}
+use Rattle.rules.specs.BookLayout.{records}
+use Rattle.rules.specs.Question.{Question, questionOf}
+use Rattle.rules.specs.Refusals.{Result, done, refused, _>>=_, orRefuse, refuseUnless}
+use Rattle.rules.specs.Calendar.{Stretch, stretches, outcome, periodTo, mostDays}
+use Rattle.stretches.specs.declared.runs.Runs.{Runs}
+use Rattle.calendar.specs.declared.listing.Listing.{Listing}
+use Rattle.stretches.specs.Runs.{asStretch}
+
+-- ---- what is listed
+
+-- of an accepted book and question: refusals 9 and 3
+unfoldable pub within : List Record → Question → ℕ → Result (List Stretch)
+within book q end = do
+  days ← orRefuse 9 (periodTo (q .date) end)
+  _ ← orRefuse 3 (articleOf book (q .article))
+  done (stretches (outcome book q) days)
+
+-- of any bytes: refusals 1 and 2 before them
+unfoldable pub listing : List ℕ → List ℕ → ℕ → Result (List Stretch)
+listing bookBytes questionBytes end = do
+  book ← orRefuse 1 (records bookBytes)
+  q ← orRefuse 2 (questionOf questionBytes)
+  within book q end
+
+-- and whether they fit: refusals 10 and 7 behind them
+unfoldable pub finished : (List Stretch → ℕ) → ℕ → Result (List Stretch) → Result (List Stretch)
+finished size room o = do
+  ss ← o
+  _ ← refuseUnless 10 (leb (length ss) 1200)
+  _ ← refuseUnless 7 (leb (size ss) room)
+  done ss
+
+-- ---- as the code has it
+
+abbrev pub stretchesIn : Runs → List Stretch
+stretchesIn r = map asStretch (take (r .n) (r .list))
+
+abbrev pub listed : Listing → Result (List Stretch)
+listed r = cond (eqb (r .number) 0) (done (stretchesIn (r .runs))) (refused (r .number))
+
+pub record ListingIs (o : Result (List Stretch)) (r : Listing) : Type 0 where
+  pub long : length (r .runs .list) ≡ mostDays
+  pub few : r .runs .n ≤ mostDays
+  pub is : o ≡ listed r
+
+-- `r` refuses with this number
+pub record Refused (number : ℕ) (r : Listing) : Type 0 where
+  pub long : length (r .runs .list) ≡ mostDays
+  pub few : r .runs .n ≤ mostDays
+  pub is : listed r ≡ refused number
+
+-- ---- whether they fit
+
+unfoldable pub refusalOf : ℕ → ℕ → ℕ → ℕ → ℕ
+refusalOf listed stretches size room = cond (eqb listed 0) (cond (leb stretches 1200) (cond (leb size room) 0 7) 10) listed
+
+-- `r` is the number of the refusal, or 0
+pub record RefusalIs (listed stretches size room r : ℕ) : Type 0 where
+  pub is : r ≡ refusalOf listed stretches size room
+
+-- there is room for these
+pub record Writable (out : List ℕ) (r : Runs) : Type 0 where
+  pub long : length (r .list) ≡ mostDays
+  pub few : r .n ≤ mostDays
+  pub room : 20 * r .n ≤ length out

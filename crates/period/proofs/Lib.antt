@@ -1,0 +1,3 @@
+pub mod PeriodLaws
+pub mod PlaceLaws
+pub mod MarkLaws

@@ -1,0 +1,159 @@
+-- The marks of a walk over the records are the days of change of the definition.
+use Prim.Native.Nat.{ℕ, _+_, _-_, _≤_, _<_}
+use mathlib.Core.Path.{_≡_, refl, sym, _∙_, ap, ap₂}
+use mathlib.Core.Bool.{Bool, true, false, _&&_, _||_, and-assoc}
+use mathlib.Core.List.{List, [], _∷_}
+use mathlib.Core.Option.{Option, some, none}
+use native.Mathlib.Omega.{arith}
+use lib.Dec.{eqb}
+use lib.ListN.{length, take, drop, getD, set, replicate, length-set, length-replicate, getD-replicate}
+use lib.Seq.{getD-set-same, getD-set-other}
+use borrow.Author.Tests.{eq-eqb, ne-eqb, eqb-true, eqb-false}
+use Rattle.rules.specs.Lists.{same, any, keep, consIf, consSome}
+use Rattle.rules.specs.Days.{isDay, next}
+use Rattle.rules.specs.Layout.{whole}
+use Rattle.rules.specs.Book.{Row, Record, ArticleRecord, PriceRecord, RoundingRecord, PackagingRecord, SchemeRecord, rows}
+use Rattle.rules.specs.BookLayout.{kinded}
+use Rattle.rules.specs.Question.{Question}
+use Rattle.rules.specs.Changes.{dated, movingRows, daysOfChange, changes, isChange}
+use Rattle.rules.specs.declared.PriceRow.{PriceRow}
+use Rattle.rules.proofs.TestLaws.{or-assoc, or-false, and-right}
+use Rattle.rules.proofs.DayLaws.{day-least}
+use Rattle.layout.specs.Reads.{part}
+use Rattle.layout.specs.Ensures.{Says}
+use Rattle.book.specs.Records.{recordsLeft}
+use Rattle.book.specs.Ensures.{Between, RecordHere, StopIs}
+use Rattle.book.proofs.WalkLaws.{pass-here, pass-less, pass-next, pass-record, pass-end}
+use Rattle.records.specs.Asks.{Accepted}
+use Rattle.records.specs.Tests as Tests
+use Rattle.records.specs.Ensures.{RowIs, rowIn}
+use Rattle.question.specs.declared.Ask.{Ask}
+use Rattle.question.specs.Asked.{askIn}
+use Rattle.choice.proofs.PassingLaws.{numberIn, says}
+use Rattle.period.specs.declared.marks.Change.{Change}
+use Rattle.period.specs.Places.{Dates, PlaceIn}
+use Rattle.period.specs.Marks.{changesOn, DatesChange, RecordChanges, MarksAre, Marking}
+
+-- ---- the days of change of a record
+
+module _ (article : List ℕ) (sort : ℕ) where
+  abbrev own : Row → Bool
+  own r = same (r .article) article && eqb (r .sort) sort
+
+  -- a row, and then others
+  row-changes : (r : Row) (rs : List Row) (d : ℕ)
+      → any (eqb d) (daysOfChange (movingRows article sort (r ∷ rs))) ≡ (((own r && dated r) && (eqb d (r .from) || eqb d (next (r .to)))) || any (eqb d) (daysOfChange (movingRows article sort rs)))
+  unfolding movingRows daysOfChange
+  row-changes r rs d = go (own r) (dated r) refl
+    where
+      go : (a b : Bool) → dated r ≡ b
+          → any (eqb d) (daysOfChange (keep dated (consIf a r (keep own rs)))) ≡ (((a && b) && (eqb d (r .from) || eqb d (next (r .to)))) || any (eqb d) (daysOfChange (keep dated (keep own rs))))
+      go false b e = refl
+      go true false e = rw e
+      go true true e = rw e (sym (or-assoc (eqb d (r .from)) (eqb d (next (r .to))) (any (eqb d) (daysOfChange (keep dated (keep own rs))))))
+
+-- on no day
+none-on : (d : ℕ) → isDay d ≡ true → changesOn (record { begins = 0; over = 0 }) d ≡ false
+none-on d e = let z : eqb d 0 ≡ false = ne-eqb d 0 (λ f. omega (arith, day-least d e)) in rw z
+
+module _ (counts : Bool) (from to : ℕ) {a b : Bool} (e : a ≡ isDay from) (f : b ≡ isDay to) where
+  pub over-day : ((counts && a) && b) ≡ true → isDay to ≡ true
+  over-day h = sym f ∙ and-right (counts && a) b h
+
+  counted : (counts && (isDay from && isDay to)) ≡ ((counts && a) && b)
+  counted = ap₂ (λ x y. counts && (x && y)) (sym e) (sym f) ∙ sym (and-assoc counts a b)
+
+  pub change-is : {n : ℕ} → ((counts && a) && b) ≡ true → n ≡ next to → DatesChange counts from to (record { begins = from; over = n })
+  change-is {n} h g = record { is = λ d k. rw (counted ∙ h, g) }
+
+  pub change-none : ((counts && a) && b) ≡ false → DatesChange counts from to (record { begins = 0; over = 0 })
+  change-none h = record { is = λ d k. rw (counted ∙ h) (none-on d k) }
+
+module _ (t q : List ℕ) (ask : Ask) {b : Bool} (s : Says (Tests.rowOf (numberIn q ask) (whole kinded t)) b) where
+  pub row-change : {row : PriceRow} {r : Change} → b ≡ true → RowIs t row → DatesChange (eqb (row .sort) (ask .sort)) (row .from) (row .to) r → RecordChanges (askIn q ask) (whole kinded t) r
+  unfolding Tests.startsWith isChange changes rowIn
+  row-change {row} {r} e i h =
+      let mine : same (rowIn t row .article) (askIn q ask .article) ≡ true = sym (ap (Tests.rowOf (askIn q ask .article)) (i .is)) ∙ (says t q ask s ∙ e) in
+      record {
+        is = λ rest d k.
+            ap (λ (o : Option Record). isChange (consSome o rest) (askIn q ask) d) (i .is)
+            ∙ row-changes (askIn q ask .article) (ask .sort) (rowIn t row) (rows rest) d
+            ∙ ap (λ (x : Bool). (((x && eqb (row .sort) (ask .sort)) && (isDay (row .from) && isDay (row .to))) && (eqb d (row .from) || eqb d (next (row .to)))) || isChange rest (askIn q ask) d) mine
+            ∙ ap (λ (x : Bool). x || isChange rest (askIn q ask) d) (sym (h .is d k));
+      }
+
+  pub no-change : b ≡ false → RecordChanges (askIn q ask) (whole kinded t) (record { begins = 0; over = 0 })
+  unfolding Tests.startsWith isChange changes
+  no-change e = record { is = λ rest d k. go rest d (whole kinded t) (says t q ask s ∙ e) ∙ ap (λ (x : Bool). x || isChange rest (askIn q ask) d) (sym (none-on d k)) }
+    where
+      go : (rest : List Record) (d : ℕ) (o : Option Record) → Tests.rowOf (askIn q ask .article) o ≡ false → isChange (consSome o rest) (askIn q ask) d ≡ isChange rest (askIn q ask) d
+      go rest d none f = refl
+      go rest d (some (ArticleRecord a)) f = refl
+      go rest d (some (PriceRecord r)) f = row-changes (askIn q ask .article) (ask .sort) r (rows rest) d ∙ rw f
+      go rest d (some (RoundingRecord r)) f = refl
+      go rest d (some (PackagingRecord p)) f = refl
+      go rest d (some (SchemeRecord x)) f = refl
+
+-- ---- marks
+
+mark-at : (marks : List Bool) (j i : ℕ) → j < length marks → getD (set marks j true) i false ≡ (eqb i j || getD marks i false)
+mark-at marks j i h = go (eqb i j) refl
+  where
+    go : (x : Bool) → eqb i j ≡ x → getD (set marks j true) i false ≡ (x || getD marks i false)
+    go true e = ap (λ (k : ℕ). getD (set marks j true) k false) (eqb-true i j e) ∙ getD-set-same marks j true false h
+    go false e = getD-set-other marks j i true false (eqb-false i j e)
+
+moved : (a b m r : Bool) → ((b || (a || m)) || r) ≡ (m || ((a || b) || r))
+moved true true true r = refl
+moved true true false r = refl
+moved true false true r = refl
+moved true false false r = refl
+moved false true true r = refl
+moved false true false r = refl
+moved false false true r = refl
+moved false false false r = refl
+
+module _ (w : List ℕ) (from : ℕ) (q : Question) (dates : List ℕ) where
+  pub mark-start : Between w from → Dates dates → Marking w from q dates (replicate 1097 false) from
+  mark-start b h = record {
+    between = b;
+    dates-are = h;
+    long = length-replicate 1097 false;
+    is = λ i l. ap (λ (x : Bool). x || isChange (recordsLeft w from) q (getD dates i 0)) (getD-replicate 1097 i false false (omega (arith, h .few)));
+  }
+
+  module _ {marks : List Bool} {at : ℕ} (inv : Marking w from q dates marks at) where
+    pub mark-here : at < length w → RecordHere w at
+    mark-here h = pass-here (inv .between) h
+
+    pub mark-dates : Dates dates
+    mark-dates = inv .dates-are
+
+    module _ (h : at < length w) {end : ℕ} (stop : StopIs w at end) where
+      pub mark-less : length w - end < length w - at
+      mark-less = pass-less (inv .between) h stop
+
+      pub mark-turn : {c : Change} {i j : ℕ} → RecordChanges q (whole kinded (take (end - (at + 2)) (drop (at + 2) w))) c → PlaceIn dates (c .begins) i → PlaceIn dates (c .over) j
+          → Marking w from q dates (set (set marks i true) j true) end
+      mark-turn {c} {i} {j} change first second = record {
+        between = pass-next (inv .between) h stop;
+        dates-are = inv .dates-are;
+        long = length-set (set marks i true) j true ∙ length-set marks i true ∙ inv .long;
+        is = λ k l.
+            let d : ℕ = getD dates k 0 in
+            let rest : Bool = isChange (recordsLeft w end) q d in
+            let marked : getD (set (set marks i true) j true) k false ≡ (eqb k j || (eqb k i || getD marks k false)) =
+            mark-at (set marks i true) j k (omega (arith, length-set marks i true, inv .long, second .most)) ∙ ap (λ (x : Bool). eqb k j || x) (mark-at marks i k (omega (arith, inv .long, first .most))) in
+            ap (λ (x : Bool). x || rest) marked
+            ∙ moved (eqb k i) (eqb k j) (getD marks k false) rest
+            ∙ ap₂ (λ (x y : Bool). getD marks k false || ((x || y) || rest)) (first .is k l) (second .is k l)
+            ∙ ap (λ (x : Bool). getD marks k false || x) (sym (ap (λ rs. isChange rs q d) (pass-record (inv .between) h stop) ∙ change .is (recordsLeft w end) d (inv .dates-are .each-day k l)))
+            ∙ inv .is k l;
+      }
+
+    pub mark-end : length w ≤ at → MarksAre w from q dates marks
+    unfolding isChange changes movingRows daysOfChange
+    mark-end h = record {
+      long = inv .long;
+      is = λ i l. sym (or-false (getD marks i false)) ∙ ap (λ rs. getD marks i false || isChange rs q (getD dates i 0)) (sym (pass-end (inv .between) h)) ∙ inv .is i l;
+    }

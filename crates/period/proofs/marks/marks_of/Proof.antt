@@ -1,0 +1,38 @@
+use Prim.Native.Nat.{_-_}
+use lib.ListN.{length}
+use borrow.Author.Needs.{needs}
+use Rattle.question.specs.Asked.{askIn}
+use Rattle.choice.proofs.WalkLaws.{accepted}
+use Rattle.period.specs.Marks.{Marking}
+use Rattle.period.proofs.MarkLaws.{mark-start, mark-here, mark-dates, mark-less, mark-turn, mark-end}
+use Rattle.period.proofs.marks.marks_of.Statement.{statement}
+use Rattle.period.proofs.marks.marks_of.Tie as tie
+
+ruleset laws = (needs, accepted, mark-start, mark-here, mark-dates, mark-less, mark-turn, mark-end)
+
+abbrev Inv-loop : tie.InvT-loop
+Inv-loop w from q ask dates marks₀ at₀ marks at = Marking w from (askIn q ask) dates marks at
+
+abbrev μ-loop : tie.MeasureT-loop
+μ-loop w from q ask dates marks₀ at₀ marks at = length w - at
+
+pub marks-of-spec : {M : Type 1} → statement M
+marks-of-spec =
+    tie.close
+    (tie.spec
+    Inv-loop
+    μ-loop
+    (λ c. search laws)  -- loop-holds
+    (λ c κs. search laws)  -- record-stop-requires
+    (λ c. search needs)  -- add-body
+    (λ c. search needs)  -- sub-change-of
+    (λ c. search needs)  -- part-change-of-start
+    (λ c. search needs)  -- part-change-of-end
+    (λ c κs. search laws)  -- change-of-requires
+    (λ c κs. search laws)  -- place-in-requires
+    (λ c. search needs)  -- array-write-marks
+    (λ c κs. search laws)  -- place-in-requires-2
+    (λ c. search needs)  -- array-write-marks-2
+    (λ c. search laws)  -- loop-less
+    (λ c. search laws)  -- loop-again
+    (λ c. search laws))  -- returns

@@ -1,0 +1,18 @@
+use borrow.Author.Needs.{needs}
+use Rattle.period.proofs.PlaceLaws.{narrow-up, narrow-down}
+use Rattle.period.proofs.places.narrowed.Statement.{statement}
+use Rattle.period.proofs.places.narrowed.Tie as tie
+
+ruleset laws = (needs, narrow-up, narrow-down)
+
+pub narrowed-spec : {M : Type 1} → statement M
+narrowed-spec =
+    tie.close
+    (tie.spec
+    (λ c. search needs)  -- sub-middle
+    (λ c. search needs)  -- add-middle
+    (λ c. search needs)  -- mul-if1
+    (λ c. search needs)  -- shared-slice-read-if1
+    (λ c. search needs)  -- add-t12
+    (λ c. search laws)  -- returns
+    (λ c. search laws))  -- returns-2

@@ -1,0 +1,30 @@
+use Prim.Native.Nat.{_-_}
+use borrow.Author.Needs.{needs}
+use Rattle.period.specs.Places.{Narrowing}
+use Rattle.period.proofs.PlaceLaws.{narrow-start, place-found, place-between, place-behind}
+use Rattle.period.proofs.places.place_in.Statement.{statement}
+use Rattle.period.proofs.places.place_in.Tie as tie
+
+ruleset laws = (needs, narrow-start, place-found, place-between, place-behind)
+
+abbrev Inv-loop : tie.InvT-loop
+Inv-loop dates d bounds₀ bounds = Narrowing dates d bounds
+
+abbrev μ-loop : tie.MeasureT-loop
+μ-loop dates d bounds₀ bounds = bounds .high - bounds .low
+
+pub place-in-spec : {M : Type 1} → statement M
+place-in-spec =
+    tie.close
+    (tie.spec
+    Inv-loop
+    μ-loop
+    (λ c. search laws)  -- loop-holds
+    (λ c κs. search laws)  -- narrowed-requires
+    (λ c. search needs)  -- loop-less
+    (λ c. search laws)  -- loop-again
+    (λ c. search needs)  -- mul-if3
+    (λ c. search needs)  -- shared-slice-read-if3
+    (λ c. search laws)  -- returns
+    (λ c. search laws)  -- returns-2
+    (λ c. search laws))  -- returns-3

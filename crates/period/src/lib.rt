@@ -1,0 +1,42 @@
+// The days of a period, one behind the other, and those of them on which the price of an article can change.
+pub mod marks;
+mod places;
+
+use days::Day;
+ghost use mathlib.Core.Path.{_≡_};
+ghost use mathlib.Core.Bool.{true};
+ghost use Rattle.rules.specs.Days.{isDay};
+ghost use Rattle.period.specs.Contracts.{PeriodIs};
+
+// The first n of the dates count. With none of them there is no such period.
+pub struct Period {
+    pub dates: [u32; 1096],
+    pub n: usize,
+}
+
+// The days from `start` to `end`, both among them, if they are at most 1,096.
+pub fn period_to(start: u32, end: u32) -> Period
+    requires { ⌜ isDay start ≡ true ⌝ }
+    ensures { λ r. ⌜ PeriodIs start end r ⌝ }
+{
+    let mut dates = [0u32; 1096];
+    if Day::is_day(end) {
+        if end < start {
+            return Period { dates, n: 0 };
+        }
+        let mut d = start;
+        let mut n = 0;
+        while d != end {
+            if n == 1095 {
+                return Period { dates, n: 0 };
+            }
+            dates[n] = d;
+            d = Day(d).next().0;
+            n += 1;
+        }
+        dates[n] = d;
+        Period { dates, n: n + 1 }
+    } else {
+        Period { dates, n: 0 }
+    }
+}

@@ -1,0 +1,48 @@
+// The place of a day among the days of a period, by halving.
+ghost use Prim.Native.Nat.{_<_};
+ghost use Rattle.period.specs.Places.{Dates, Narrowing, Narrowed, PlaceIn};
+
+// The day stands from `low` on and before `high`, if it is there.
+pub struct Bounds {
+    pub low: usize,
+    pub high: usize,
+}
+
+// The day in the middle tells which half is out.
+fn narrowed(dates: &[u32], bounds: Bounds, d: u32) -> Bounds
+    requires { ⌜ Narrowing (now dates) d bounds ⌝ }
+    requires { ⌜ bounds .low < bounds .high ⌝ }
+    ensures { λ r. ⌜ Narrowed (now (dates .entry)) d bounds r ⌝ }
+{
+    let low = bounds.low;
+    let high = bounds.high;
+    let middle = low + (high - low) / 2;
+    if dates[middle] < d {
+        return Bounds {
+            low: middle + 1,
+            high,
+        };
+    }
+    Bounds { low, high: middle }
+}
+
+// The place of the day d, or 1,096 if it is none of these.
+pub fn place_in(dates: &[u32], d: u32) -> usize
+    requires { ⌜ Dates (now dates) ⌝ }
+    ensures { λ r. ⌜ PlaceIn (now (dates .entry)) d r ⌝ }
+{
+    let mut bounds = Bounds {
+        low: 0,
+        high: dates.len(),
+    };
+    while bounds.low < bounds.high {
+        bounds = narrowed(dates, bounds, d);
+    }
+    let place = bounds.low;
+    if place < dates.len() {
+        if dates[place] == d {
+            return place;
+        }
+    }
+    1096
+}

@@ -1,0 +1,109 @@
+-- A day more: the stretch in hand, by the definition's walk.
+use Prim.Native.Nat.{ℕ, suc, _-_, _≤_, _<_}
+use mathlib.Core.Path.{_≡_, refl, sym, _∙_, ap, subst}
+use mathlib.Core.Bool.{Bool, true, false, _&&_}
+use mathlib.Core.List.{List}
+use native.Mathlib.Omega.{arith}
+use lib.Dec.{eqb}
+use lib.IntN.{ℤ, pos, negsuc}
+use mir.Syntax.{w64}
+use mir.Val.{toZ, ofZ, SFits}
+use mir.ValLaws.{toZ-ofZ}
+use borrow.Author.Tests.{eq-eqb, ne-eqb, eqb-true, eqb-false}
+use Rattle.rules.specs.Calendar.{Outcome, sameInt, sameOutcome, outcome}
+use Rattle.rules.specs.Question.{Question, on}
+use Rattle.rules.proofs.TestLaws.{and-true}
+use Rattle.rules.proofs.CalendarLaws.{eq-of, same-outcome}
+use Rattle.rules.proofs.WalkLaws as Walk
+use Rattle.layout.specs.Ensures.{Says}
+use Rattle.book.specs.Records.{recordsLeft}
+use Rattle.question.specs.declared.Ask.{Ask}
+use Rattle.question.specs.Asked.{askIn}
+use Rattle.choice.specs.declared.span.Window.{Window}
+use Rattle.choice.specs.Walk.{Asking, askOn}
+use Rattle.choice.specs.Span.{Windows}
+use Rattle.choice.proofs.SpanLaws.{window-on}
+use Rattle.choice.proofs.ChosenLaws.{asking-on, ask-on}
+use Rattle.stretches.specs.declared.turns.Run.{Run}
+use Rattle.price.specs.declared.day.DayPrice.{DayPrice}
+use Rattle.price.specs.Day.{DayPriceIs}
+use Rattle.stretches.specs.Runs.{asStretch, AskedOn, Opened, Longer, Steady, Turned}
+
+-- ---- outcomes compared
+
+bits-apart : (n m : ℕ) → SFits w64 (pos n) → SFits w64 (negsuc m) → n ≡ 18446744073709551616 - suc m → ⊥
+bits-apart n m f g e = omega (arith, f .sfits, g .sfits)
+
+-- signed numbers are the same if their bits are
+int-bits : (z w : ℤ) → SFits w64 z → SFits w64 w → sameInt z w ≡ eqb (ofZ w64 z) (ofZ w64 w)
+int-bits (pos a) (pos b) f g = refl
+int-bits (pos a) (negsuc b) f g = sym (ne-eqb a (18446744073709551616 - suc b) (bits-apart a b f g))
+int-bits (negsuc a) (pos b) f g = sym (ne-eqb (18446744073709551616 - suc a) b (λ e. bits-apart b a g f (sym e)))
+int-bits (negsuc a) (negsuc b) f g = go (eqb a b) refl
+  where
+    go : (x : Bool) → eqb a b ≡ x → x ≡ eqb (18446744073709551616 - suc a) (18446744073709551616 - suc b)
+    go true e = sym (eq-eqb (18446744073709551616 - suc a) (18446744073709551616 - suc b) (ap (λ (n : ℕ). 18446744073709551616 - suc n) (eqb-true a b e)))
+    go false e = sym (ne-eqb (18446744073709551616 - suc a) (18446744073709551616 - suc b) (λ h. eqb-false a b e (omega (arith, f .sfits, g .sfits))))
+
+pub outcome-same : (a b : Run) → SFits w64 (a .unit) → SFits w64 (b .unit)
+    → Says (sameOutcome (asStretch a .outcome) (asStretch b .outcome))
+    (eqb (a .refusal) (b .refusal) && ((eqb (a .currency .0) (b .currency .0) && (eqb (a .currency .1) (b .currency .1) && eqb (a .currency .2) (b .currency .2))) && eqb (ofZ w64 (a .unit)) (ofZ w64 (b .unit))))
+unfolding sameOutcome
+outcome-same a b f g = record {
+  is = λ i.
+      eqb (a .refusal) (b .refusal)
+      && ((eqb (a .currency .0) (b .currency .0) && (eqb (a .currency .1) (b .currency .1) && and-true (eqb (a .currency .2) (b .currency .2)) i))
+      && int-bits (a .unit) (b .unit) f g i);
+}
+
+-- ---- a stretch that begins, or grows
+
+pub asked-on : (ask : Ask) (d : ℕ) → AskedOn ask d (askOn ask d)
+asked-on ask d = record { is = refl }
+
+module _ (b q : List ℕ) {ask : Ask} {d : ℕ} {then : Ask} (a : AskedOn ask d then) where
+  asked-is : askIn q then ≡ on (askIn q ask) d
+  asked-is = ap (askIn q) (a .is) ∙ ask-on q ask d
+
+  pub asking-then : Asking q ask → Asking q then
+  asking-then h = subst (Asking q) (sym (a .is)) (asking-on h d)
+
+  pub window-then : {w : Window} → Windows b 5 (askIn q ask) w → Windows b 5 (askIn q then) w
+  window-then {w} h = subst (λ (x : Question). Windows b 5 x w) (sym asked-is) (window-on h d)
+
+  same-day : outcome (recordsLeft b 5) (askIn q then) (then .date) ≡ outcome (recordsLeft b 5) (askIn q ask) d
+  unfolding outcome on
+  same-day = λ i. outcome (recordsLeft b 5) (asked-is i) (a .is i .date)
+
+  pub opened-is : {p : DayPrice} → DayPriceIs (outcome (recordsLeft b 5) (askIn q then) (then .date)) p → SFits w64 (p .unit)
+      → Opened (outcome (recordsLeft b 5) (askIn q ask)) d (record { first = d; last = d; refusal = p .number; currency = p .currency; unit = toZ w64 (ofZ w64 (p .unit)) })
+  opened-is {p} h f = record {
+    is =
+        (λ i. record { first = d; last = d; outcome = record { refusal = h .number i; currency = h .currency i; unit = (toZ-ofZ w64 (p .unit) f ∙ h .unit) i } })
+        ∙ ap (Walk.opened d) same-day;
+  }
+
+pub longer-is : (run : Run) (d : ℕ) → SFits w64 (run .unit) → Longer run d (record { first = run .first; last = d; refusal = run .refusal; currency = run .currency; unit = toZ w64 (ofZ w64 (run .unit)) })
+longer-is run d f = record { is = λ i. record { first = run .first; last = d; outcome = record { refusal = run .refusal; currency = asStretch run .outcome .currency; unit = toZ-ofZ w64 (run .unit) f i } } }
+
+-- ---- the turn
+
+module _ {f : ℕ → Outcome} {run : Run} {d : ℕ} where
+  grown : {r : Run} → Longer run d r → asStretch run .outcome ≡ f d → Turned f run d (record { run = r; fresh = 0 })
+  unfolding Walk.turned
+  grown l e =
+      let s : sameOutcome (asStretch run .outcome) (f d) ≡ true = same-outcome (asStretch run .outcome) (f d) e in
+      record { most = omega arith; fresh = rw s; is = rw s (l .is ∙ (λ i. record { first = run .first; last = d; outcome = e i })) }
+
+  pub turned-quiet : {due : Bool} {r : Run} → Steady f run d due → due ≡ false → Longer run d r → Turned f run d (record { run = r; fresh = 0 })
+  turned-quiet s e l = grown l (s .stays e)
+
+  module _ {new : Run} {b : Bool} (o : Opened f d new) (t : Says (sameOutcome (asStretch run .outcome) (asStretch new .outcome)) b) where
+    pub turned-same : {r : Run} → b ≡ true → Longer run d r → Turned f run d (record { run = r; fresh = 0 })
+    turned-same e l = grown l (eq-of (asStretch run .outcome) (asStretch new .outcome) (t .is ∙ e) ∙ ap (λ s. s .outcome) (o .is))
+
+    pub turned-new : b ≡ false → Turned f run d (record { run = new; fresh = 1 })
+    unfolding Walk.turned
+    turned-new e =
+        let s : sameOutcome (asStretch run .outcome) (f d) ≡ false = ap (λ (x : Outcome). sameOutcome (asStretch run .outcome) x) (sym (ap (λ s. s .outcome) (o .is))) ∙ (t .is ∙ e) in
+        record { most = omega arith; fresh = rw s; is = rw s (o .is) }

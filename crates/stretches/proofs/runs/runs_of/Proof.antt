@@ -1,0 +1,43 @@
+use Prim.Native.Nat.{_-_}
+use lib.ListN.{length}
+use borrow.Author.Needs.{needs}
+use Rattle.rules.specs.Calendar.{outcome}
+use Rattle.book.specs.Records.{recordsLeft}
+use Rattle.question.specs.Asked.{askIn}
+use Rattle.stretches.specs.Runs.{Going}
+use Rattle.stretches.proofs.RunLaws.{go-start, go-steady, go-turn, go-end}
+use Rattle.stretches.proofs.runs.runs_of.Statement.{statement}
+use Rattle.stretches.proofs.runs.runs_of.Tie as tie
+
+ruleset laws = (needs, go-start, go-steady, go-turn, go-end)
+
+abbrev Inv-loop : tie.InvT-loop
+Inv-loop b w q ask dates marks list₀ n₀ i₀ list n i = Going (outcome (recordsLeft b 5) (askIn q ask)) dates marks list n i
+
+abbrev μ-loop : tie.MeasureT-loop
+μ-loop b w q ask dates marks list₀ n₀ i₀ list n i = length dates - i
+
+pub runs-of-spec : {M : Type 1} → statement M
+runs-of-spec =
+    tie.close
+    (tie.spec
+    Inv-loop
+    μ-loop
+    (λ c. search needs)  -- shared-slice-read-opened
+    (λ c κs. search laws)  -- opened-requires
+    (λ c. search needs)  -- array-set-from-list
+    (λ c. search laws)  -- loop-holds
+    (λ c. search needs)  -- mul-turn
+    (λ c. search needs)  -- array-copy-out-turn
+    (λ c. search needs)  -- mul-turn-2
+    (λ c. search needs)  -- shared-slice-read-turn
+    (λ c. search needs)  -- array-read-turn
+    (λ c κs. (search needs, (search needs, go-steady (c .before .before .before .loop .inv) (c .before .before .loop-test .taken))))  -- turn-requires
+    (λ c. search needs)  -- add-n
+    (λ c. search needs)  -- mul-list
+    (λ c. search needs)  -- array-set-from-list-2
+    (λ c. search needs)  -- add-i
+    (λ c. search needs)  -- loop-less
+    (λ c. search laws)  -- loop-again
+    (λ c. search needs)  -- add-t32
+    (λ c. search laws))  -- returns

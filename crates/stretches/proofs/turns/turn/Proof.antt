@@ -1,0 +1,18 @@
+use borrow.Author.Needs.{needs}
+use Rattle.stretches.proofs.TurnLaws.{turned-quiet, turned-same, turned-new}
+use Rattle.stretches.proofs.turns.turn.Statement.{statement}
+use Rattle.stretches.proofs.turns.turn.Tie as tie
+
+ruleset laws = (needs, turned-quiet, turned-same, turned-new)
+
+pub turn-spec : {M : Type 1} → statement M
+turn-spec =
+    tie.close
+    (tie.spec
+    (λ c κs. search laws)  -- opened-requires
+    (λ c κs. search laws)  -- same-outcome-requires
+    (λ c κs. search laws)  -- longer-requires
+    (λ c. search laws)  -- returns
+    (λ c. search laws)  -- returns-2
+    (λ c κs. search laws)  -- longer-requires-2
+    (λ c. search laws))  -- returns-3

@@ -1,0 +1,70 @@
+-- The stretches as the code keeps them, and how far the days have gone by.
+use Prim.Native.Nat.{ℕ, _+_, _-_, _≤_, _<_}
+use mathlib.Core.Path.{_≡_}
+use mathlib.Core.Bool.{Bool, false, cond}
+use mathlib.Core.List.{List, _++_, map}
+use lib.IntN.{pos}
+use lib.ListN.{length, take, drop, getD}
+use Rattle.rules.specs.Calendar as Calendar
+use Rattle.rules.specs.Calendar.{Outcome, Stretch, sameOutcome, stretches, mostDays}
+use Rattle.rules.proofs.WalkLaws as Walk
+use Rattle.question.specs.declared.Ask.{Ask}
+use Rattle.question.specs.Asked.{lettersOf}
+use Rattle.choice.specs.Walk.{askOn}
+use Rattle.stretches.specs.declared.turns.Run.{Run}
+use Rattle.stretches.specs.declared.turns.Turning.{Turning}
+use Rattle.stretches.specs.declared.runs.Runs.{Runs}
+
+-- the definition's stretch
+abbrev pub asStretch : Run → Stretch
+asStretch r = record { first = r .first; last = r .last; outcome = record { refusal = r .refusal; currency = lettersOf (r .currency); unit = r .unit } }
+
+abbrev pub noRun : Run
+noRun = record { first = 0; last = 0; refusal = 0; currency = record { 0 = 0; 1 = 0; 2 = 0 }; unit = pos 0 }
+
+-- ---- a day more
+
+-- `r` is the same question on the day d
+pub record AskedOn (ask : Ask) (d : ℕ) (r : Ask) : Type 0 where
+  pub is : r ≡ askOn ask d
+
+-- `r` is the stretch of the day d alone
+pub record Opened (f : ℕ → Outcome) (d : ℕ) (r : Run) : Type 0 where
+  pub is : asStretch r ≡ Walk.opened d (f d)
+
+-- `r` is the stretch grown to the day d
+pub record Longer (run : Run) (d : ℕ) (r : Run) : Type 0 where
+  pub is : asStretch r ≡ record { first = run .first; last = d; outcome = asStretch run .outcome }
+
+-- a day that is not due has the outcome in hand
+pub record Steady (f : ℕ → Outcome) (run : Run) (d : ℕ) (due : Bool) : Type 0 where
+  pub stays : due ≡ false → asStretch run .outcome ≡ f d
+
+pub record Turned (f : ℕ → Outcome) (run : Run) (d : ℕ) (r : Turning) : Type 0 where
+  pub most : r .fresh ≤ 1
+  pub fresh : r .fresh ≡ cond (sameOutcome (asStretch run .outcome) (f d)) 0 1
+  pub is : asStretch (r .run) ≡ Walk.turned (asStretch run) d (f d)
+
+-- ---- all days
+
+-- there is a day, and of the others each that is not marked has the outcome of the day before it
+pub record Marked (f : ℕ → Outcome) (dates : List ℕ) (marks : List Bool) : Type 0 where
+  pub some-day : 0 < length dates
+  pub few : length dates ≤ mostDays
+  pub stays : (i : ℕ) → i + 1 < length dates → getD marks (i + 1) false ≡ false → f (getD dates i 0) ≡ f (getD dates (i + 1) 0)
+
+-- `r` has these stretches
+pub record RunsAre (ss : List Stretch) (r : Runs) : Type 0 where
+  pub long : length (r .list) ≡ mostDays
+  pub few : r .n ≤ mostDays
+  pub is : map asStretch (take (r .n) (r .list)) ≡ ss
+
+-- the days before i have gone by: the stretches before n are closed, that at n is in hand, and the days from i on are still to come
+pub record Going (f : ℕ → Outcome) (dates : List ℕ) (marks : List Bool) (list : List Run) (n i : ℕ) : Type 0 where
+  pub marked : Marked f dates marks
+  pub low : 1 ≤ i
+  pub place : n < i
+  pub most : i ≤ length dates
+  pub long : length list ≡ mostDays
+  pub hand : asStretch (getD list n noRun) .outcome ≡ f (getD dates (i - 1) 0)
+  pub goes : map asStretch (take n list) ++ Walk.walked f (asStretch (getD list n noRun)) (drop i dates) ≡ stretches f dates
