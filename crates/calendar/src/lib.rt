@@ -1,6 +1,6 @@
 // The price calendar: the longest stretches of days with one outcome.
 mod bytes;
-mod listing;
+pub mod listing;
 
 use crate::bytes::write_runs;
 use crate::listing::listing_of;

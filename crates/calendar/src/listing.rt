@@ -31,7 +31,7 @@ pub struct Listing {
     pub number: u8,
 }
 
-fn refused(number: u8) -> Listing
+pub fn refused(number: u8) -> Listing
     requires { ⌜ 0 < number ⌝ }
     ensures { λ r. ⌜ Refused number r ⌝ }
 {

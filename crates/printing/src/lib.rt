@@ -1,4 +1,5 @@
-// What the calendar program prints: numbers in plain decimal, and a stretch on a line of its own.
+// What the calendar program prints for the bytes that it reads.
 mod decimal;
 pub mod input;
 pub mod lines;
+pub mod output;

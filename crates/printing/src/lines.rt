@@ -10,7 +10,7 @@ ghost use Rattle.rules.specs.Letters.{text};
 ghost use Rattle.rules.specs.Program.{decimal, currencyText, stretchText};
 ghost use Rattle.printing.specs.Contracts.{lettersOf, stretchOf, Prints};
 
-fn put_byte(out: &mut [u8], at: usize, b: u8) -> usize
+pub fn put_byte(out: &mut [u8], at: usize, b: u8) -> usize
     requires { ⌜ at < length (now out) ⌝ }
     ensures { λ r. ⌜ Prints (now (out .entry)) at (b ∷ []) (now (out .exit)) r ⌝ }
 {

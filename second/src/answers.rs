@@ -1,0 +1,82 @@
+//! What the calls hand back. Field order and layout are those of the C structs.
+
+#[repr(C)]
+#[derive(Debug, Default, PartialEq, Eq, Clone, Copy)]
+pub struct PriceAnswer {
+    pub unit: i64,
+    pub total: i64,
+    pub lines: u64,
+    pub unused: u32,
+    pub unused_count: u8,
+    pub number: u8,
+    pub currency: [u8; 3],
+}
+
+#[repr(C)]
+#[derive(Debug, Default, PartialEq, Eq, Clone, Copy)]
+pub struct Written {
+    pub length: u64,
+    pub number: u8,
+}
+
+#[repr(C)]
+#[derive(Debug, Default, PartialEq, Eq, Clone, Copy)]
+pub struct Stretch {
+    pub first: u32,
+    pub last: u32,
+    pub unit: i64,
+    pub refusal: u8,
+    pub currency: [u8; 3],
+}
+
+#[repr(C)]
+#[derive(Debug, Default, PartialEq, Eq, Clone, Copy)]
+pub struct PackagingAnswer {
+    pub gross: i64,
+    pub values: [i64; 8],
+    pub number: u8,
+    pub present: u8,
+    pub units: [u8; 9],
+}
+
+#[repr(C)]
+#[derive(Debug, Default, PartialEq, Eq, Clone, Copy)]
+pub struct TextAnswer {
+    pub place: u64,
+    pub length: u64,
+    pub number: u8,
+    pub book: u8,
+}
+
+impl PriceAnswer {
+    pub fn refused(number: u8) -> Self {
+        PriceAnswer {
+            number,
+            ..Self::default()
+        }
+    }
+}
+
+impl Written {
+    pub fn refused(number: u8) -> Self {
+        Written { length: 0, number }
+    }
+}
+
+impl PackagingAnswer {
+    pub fn refused(number: u8) -> Self {
+        PackagingAnswer {
+            number,
+            ..Self::default()
+        }
+    }
+}
+
+impl TextAnswer {
+    pub fn refused(number: u8) -> Self {
+        TextAnswer {
+            number,
+            ..Self::default()
+        }
+    }
+}

@@ -1,0 +1,96 @@
+//! The price of every day of a period, gathered into stretches of equal days.
+
+use crate::answers::{Stretch, Written};
+use crate::book::Book;
+use crate::days::period;
+use crate::price::price_on;
+use crate::question::Question;
+use crate::refusal::{
+    BAD_BOOK, BAD_PERIOD, BAD_QUESTION, DONE, NO_ARTICLE, TOO_LITTLE_ROOM, TOO_MANY_STRETCHES,
+};
+
+pub const STRETCH_LENGTH: usize = 20;
+
+const MOST_STRETCHES: usize = 1_200;
+
+pub fn calendar(book: &[u8], question: &[u8], end: u32, out: &mut [u8]) -> Written {
+    match stretches(book, question, end) {
+        Ok(stretches) => {
+            let bytes: Vec<u8> = stretches.iter().flat_map(Stretch::bytes).collect();
+            write(&bytes, out)
+        }
+        Err(number) => Written::refused(number),
+    }
+}
+
+pub fn calendar_list(book: &[u8], question: &[u8], end: u32, out: &mut [Stretch]) -> Written {
+    match stretches(book, question, end) {
+        Ok(stretches) => write(&stretches, out),
+        Err(number) => Written::refused(number),
+    }
+}
+
+/// Copies all of `parts` to the front of `out`, or nothing if the room is too little.
+pub fn write<T: Copy>(parts: &[T], out: &mut [T]) -> Written {
+    if out.len() < parts.len() {
+        return Written::refused(TOO_LITTLE_ROOM);
+    }
+    out[..parts.len()].copy_from_slice(parts);
+    Written {
+        length: parts.len() as u64,
+        number: DONE,
+    }
+}
+
+impl Stretch {
+    pub fn bytes(&self) -> Vec<u8> {
+        let mut bytes = Vec::with_capacity(STRETCH_LENGTH);
+        bytes.extend(self.first.to_be_bytes());
+        bytes.extend(self.last.to_be_bytes());
+        bytes.push(self.refusal);
+        bytes.extend(self.currency);
+        bytes.extend(self.unit.to_be_bytes());
+        bytes
+    }
+}
+
+/// All stretches of the period that starts on the question's date, or the refusal.
+pub fn stretches(book: &[u8], question: &[u8], end: u32) -> Result<Vec<Stretch>, u8> {
+    let book = Book::read(book).ok_or(BAD_BOOK)?;
+    let question = Question::read(question).ok_or(BAD_QUESTION)?;
+    let days = period(question.date, end).ok_or(BAD_PERIOD)?;
+    book.article(&question.article).ok_or(NO_ARTICLE)?;
+
+    let mut stretches: Vec<Stretch> = Vec::new();
+    for day in days {
+        let alone = stretch_of_day(&book, &question, day);
+        match stretches.last_mut() {
+            Some(last) if same_price(last, &alone) => last.last = day,
+            _ => stretches.push(alone),
+        }
+    }
+    // More stretches than days cannot be, and a period has fewer days than this; the test only
+    // keeps its place in the order of the refusals.
+    if stretches.len() > MOST_STRETCHES {
+        return Err(TOO_MANY_STRETCHES);
+    }
+    Ok(stretches)
+}
+
+fn stretch_of_day(book: &Book, question: &Question, day: u32) -> Stretch {
+    let (refusal, currency, unit) = match price_on(book, question, day) {
+        Ok(priced) => (DONE, priced.currency, priced.unit),
+        Err(number) => (number, [0; 3], 0),
+    };
+    Stretch {
+        first: day,
+        last: day,
+        unit,
+        refusal,
+        currency,
+    }
+}
+
+fn same_price(one: &Stretch, other: &Stretch) -> bool {
+    (one.refusal, one.currency, one.unit) == (other.refusal, other.currency, other.unit)
+}

@@ -1,0 +1,195 @@
+//! The calls as something that has several implementations.
+
+use crate::answers::{PackagingAnswer, PriceAnswer, Stretch, TextAnswer, Written};
+
+pub trait Calls {
+    fn price(&self, book: &[u8], question: &[u8], out: &mut [u8]) -> PriceAnswer;
+    fn calendar(&self, book: &[u8], question: &[u8], end: u32, out: &mut [u8]) -> Written;
+    fn calendar_list(&self, book: &[u8], question: &[u8], end: u32, out: &mut [Stretch])
+        -> Written;
+    fn final_number(&self, book: &[u8], question: &[u8], out: &mut [u8]) -> Written;
+    fn packaging(&self, book: &[u8], question: &[u8]) -> PackagingAnswer;
+    fn text(&self, asked: &[u8], fallback: &[u8], number: u32) -> TextAnswer;
+}
+
+/// This library.
+pub struct Second;
+
+impl Calls for Second {
+    fn price(&self, book: &[u8], question: &[u8], out: &mut [u8]) -> PriceAnswer {
+        crate::price(book, question, out)
+    }
+
+    fn calendar(&self, book: &[u8], question: &[u8], end: u32, out: &mut [u8]) -> Written {
+        crate::calendar(book, question, end, out)
+    }
+
+    fn calendar_list(
+        &self,
+        book: &[u8],
+        question: &[u8],
+        end: u32,
+        out: &mut [Stretch],
+    ) -> Written {
+        crate::calendar_list(book, question, end, out)
+    }
+
+    fn final_number(&self, book: &[u8], question: &[u8], out: &mut [u8]) -> Written {
+        crate::final_number(book, question, out)
+    }
+
+    fn packaging(&self, book: &[u8], question: &[u8]) -> PackagingAnswer {
+        crate::packaging(book, question)
+    }
+
+    fn text(&self, asked: &[u8], fallback: &[u8], number: u32) -> TextAnswer {
+        crate::text(asked, fallback, number)
+    }
+}
+
+/// The linked archive.
+#[cfg(feature = "archive")]
+pub struct Archive;
+
+#[cfg(feature = "archive")]
+mod linked {
+    use super::{PackagingAnswer, PriceAnswer, Stretch, TextAnswer, Written};
+
+    extern "C" {
+        pub fn rafttwine_price(
+            book: *const u8,
+            book_len: usize,
+            question: *const u8,
+            question_len: usize,
+            lines: *mut u8,
+            lines_len: usize,
+        ) -> PriceAnswer;
+        pub fn rafttwine_calendar(
+            book: *const u8,
+            book_len: usize,
+            question: *const u8,
+            question_len: usize,
+            end: u32,
+            out: *mut u8,
+            out_len: usize,
+        ) -> Written;
+        pub fn rafttwine_calendar_list(
+            book: *const u8,
+            book_len: usize,
+            question: *const u8,
+            question_len: usize,
+            end: u32,
+            out: *mut Stretch,
+            out_count: usize,
+        ) -> Written;
+        pub fn rafttwine_final_number(
+            book: *const u8,
+            book_len: usize,
+            question: *const u8,
+            question_len: usize,
+            out: *mut u8,
+            out_len: usize,
+        ) -> Written;
+        pub fn rafttwine_packaging(
+            book: *const u8,
+            book_len: usize,
+            question: *const u8,
+            question_len: usize,
+        ) -> PackagingAnswer;
+        pub fn rafttwine_text(
+            asked: *const u8,
+            asked_len: usize,
+            fallback: *const u8,
+            fallback_len: usize,
+            number: u32,
+        ) -> TextAnswer;
+    }
+}
+
+// Safety of all calls below: pointer and length come from a slice that is borrowed for the whole
+// call, and the answers are plain numbers for which every bit pattern is good.
+#[cfg(feature = "archive")]
+impl Calls for Archive {
+    fn price(&self, book: &[u8], question: &[u8], out: &mut [u8]) -> PriceAnswer {
+        unsafe {
+            linked::rafttwine_price(
+                book.as_ptr(),
+                book.len(),
+                question.as_ptr(),
+                question.len(),
+                out.as_mut_ptr(),
+                out.len(),
+            )
+        }
+    }
+
+    fn calendar(&self, book: &[u8], question: &[u8], end: u32, out: &mut [u8]) -> Written {
+        unsafe {
+            linked::rafttwine_calendar(
+                book.as_ptr(),
+                book.len(),
+                question.as_ptr(),
+                question.len(),
+                end,
+                out.as_mut_ptr(),
+                out.len(),
+            )
+        }
+    }
+
+    fn calendar_list(
+        &self,
+        book: &[u8],
+        question: &[u8],
+        end: u32,
+        out: &mut [Stretch],
+    ) -> Written {
+        unsafe {
+            linked::rafttwine_calendar_list(
+                book.as_ptr(),
+                book.len(),
+                question.as_ptr(),
+                question.len(),
+                end,
+                out.as_mut_ptr(),
+                out.len(),
+            )
+        }
+    }
+
+    fn final_number(&self, book: &[u8], question: &[u8], out: &mut [u8]) -> Written {
+        unsafe {
+            linked::rafttwine_final_number(
+                book.as_ptr(),
+                book.len(),
+                question.as_ptr(),
+                question.len(),
+                out.as_mut_ptr(),
+                out.len(),
+            )
+        }
+    }
+
+    fn packaging(&self, book: &[u8], question: &[u8]) -> PackagingAnswer {
+        unsafe {
+            linked::rafttwine_packaging(
+                book.as_ptr(),
+                book.len(),
+                question.as_ptr(),
+                question.len(),
+            )
+        }
+    }
+
+    fn text(&self, asked: &[u8], fallback: &[u8], number: u32) -> TextAnswer {
+        unsafe {
+            linked::rafttwine_text(
+                asked.as_ptr(),
+                asked.len(),
+                fallback.as_ptr(),
+                fallback.len(),
+                number,
+            )
+        }
+    }
+}

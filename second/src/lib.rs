@@ -1,0 +1,35 @@
+//! A second, independent reading of the price rules.
+//!
+//! Nothing here is fast or clever. A book is read into plain vectors, and every rule is then
+//! worked out on those vectors step by step, day by day. The library exists to be compared with
+//! another one, so the only thing that counts is that each rule can be recognised in the code.
+
+pub mod answers;
+pub mod book;
+pub mod calendar;
+pub mod calls;
+pub mod cases;
+pub mod compare;
+pub mod days;
+pub mod fraction;
+pub mod make;
+pub mod number;
+pub mod packaging;
+pub mod price;
+pub mod program;
+pub mod question;
+pub mod random;
+pub mod reader;
+pub mod refusal;
+pub mod shrink;
+pub mod texts;
+
+pub use answers::{PackagingAnswer, PriceAnswer, Stretch, TextAnswer, Written};
+pub use book::book_ok;
+pub use calendar::{calendar, calendar_list};
+pub use number::final_number;
+pub use packaging::packaging;
+pub use price::price;
+pub use program::program;
+pub use question::question_ok;
+pub use texts::{text, text_book_ok};

@@ -1,0 +1,67 @@
+//! Makes a case smaller as long as something stays true of it.
+
+use std::time::{Duration, Instant};
+
+use crate::cases::Case;
+
+/// Very big cases take long to try; what is reached after this time is small enough.
+const LONGEST: Duration = Duration::from_secs(10);
+
+/// Leaves out records, names, properties, texts and damages while `still` holds.
+pub fn shrunk(case: &Case, still: &dyn Fn(&Case) -> bool) -> Case {
+    let started = Instant::now();
+    let late = || started.elapsed() >= LONGEST;
+    let mut best = case.clone();
+    loop {
+        let mut smaller = false;
+        smaller |= drop_parts(&mut best, |case| &mut case.damages, still, &late);
+        smaller |= drop_parts(&mut best, |case| &mut case.book, still, &late);
+        smaller |= drop_parts(&mut best, |case| &mut case.question.granted, still, &late);
+        smaller |= drop_parts(
+            &mut best,
+            |case| &mut case.question.properties,
+            still,
+            &late,
+        );
+        smaller |= drop_parts(&mut best, |case| &mut case.asked, still, &late);
+        smaller |= drop_parts(&mut best, |case| &mut case.fallback, still, &late);
+        if best.end != best.question.date {
+            let mut one_day = best.clone();
+            one_day.end = one_day.question.date;
+            if still(&one_day) {
+                best = one_day;
+                smaller = true;
+            }
+        }
+        if !smaller || late() {
+            return best;
+        }
+    }
+}
+
+/// Tries to leave out pieces of one list, great pieces first.
+fn drop_parts<T>(
+    best: &mut Case,
+    list: impl Fn(&mut Case) -> &mut Vec<T>,
+    still: &dyn Fn(&Case) -> bool,
+    late: &dyn Fn() -> bool,
+) -> bool {
+    let before = list(best).len();
+    let mut piece = before;
+    while piece > 0 {
+        let mut start = 0;
+        while start < list(best).len() && !late() {
+            let mut candidate = best.clone();
+            let parts = list(&mut candidate);
+            let end = (start + piece).min(parts.len());
+            parts.drain(start..end);
+            if still(&candidate) {
+                *best = candidate;
+            } else {
+                start += piece;
+            }
+        }
+        piece /= 2;
+    }
+    list(best).len() < before
+}
