@@ -175,3 +175,7 @@ unfolding output
 output-is input {l} i {old} {new} {n} p =
     let e : n ≡ length (listedText l) = p .end ∙ omega arith in
     record { is = ap (take n) (puts-front (p .puts)) ∙ take-at (listedText l) _ n (sym e) ∙ ap printed (sym (i .is)); within = omega (arith, p .end, p .puts .room, p .puts .long) }
+
+-- so many bytes there are to write
+pub printed-size : {input : List ℕ} {r : Printed} → OutputIs input r → r .n ≡ length (take (r .n) (r .bytes))
+printed-size {input} {r} o = sym (length-take-le (r .n) (r .bytes) (o .within))
