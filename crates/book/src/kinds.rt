@@ -88,7 +88,7 @@ pub fn rounding_ok(s: &[u8], at: usize) -> bool
 }
 
 // The character that a scheme gives, or else the default.
-fn given_or(default: u8, c: u8) -> u8
+pub fn given_or(default: u8, c: u8) -> u8
     ensures { λ r. ⌜ Number (given default c) 256 r ⌝ }
 {
     if c == 0 { default } else { c }

@@ -1,7 +1,8 @@
-// Which bytes are a price book, and where each record of an accepted one ends.
+// Which bytes are a price book, where each record of an accepted one ends, and which character a scheme that gives none has.
 mod book;
 mod kinds;
 mod packaging;
 
 pub use book::book_ok;
 pub use book::record_stop;
+pub use kinds::given_or;

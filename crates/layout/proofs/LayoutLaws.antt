@@ -118,6 +118,10 @@ module _ (s : List ℕ) (at : ℕ) where
   pub one-of-at : (bs : List ℕ) → at < length s → Reads (oneOf bs) s at (any (eqb (getD s at 0)) bs) (getD s at 0) (at + 1)
   one-of-at bs h = such-reads byte (λ b. any (eqb b) bs) (byte-at s at h)
 
+-- so many bytes from a place on, by where they end
+pub part-is : (s : List ℕ) (at n : ℕ) → take (at + n - at) (drop at s) ≡ take n (drop at s)
+part-is s at n = let e : at + n - at ≡ n = omega arith in rw e
+
 -- ---- what is cut off
 
 module _ (s : List ℕ) (at : ℕ) where

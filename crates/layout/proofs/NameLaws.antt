@@ -7,11 +7,10 @@ use mathlib.Core.Option.{Option, none}
 use mathlib.Core.Logic.{_⊎_, inl, inr}
 use native.Mathlib.Omega.{arith}
 use native.Mathlib.Numerals.{add-one}
-use native.Mathlib.Nat.{add-zero}
 use native.Mathlib.Decide.{decLt}
 use lib.Dec.{eqb, leb}
-use lib.ListN.{length, take, drop, getD, set, drop-of-length-le, length-set, length-map, List·getD-eq-default}
-use lib.Seq.{sets, drop-cons}
+use lib.ListN.{length, take, drop, getD, set, drop-of-length-le, length-map, List·getD-eq-default, List·getD-map}
+use lib.Seq.{drop-cons}
 use borrow.Author.Tests.{leb-true, lt-ltb, le-ltb}
 use Rattle.rules.specs.Lists.{all, between, isSome, same}
 use Rattle.rules.specs.Layout.{Layout, _>>=_, _such_, bytes, byte, whole, wholly}
@@ -19,7 +18,7 @@ use Rattle.rules.specs.Bytes.{name, nameByte, raise}
 use Rattle.layout.specs.Reads.{Reads, part}
 use Rattle.layout.specs.Ensures.{Says, Accepts, Number, NameEnd, Puts}
 use Rattle.layout.proofs.LayoutLaws.{then-reads, then-rest, such-reads, then-when, then-broken, byte-at, bytes-at, byte-cut, bytes-cut}
-use Rattle.layout.proofs.StoreLaws.{puts-of}
+use Rattle.layout.proofs.StoreLaws.{Storing, store-again, store-end}
 
 -- ---- the scan: the flag and what is left are the whole answer
 module _ (s : List ℕ) where
@@ -163,20 +162,9 @@ module _ (b : ℕ) where
   pub not-raised : b < 256 → (leb 97 b && leb b 122) ≡ false → Number (raise b) 256 b
   not-raised h t = record { is = rw t; below = h }
 
--- the bytes so far are stored, and those that are left make up the whole
-pub record Raising (old : List ℕ) (at : ℕ) (name out : List ℕ) (i : ℕ) : Type 0 where
-  pub rest : sets out (at + i) (map raise (drop i name)) ≡ sets old at (map raise name)
-  pub long : length out ≡ length old
+module _ (old : List ℕ) (at : ℕ) (name out : List ℕ) (i : ℕ) (inv : Storing old at (map raise name) out i) where
+  pub raise-again : {r : ℕ} → i < length name → Number (raise (getD name i 0)) 256 r → Storing old at (map raise name) (set out (at + i) r) (i + 1)
+  raise-again h p = rw (p .is, ← List·getD-map raise name i 0) (store-again old at (map raise name) out i inv (rw length-map h))
 
-module _ (old : List ℕ) (at : ℕ) (name : List ℕ) where
-  pub raise-start : Raising old at name old 0
-  raise-start = record { rest = rw add-zero; long = refl }
-
-  module _ (out : List ℕ) (i : ℕ) (inv : Raising old at name out i) where
-    pub raise-again : {r : ℕ} → i < length name → Number (raise (getD name i 0)) 256 r → Raising old at name (set out (at + i) r) (i + 1)
-    raise-again {r} h p =
-        let e : at + (i + 1) ≡ suc (at + i) = omega arith in
-        record { rest = rw (p .is, e, add-one) (sym (ap (λ l. sets out (at + i) (map raise l)) (drop-cons name i 0 h)) ∙ inv .rest); long = length-set out (at + i) r ∙ inv .long }
-
-    pub raise-end : at + length name ≤ length old → length name ≤ i → Puts old at (map raise name) out
-    raise-end g h = puts-of (rw length-map g) (sym (ap (λ l. sets out (at + i) (map raise l)) (drop-of-length-le name h)) ∙ inv .rest)
+  pub raise-end : at + length name ≤ length old → length name ≤ i → Puts old at (map raise name) out
+  raise-end g h = store-end old at (map raise name) out i inv (rw length-map g) (rw length-map h)

@@ -1,4 +1,4 @@
--- Bytes written at a place: one field behind the other, a number by its halves, and what was written is read back.
+-- Bytes written at a place: one by one, one field behind the other, a number by its halves, and what was written is read back.
 use Prim.Native.Nat.{ℕ, zero, suc, _+_, _*_, _-_, _/_, _%_, _^_, _≤_, _<_}
 use mathlib.Core.Path.{_≡_, refl, sym, _∙_, ap, ap₂, subst}
 use mathlib.Core.List.{List, [], _∷_, _++_, append-assoc}
@@ -7,8 +7,8 @@ use native.Mathlib.Numerals.{add-one}
 use native.Mathlib.Nat.{add-zero, zero-add, zero-mul, add-suc, suc-add, add-comm, one-le-pow, pow-succ', two-pow-succ, mod-lt, mod-mod, mod-eq-of-lt, div-div-eq-div-mul}
 use lib.Arith.{mod-mul, digits-div, digits-mod}
 use lib.Pow.{pow-add}
-use lib.ListN.{length, take, drop, set, length-append}
-use lib.Seq.{sets, sets-eq, length-sets, take-at, drop-at, length-take-le}
+use lib.ListN.{length, take, drop, getD, set, replicate, length-append, length-set, length-replicate, getD-replicate, drop-of-length-le}
+use lib.Seq.{sets, sets-eq, length-sets, take-at, drop-at, drop-cons, length-take-le}
 use lib.IntN.{ℤ, pos, negsuc, natAbs, _-ℤ_}
 use lib.Signed.{mag, _≤ℤ_, _<ℤ_}
 use lib.Dec.{ltb}
@@ -18,7 +18,7 @@ use Rattle.integers.proofs.Signed.{lt-in}
 use Rattle.integers.proofs.FloorLaws.{flip-neg}
 use Rattle.rules.specs.Refusals.{over}
 use Rattle.rules.specs.Bytes.{bigFrom, big, bytesOf, twos, signedOf, signedBytesOf}
-use Rattle.layout.specs.Ensures.{Number, FitsSigned, Puts, twosIn}
+use Rattle.layout.specs.Ensures.{Number, FitsSigned, Puts, PutsTo, twosIn}
 use Rattle.layout.proofs.NumberLaws.{digit}
 
 -- ---- stores, one after the other
@@ -48,6 +48,44 @@ module _ {old : List ℕ} {at : ℕ} {bs new : List ℕ} (p : Puts old at bs new
 -- bytes put at the very front go over what was there
 pub puts-front : {old bs new : List ℕ} → Puts old 0 bs new → new ≡ over bs old
 puts-front {old} {bs} p = p .is ∙ ap (λ (k : ℕ). bs ++ drop k old) (zero-add (length bs))
+
+-- ---- byte by byte
+
+-- the bytes so far are stored, and those that are left make up the whole
+pub record Storing (old : List ℕ) (at : ℕ) (bytes out : List ℕ) (i : ℕ) : Type 0 where
+  pub rest : sets out (at + i) (drop i bytes) ≡ sets old at bytes
+  pub long : length out ≡ length old
+
+module _ (old : List ℕ) (at : ℕ) (bytes : List ℕ) where
+  pub store-start : Storing old at bytes old 0
+  store-start = record { rest = rw add-zero; long = refl }
+
+  module _ (out : List ℕ) (i : ℕ) (inv : Storing old at bytes out i) where
+    pub store-again : i < length bytes → Storing old at bytes (set out (at + i) (getD bytes i 0)) (i + 1)
+    store-again h =
+        let e : at + (i + 1) ≡ suc (at + i) = omega arith in
+        record { rest = rw (e, add-one) (sym (ap (sets out (at + i)) (drop-cons bytes i 0 h)) ∙ inv .rest); long = length-set out (at + i) (getD bytes i 0) ∙ inv .long }
+
+    pub store-end : at + length bytes ≤ length old → length bytes ≤ i → Puts old at bytes out
+    store-end g h = puts-of g (sym (ap (sets out (at + i)) (drop-of-length-le bytes h)) ∙ inv .rest)
+
+    pub store-to : at + length bytes ≤ length old → length bytes ≤ i → PutsTo old at bytes out (at + length bytes)
+    store-to g h = record { puts = store-end g h; ends = refl }
+
+-- nothing, and one byte string behind the other
+pub to-nothing : {old : List ℕ} {at : ℕ} → at ≤ length old → PutsTo old at [] old at
+to-nothing h = record { puts = puts-of (omega arith) refl; ends = omega arith }
+
+pub to-then : {a b c xs ys : List ℕ} {at m r : ℕ} → PutsTo a at xs b m → PutsTo b m ys c r → PutsTo a at (xs ++ ys) c r
+to-then {xs = xs} {ys} p q = record { puts = puts-then (p .puts) (sym (p .ends)) (q .puts); ends = omega (arith, p .ends, q .ends, length-append xs ys) }
+
+-- one byte, n times
+module _ (old : List ℕ) (at b n : ℕ) (out : List ℕ) (i : ℕ) (inv : Storing old at (replicate n b) out i) where
+  pub run-again : i < n → Storing old at (replicate n b) (set out (at + i) b) (i + 1)
+  run-again h = rw (getD-replicate n i b 0) at (store-again old at (replicate n b) out i inv (rw length-replicate h))
+
+  pub run-to : at + n ≤ length old → n ≤ i → PutsTo old at (replicate n b) out (at + n)
+  run-to g h = rw length-replicate at (store-to old at (replicate n b) out i inv (rw length-replicate g) (rw length-replicate h))
 
 -- ---- the bytes of a number
 

@@ -46,6 +46,11 @@ pub record Puts (old : List ℕ) (at : ℕ) (bytes new : List ℕ) : Type 0 wher
   pub room : at + length bytes ≤ length old
   pub long : length new ≡ length old
 
+-- and they end at `r`
+pub record PutsTo (old : List ℕ) (at : ℕ) (bytes new : List ℕ) (r : ℕ) : Type 0 where
+  pub puts : Puts old at bytes new
+  pub ends : r ≡ at + length bytes
+
 -- two's complement by the greatest unsigned number `top` of a width: of 4 bytes 4294967295
 abbrev pub signedIn : ℕ → ℕ → ℤ
 signedIn top n = cond (ltb n (top / 2 + 1)) (pos n) (negsuc (top - n))

@@ -1,12 +1,24 @@
 -- What a lookup ensures, and where it stands.
-use Prim.Native.Nat.{ℕ, _≤_}
+use Prim.Native.Nat.{ℕ, _+_, _≤_, _<_}
+use mathlib.Core.Bool.{Bool}
 use mathlib.Core.Path.{_≡_}
 use mathlib.Core.List.{List}
+use mathlib.Core.Option.{Option, some, none}
 use lib.IntN.{natAbs}
-use Rattle.rules.specs.Book.{roundings, roundingFor}
+use lib.ListN.{length}
+use Rattle.rules.specs.Lists.{first, ifSome}
+use Rattle.rules.specs.Layout.{whole}
+use Rattle.rules.specs.Book.{Record, ArticleRecord, PriceRecord, RoundingRecord, PackagingRecord, SchemeRecord, Article, Scheme, roundings, roundingFor}
+use Rattle.rules.specs.BookLayout.{kinded}
+use Rattle.rules.specs.declared.Part.{Part}
 use Rattle.rules.specs.declared.Rounding.{Rounding}
-use Rattle.book.specs.Records.{recordsLeft}
+use Rattle.book.specs.Records.{recordsOf, recordsLeft}
 use Rattle.book.specs.Ensures.{Between}
+use Rattle.records.specs.Asks.{OfKind}
+use Rattle.records.specs.Ensures.{bytesIn}
+use Rattle.records.specs.Tests.{startsWith}
+
+-- ---- a rounding by its number
 
 -- `r` is the rounding that a row with this number takes, among the records from a place on; its numbers are in their bounds
 pub record RoundingUsed (b : List ℕ) (from number : ℕ) (r : Rounding) : Type 0 where
@@ -20,3 +32,40 @@ pub record RoundingUsed (b : List ℕ) (from number : ℕ) (r : Rounding) : Type
 pub record Looking (b : List ℕ) (from number at : ℕ) : Type 0 where
   pub between : Between b at
   pub rest : roundingFor number (roundings (recordsLeft b at)) ≡ roundingFor number (roundings (recordsLeft b from))
+
+-- ---- a record by the name that it starts with
+
+abbrev pub isNamed : ℕ → List ℕ → Record → Bool
+isNamed kind name r = startsWith kind name (some r)
+
+-- the first of the kind with the name is what stands in the part r of the book; in an empty part stands none
+pub record FirstNamed (b : List ℕ) (kind : ℕ) (name : List ℕ) (r : Part) : Type 0 where
+  pub is : first (isNamed kind name) (recordsOf b) ≡ whole kinded (bytesIn b r)
+  pub fits : r .at + r .size ≤ length b
+  pub kind-is : 0 < r .size → OfKind kind (bytesIn b r)
+
+-- none of the records passed is one
+pub record Seeking (b : List ℕ) (kind : ℕ) (name : List ℕ) (at : ℕ) : Type 0 where
+  pub between : Between b at
+  pub rest : first (isNamed kind name) (recordsLeft b at) ≡ first (isNamed kind name) (recordsOf b)
+
+abbrev pub asArticle : Record → Option Article
+asArticle (ArticleRecord a) = some a
+asArticle (PriceRecord r) = none
+asArticle (RoundingRecord r) = none
+asArticle (PackagingRecord p) = none
+asArticle (SchemeRecord s) = none
+
+abbrev pub asScheme : Record → Option Scheme
+asScheme (ArticleRecord a) = none
+asScheme (PriceRecord r) = none
+asScheme (RoundingRecord r) = none
+asScheme (PackagingRecord p) = none
+asScheme (SchemeRecord s) = some s
+
+-- the article, or the scheme, that the bytes of a record are
+abbrev pub articleHeld : List ℕ → Option Article
+articleHeld t = ifSome (whole kinded t) none asArticle
+
+abbrev pub schemeHeld : List ℕ → Option Scheme
+schemeHeld t = ifSome (whole kinded t) none asScheme

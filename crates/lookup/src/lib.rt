@@ -1,4 +1,6 @@
 // Finding the record of a book that counts: of records alike, the first.
+pub mod named;
+
 use rules::Cents;
 use rules::Rounding;
 use rules::Way;

@@ -11,6 +11,7 @@ use lib.IntN.{pos, _*ℤ_}
 use lib.ListN.{length, take, drop}
 use borrow.Author.Tests.{le-leb, lt-leb}
 use Rattle.rules.specs.Lists.{isSome}
+use Rattle.rules.proofs.ListLaws.{absent}
 use Rattle.rules.specs.Book.{Record, Article, articleOf, rows, roundings}
 use Rattle.rules.specs.BookLayout.{records}
 use Rattle.rules.specs.Question.{Question, questionOf}
@@ -39,10 +40,6 @@ use Rattle.price.specs.Picks.{PickedAre, PicksAre}
 use Rattle.price.specs.Unused.{idle, UnusedIs}
 use Rattle.price.specs.Call.{answered, PriceIs}
 use Rattle.price.proofs.UnusedSetLaws.{idle-lines}
-
-absent : {A : Type 0} (o : Option A) → isSome o ≡ false → o ≡ none
-absent none e = refl
-absent (some a) e = absurd (false≢true (sym e))
 
 there : {A : Type 0} (o : Option A) → isSome o ≡ true → (a : A) × (o ≡ some a)
 there none e = absurd (false≢true e)

@@ -11,11 +11,12 @@ use lib.IntN.{ℤ}
 use borrow.Author.Tests.{leb-true}
 use Rattle.rules.specs.Lists.{isSome, between, same}
 use Rattle.rules.specs.Layout.{_>>=_, give, _such_, bytes, byte, times, whole}
-use Rattle.rules.specs.Bytes.{number, signed, name, oneOf, capitals, eitherSide}
+use Rattle.rules.specs.Bytes.{number, signed, name, nameByte, oneOf, head, capitals, eitherSide}
 use Rattle.rules.specs.Book.{Record, ArticleRecord, PriceRecord, RoundingRecord, PackagingRecord, SchemeRecord, sale, purchase, base, surcharge, discount}
-use Rattle.rules.specs.BookLayout.{kinded, priceBody, roundingBody, packagingBody, valueOf, inBounds, zeroUnlessPresent, has, unitFor, lengthUnits, volumeUnits, weightUnits, star}
+use Rattle.rules.specs.BookLayout.{kinded, oneRecord, bookLayout, records, mostBytes, priceBody, roundingBody, packagingBody, schemeBody, keepsApart, valueOf, inBounds, zeroUnlessPresent, has, unitFor, lengthUnits, volumeUnits, weightUnits, star}
 use Rattle.rules.proofs.TestLaws.{between-low, between-high}
-use Rattle.rules.proofs.GivesLaws.{Gives, gives-field, gives-any, gives-value, gives-if, gives-such, whole-gives}
+use Rattle.rules.proofs.GivesLaws.{Gives, gives-field, gives-any, gives-value, gives-if, gives-such, gives-name, gives-framed, gives-repeated, whole-gives}
+use Rattle.rules.proofs.ListLaws.{All}
 use Rattle.rules.proofs.RangeLaws.{either-in}
 use Rattle.book.proofs.PartsLaws.{record-is}
 use Rattle.records.specs.Ensures.{Bounded, ValuesIn}
@@ -87,6 +88,23 @@ gives-packaging =
     gives-field _ _ (gives-if (λ (u : Unit {0}). not (same article star && eqb (length condition) 0)) tt) λ u _.
     gives-value _ (h counts (subst ValuesIn (append-nil counts) (k [] nothing-in)))
 
+gives-scheme : Gives schemeBody Bounded
+gives-scheme =
+    gives-field (name 1 20) _ (gives-name 1 20) λ id h₁.
+    gives-field (name 0 8) _ (gives-name 0 8) λ numberSeparator h₂.
+    gives-field (name 0 8) _ (gives-name 0 8) λ valueSeparator h₃.
+    gives-field (oneOf (0 ∷ 1 ∷ [])) _ (gives-any (oneOf (0 ∷ 1 ∷ []))) λ visibility _.
+    gives-field (byte such λ c. eqb c 0 || nameByte c) _ (gives-any (byte such λ c. eqb c 0 || nameByte c)) λ hidden _.
+    gives-field (byte such λ c. eqb c 0 || nameByte c) _ (gives-any (byte such λ c. eqb c 0 || nameByte c)) λ unselected _.
+    gives-field (oneOf (0 ∷ 1 ∷ [])) _ (gives-any (oneOf (0 ∷ 1 ∷ []))) λ trim _.
+    gives-field _ _ (gives-if (λ (u : Unit {0}). eqb trim 0 || keepsApart valueSeparator hidden unselected) tt) λ u _.
+    gives-value _
+    (record {
+      named = between-low 1 20 (length id) h₁;
+      number-short = between-high 0 8 (length numberSeparator) h₂;
+      value-short = between-high 0 8 (length valueSeparator) h₃;
+    })
+
 -- ---- a record
 
 -- an accepted record's numbers are in their bounds
@@ -95,4 +113,18 @@ in-bounds t (ArticleRecord a) is = tt
 in-bounds t (PriceRecord x) is = whole-gives gives-price (drop 1 t) _ (sym (record-is t 2 (ap isSome is) (kind-byte t (PriceRecord x) is)) ∙ is)
 in-bounds t (RoundingRecord x) is = whole-gives gives-rounding (drop 1 t) _ (sym (record-is t 3 (ap isSome is) (kind-byte t (RoundingRecord x) is)) ∙ is)
 in-bounds t (PackagingRecord p) is = whole-gives gives-packaging (drop 1 t) _ (sym (record-is t 4 (ap isSome is) (kind-byte t (PackagingRecord p) is)) ∙ is)
-in-bounds t (SchemeRecord s) is = tt
+in-bounds t (SchemeRecord s) is = whole-gives gives-scheme (drop 1 t) _ (sym (record-is t 5 (ap isSome is) (kind-byte t (SchemeRecord s) is)) ∙ is)
+
+-- and so are those of each record of a book
+pub book-bounds : (b : List ℕ) {rs : List Record} → records b ≡ some rs → All Bounded rs
+unfolding records
+book-bounds b {rs} is = whole-gives gives-book b rs is
+  where
+    gives-record : Gives oneRecord Bounded
+    gives-record = gives-field (number 2) _ (gives-any (number 2)) λ n _. gives-framed kinded n in-bounds
+
+    gives-book : Gives (bookLayout (length b)) (All Bounded)
+    gives-book =
+        gives-field _ _ (gives-if (λ (u : Unit {0}). leb (length b) mostBytes) tt) λ u _.
+        gives-field (head (length b)) _ (gives-any (head (length b))) λ version _.
+        gives-repeated oneRecord gives-record

@@ -13,6 +13,7 @@ use Rattle.book.specs.Ensures.{Stands}
 use Rattle.book.proofs.PartsLaws.{scheme-parts, record-is, body-ok}
 use Rattle.records.specs.Asks.{OfKind, SchemeNames}
 use Rattle.records.specs.Ensures.{SchemeIs, schemeIn}
+use Rattle.records.proofs.BoundLaws.{in-bounds}
 
 module _ {t : List ℕ} (p : OfKind 5 t) where
   stands : Stands schemeBody t 1 (thirdStop t 1) 4 (SchemeRecord (schemeAt t 1 (nameStop t 1) (secondStop t 1) (thirdStop t 1)))
@@ -57,4 +58,5 @@ scheme-is t a b p here = record {
   id-in = omega (arith, here .low, here .middle, here .high, here .long);
   numbersep-in = omega (arith, here .middle, here .high, here .long);
   valuesep-in = omega (arith, here .high, here .long);
+  bounds = in-bounds t (SchemeRecord (schemeAt t 1 a b p)) (here .is);
 }

@@ -32,6 +32,12 @@ pub record RoundingBounds (r : Rounding) : Type 0 where
   pub before-in : natAbs (r .before .0) ≤ 1_000_000
   pub after-in : natAbs (r .after .0) ≤ 1_000_000
 
+-- its id is not empty, and no separator is longer than 8
+pub record SchemeBounds (s : Scheme) : Type 0 where
+  pub named : 1 ≤ length (s .id)
+  pub number-short : length (s .numberSeparator) ≤ 8
+  pub value-short : length (s .valueSeparator) ≤ 8
+
 -- past the last value stands 0, so that the bound holds of every place
 abbrev pub ValuesIn : List ℤ → Type 0
 ValuesIn zs = (i : ℕ) → natAbs (getD zs i (pos 0)) ≤ 10_000_000
@@ -41,7 +47,7 @@ Bounded (ArticleRecord a) = Unit {0}
 Bounded (PriceRecord r) = inBounds (r .value) ≡ true
 Bounded (RoundingRecord r) = RoundingBounds r
 Bounded (PackagingRecord p) = ValuesIn (p .values)
-Bounded (SchemeRecord s) = Unit {0}
+Bounded (SchemeRecord s) = SchemeBounds s
 
 -- ---- an article
 
@@ -136,3 +142,4 @@ pub record SchemeIs (t : List ℕ) (r : SchemeParts) : Type 0 where
   pub id-in : r .id .at + r .id .size ≤ length t
   pub numbersep-in : r .numbersep .at + r .numbersep .size ≤ length t
   pub valuesep-in : r .valuesep .at + r .valuesep .size ≤ length t
+  pub bounds : SchemeBounds (schemeIn t r)

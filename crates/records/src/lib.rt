@@ -10,6 +10,7 @@ mod schemes;
 pub use articles::ArticleParts;
 pub use articles::article_of;
 pub use articles::is_article;
+pub use fields::starts_with;
 pub use packagings::Packing;
 pub use packagings::packaging_of;
 pub use prices::is_row_of;

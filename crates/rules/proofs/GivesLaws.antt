@@ -5,13 +5,14 @@ use mathlib.Core.Bool.{Bool, true, false, _||_}
 use mathlib.Core.List.{List, [], _∷_}
 use mathlib.Core.Option.{Option, some, none, Option·none-ne-some, Option·some-injective}
 use lib.ListN.{length}
-use Rattle.rules.specs.Lists.{same, between}
-use Rattle.rules.specs.Layout.{Layout, andThen, _>>=_, give, giveIf, _such_, bytes, byte, times, whole, wholly}
-use Rattle.rules.specs.Bytes.{number, name, oneOf, head, capitals}
+use Rattle.rules.specs.Lists.{same, between, all}
+use Rattle.rules.specs.Layout.{Layout, andThen, _>>=_, give, giveIf, _such_, front, bytes, byte, times, back, framed, toEnd, repeated, whole, wholly}
+use Rattle.rules.specs.Bytes.{number, name, nameByte, oneOf, head, capitals}
 use Rattle.rules.specs.Days.{isDay}
 use Rattle.rules.specs.Book.{sale, purchase}
 use Rattle.rules.specs.Question.{Question, noCurrency, property, questionLayout, questionOf}
 use Rattle.rules.proofs.TestLaws.{between-low, between-high}
+use Rattle.rules.proofs.ListLaws.{All}
 
 pub record Gives {A : Type 0} (m : Layout A) (P : A → Type 0) : Type 0 where
   pub sure : (s : List ℕ) (v : A) (t : List ℕ) → m s ≡ some (v, t) → P v
@@ -36,12 +37,12 @@ module _ {A : Type 0} where
   pub gives-value : (a : A) {P : A → Type 0} → P a → Gives (give a) P
   gives-value a {P} p = record { sure = λ s v t e. subst P (ap (λ (x : A × List ℕ). x .0) (Option·some-injective (a, s) (v, t) e)) p }
 
+  pub gives-tested : (b : Bool) (a : A) {P : A → Type 0} → (b ≡ true → P a) → Gives (giveIf b a) P
+  gives-tested true a p = gives-value a (p refl)
+  gives-tested false a p = record { sure = λ s v t e. absurd (Option·none-ne-some (v, t) e) }
+
   pub gives-if : (p : A → Bool) (a : A) → Gives (giveIf (p a) a) (λ x. p x ≡ true)
-  gives-if p a = go (p a) refl
-    where
-      go : (b : Bool) → p a ≡ b → Gives (giveIf b a) (λ x. p x ≡ true)
-      go true h = gives-value a h
-      go false h = record { sure = λ s v t e. absurd (Option·none-ne-some (v, t) e) }
+  gives-if p a = gives-tested (p a) a (λ h. h)
 
   -- a field with a test passes it
   pub gives-such : (m : Layout A) (p : A → Bool) → Gives (m such p) (λ x. p x ≡ true)
@@ -53,6 +54,51 @@ gives-times (suc n) m =
     gives-field m (λ a. times n m >>= λ rest. give (a ∷ rest)) (gives-any m) λ a t.
     gives-field (times n m) (λ rest. give (a ∷ rest)) (gives-times n m) λ rest e.
     gives-value (a ∷ rest) (ap suc e)
+
+-- n bytes are n
+pub gives-bytes : (n : ℕ) → Gives (bytes n) (λ v. length v ≡ n)
+gives-bytes zero = gives-value [] refl
+gives-bytes (suc n) = record { sure = λ s v t e. go (gives-bytes n) s v t e }
+  where
+    more : (b : ℕ) (o : Option (List ℕ × List ℕ)) → ((v t : List ℕ) → o ≡ some (v, t) → length v ≡ n) → (v t : List ℕ) → front b o ≡ some (v, t) → length v ≡ suc n
+    more b none h v t e = absurd (Option·none-ne-some (v, t) e)
+    more b (some p) h v t e = sym (ap (λ (x : List ℕ × List ℕ). length (x .0)) (Option·some-injective (b ∷ p .0, p .1) (v, t) e)) ∙ ap suc (h (p .0) (p .1) refl)
+
+    go : Gives (bytes n) (λ v. length v ≡ n) → (s v t : List ℕ) → bytes (suc n) s ≡ some (v, t) → length v ≡ suc n
+    go g [] v t e = absurd (Option·none-ne-some (v, t) e)
+    go g (b ∷ s) v t e = more b (bytes n s) (g .sure s) v t e
+
+module _ {A : Type 0} (m : Layout A) {P : A → Type 0} where
+  -- bytes in a frame that are one value to the last
+  pub gives-framed : (n : ℕ) → ((s : List ℕ) (a : A) → whole m s ≡ some a → P a) → Gives (framed n m) P
+  gives-framed n h = gives-field (bytes n) (λ s. back (whole m s)) (gives-any (bytes n)) λ s _. go (whole m s) (h s)
+    where
+      go : (o : Option A) → ((a : A) → o ≡ some a → P a) → Gives (back o) P
+      go none k = record { sure = λ s v t e. absurd (Option·none-ne-some (v, t) e) }
+      go (some a) k = gives-value a (k a refl)
+
+  module _ (g : Gives m P) where
+    none-left : (v : List A) (t : List ℕ) → _≡_ {A = Option (List A × List ℕ)} (some ([], [])) (some (v, t)) → All P v
+    none-left v t e = subst (λ (x : List A × List ℕ). All P (x .0)) (Option·some-injective ([], []) (v, t) e) tt
+
+    each-to-end : (n : ℕ) (s : List ℕ) (v : List A) (t : List ℕ) → toEnd n m s ≡ some (v, t) → All P v
+    each-to-end zero [] v t e = none-left v t e
+    each-to-end zero (b ∷ s) v t e = absurd (Option·none-ne-some (v, t) e)
+    each-to-end (suc n) [] v t e = none-left v t e
+    each-to-end (suc n) (b ∷ s) v t e =
+        gives-field m (λ a. toEnd n m >>= λ rest. give (a ∷ rest)) g
+        (λ a p. gives-field (toEnd n m) (λ rest. give (a ∷ rest)) (record { sure = each-to-end n }) (λ rest hs. gives-value (a ∷ rest) {P = All P} (p, hs))) .sure (b ∷ s) v t e
+
+    -- what one value is sure of, each of those up to the end is
+    pub gives-repeated : Gives (repeated m) (All P)
+    gives-repeated = record { sure = λ s. each-to-end (length s) s }
+
+-- a name is as long as it may be
+pub gives-name : (lo hi : ℕ) → Gives (name lo hi) (λ v. between lo hi (length v) ≡ true)
+gives-name lo hi =
+    gives-field (byte such between lo hi) (λ n. bytes n such all nameByte) (gives-such byte (between lo hi)) λ n h.
+    gives-field (bytes n) (λ v. giveIf (all nameByte v) v) (gives-bytes n) λ v e.
+    gives-tested (all nameByte v) v (λ _. subst (λ (k : ℕ). between lo hi k ≡ true) (sym e) h)
 
 pub whole-gives : {A : Type 0} {m : Layout A} {P : A → Type 0} → Gives m P → (s : List ℕ) (a : A) → whole m s ≡ some a → P a
 whole-gives {m} {P} g s a e = go (m s) refl e

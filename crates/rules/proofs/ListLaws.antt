@@ -76,6 +76,12 @@ module _ {A : Type 0} where
   kept p [] = tt
   kept p (x ∷ xs) = kept-if p (p x) x (keep p xs) refl (kept p xs)
 
+  -- ---- none, or some
+
+  pub absent : (o : Option A) → isSome o ≡ false → o ≡ none
+  absent none e = refl
+  absent (some a) e = absurd (false≢true (sym e))
+
   -- ---- the first of a kind
 
   is-first : (b : Bool) (x : A) (o : Option A) (c : Bool) → isSome o ≡ c → isSome (pick b x o) ≡ (b || c)

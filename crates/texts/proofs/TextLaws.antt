@@ -6,7 +6,7 @@ use mathlib.Core.Option.{Option, some, none}
 use mathlib.Core.Logic.{_⊎_, inl, inr}
 use native.Mathlib.Omega.{arith}
 use lib.Dec.{eqb}
-use lib.ListN.{length, take, drop}
+use lib.ListN.{length}
 use denote.Ref.{RefT, now}
 use Rattle.rules.specs.TextBook.{Entry, entries}
 use Rattle.rules.specs.Refusals.{Result, done, refused, _>>=_, orRefuse}
@@ -129,9 +129,6 @@ text-refused s t n = go (entries s) (entries t)
     go (some es) (some fs) = two (either (entryOf n es) (entryOf n fs))
 
 -- ---- which book lends it, by the answer's book
-
-pub piece-is : (s : List ℕ) (place size : ℕ) → take (place + size - place) (drop place s) ≡ take size (drop place s)
-piece-is s place size = let e : place + size - place ≡ size = omega arith in rw e
 
 module _ {A : Type 0} (asked fallback : A) (x : Result Found) {a : TextAnswer} (e : a ≡ shown x) where
   pub lends-fallback : a .book ≡ 2 → lender asked fallback x ≡ fallback

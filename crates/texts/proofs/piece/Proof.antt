@@ -1,10 +1,10 @@
 -- `texts::piece` meets its contract: block and offset are those of the slice, and the length comes out.
 use borrow.Author.Needs.{needs}
-use Rattle.texts.proofs.TextLaws.{piece-is}
+use Rattle.layout.proofs.LayoutLaws.{part-is}
 use Rattle.texts.proofs.piece.Statement.{statement}
 use Rattle.texts.proofs.piece.Tie as tie
 
-ruleset laws = (needs, piece-is)
+ruleset laws = (needs, part-is)
 
 pub piece-spec : {M : Type 1} → statement M
 piece-spec =

@@ -1,15 +1,18 @@
--- `layout::names::put_raised` meets its contract: what is stored and what is left make up the whole, by the laws `raise-..`.
+-- `layout::names::put_raised` meets its contract: what is stored and what is left make up the whole, by the laws `store-..` and `raise-..`.
 use Prim.Native.Nat.{_-_}
+use mathlib.Core.List.{map}
 use lib.ListN.{length}
 use borrow.Author.Needs.{needs}
-use Rattle.layout.proofs.NameLaws.{Raising, raise-start, raise-again, raise-end}
+use Rattle.rules.specs.Bytes.{raise}
+use Rattle.layout.proofs.StoreLaws.{Storing, store-start}
+use Rattle.layout.proofs.NameLaws.{raise-again, raise-end}
 use Rattle.layout.proofs.names.put_raised.Statement.{statement}
 use Rattle.layout.proofs.names.put_raised.Tie as tie
 
-ruleset laws = (needs, raise-start, raise-again, raise-end)
+ruleset laws = (needs, store-start, raise-again, raise-end)
 
 abbrev Inv-loop : tie.InvT-loop
-Inv-loop out₀ at name i₀ out i = Raising out₀ at name out i
+Inv-loop out₀ at name i₀ out i = Storing out₀ at (map raise name) out i
 
 abbrev μ-loop : tie.MeasureT-loop
 μ-loop out₀ at name i₀ out i = length name - i

@@ -1,0 +1,6 @@
+pub mod ValueLaws
+pub mod NumberLaws
+pub mod CallLaws
+pub mod AnswerLaws
+pub mod LengthLaws
+pub mod Promises
