@@ -1,9 +1,12 @@
 // The calls that a planning tool links: thin, total, each with the contract of the call behind it.
 use rules::PriceAnswer;
 use rules::TextAnswer;
+use rules::Written;
 ghost use mathlib.Core.Path.{_≡_};
-ghost use Rattle.rules.specs.Text as Text;
+ghost use Rattle.rules.specs.Text.{text, shown};
 ghost use Rattle.price.specs.Call.{PriceIs};
+ghost use Rattle.calendar.specs.Calls.{CalendarIs};
+ghost use Rattle.order_number.specs.Ensures.{NumberCall};
 
 #[no_mangle]
 pub extern "C" fn rafttwine_price(book: &[u8], question: &[u8], lines: &mut [u8]) -> PriceAnswer
@@ -13,8 +16,22 @@ pub extern "C" fn rafttwine_price(book: &[u8], question: &[u8], lines: &mut [u8]
 }
 
 #[no_mangle]
+pub extern "C" fn rafttwine_calendar(book: &[u8], question: &[u8], end: u32, out: &mut [u8]) -> Written
+    ensures { λ r. ⌜ CalendarIs (now (book .entry)) (now (question .entry)) end (now (out .entry)) r (now (out .exit)) ⌝ }
+{
+    calendar::calendar(book, question, end, out)
+}
+
+#[no_mangle]
+pub extern "C" fn rafttwine_final_number(book: &[u8], question: &[u8], out: &mut [u8]) -> Written
+    ensures { λ r. ⌜ NumberCall (now (book .entry)) (now (question .entry)) (now (out .entry)) (now (out .exit)) r ⌝ }
+{
+    order_number::final_number(book, question, out)
+}
+
+#[no_mangle]
 pub extern "C" fn rafttwine_text(asked: &[u8], fallback: &[u8], number: u32) -> TextAnswer
-    ensures { λ r. ⌜ r ≡ Text.shown (Text.text (now (asked .entry)) (now (fallback .entry)) number) ⌝ }
+    ensures { λ r. ⌜ r ≡ shown (text (now (asked .entry)) (now (fallback .entry)) number) ⌝ }
 {
     texts::text_answer(asked, fallback, number)
 }
