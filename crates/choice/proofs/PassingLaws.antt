@@ -194,7 +194,7 @@ same-row {x} e = ap asRow e
 abbrev pub numberIn : List ℕ → Ask → List ℕ
 numberIn q ask = take (ask .article .at + ask .article .size - ask .article .at) (drop (ask .article .at) q)
 
-number-is : (q : List ℕ) (ask : Ask) → numberIn q ask ≡ askIn q ask .article
+pub number-is : (q : List ℕ) (ask : Ask) → numberIn q ask ≡ askIn q ask .article
 number-is q ask =
     let k : ask .article .at + ask .article .size - ask .article .at ≡ ask .article .size = omega arith in
     rw k

@@ -44,7 +44,7 @@ module _ {B : Type 0} where
   onlyIf false o = none
 
 module _ {A B : Type 0} where
-  gather-same : (f g : A → Option B) (xs : List A) → All (λ x. f x ≡ g x) xs → gather f xs ≡ gather g xs
+  pub gather-same : (f g : A → Option B) (xs : List A) → All (λ x. f x ≡ g x) xs → gather f xs ≡ gather g xs
   gather-same f g [] h = refl
   gather-same f g (x ∷ xs) h = rw (h .0) (ap (consSome (g x)) (gather-same f g xs (h .1)))
 
@@ -151,6 +151,139 @@ found-name n (k ∷ ks) c h = (here (same (map raise k) c) refl, each (placed (s
         one true e = let m : suc n ≤ g .place = l .0 in absurd (omega arith)
         one false e = a .0 e
 
+-- a condition that is not empty is looked for among the names
+pub place-named : (names : List (List ℕ)) (c : List ℕ) → 1 ≤ length c → placeOf names c ≡ placeFrom 1 names c
+unfolding placeOf
+place-named names [] l = absurd (omega arith)
+place-named names (b ∷ c) l = refl
+
+-- ---- a place, and the name that is granted there
+
+-- the names that a question grants: not empty, and at most 32
+pub record Granted (names : List (List ℕ)) : Type 0 where
+  pub few : length names ≤ 32
+  pub full : All (λ n. 1 ≤ length n) names
+
+-- what is needed of each grant, place by place
+record Usable (names : List (List ℕ)) (g : Grant) : Type 0 where
+  low : 1 ≤ g .place
+  high : g .place < nowhere
+  full : 1 ≤ length (g .name)
+  own : (c : List ℕ) → placeFrom 1 names c ≡ g .place → same (g .name) c ≡ true
+
+length-map : {A B : Type 0} (f : A → B) (xs : List A) → length (map f xs) ≡ length xs
+length-map f [] = refl
+length-map f (x ∷ xs) = ap suc (length-map f xs)
+
+usable : (names all : List (List ℕ)) (n : ℕ) → 1 ≤ n → n + length names ≤ nowhere → All (λ k. 1 ≤ length k) names
+    → All (λ g. (c : List ℕ) → placeFrom 1 all c ≡ g .place → same (g .name) c ≡ true) (placed n names) → All (Usable all) (placed n names)
+usable [] all n l h f o = tt
+usable (k ∷ ks) all n l h f o = (
+  record { low = l; high = omega arith; full = subst (λ (m : ℕ). 1 ≤ m) (sym (length-map raise k)) (f .0); own = o .0 },
+  usable ks all (suc n) (omega arith) (omega arith) (f .1) (o .1),
+)
+
+-- for each grant, whatever name is looked up
+all-own : (names : List (List ℕ)) (gs : List Grant) → ((c : List ℕ) → All (λ g. placeFrom 1 names c ≡ g .place → same (g .name) c ≡ true) gs)
+    → All (λ g. (c : List ℕ) → placeFrom 1 names c ≡ g .place → same (g .name) c ≡ true) gs
+all-own names [] h = tt
+all-own names (g ∷ gs) h = (λ c. h c .0, all-own names gs (λ c. h c .1))
+
+places-are : (n : ℕ) (names : List (List ℕ)) → map (λ g. g .place) (placed n names) ≡ upFrom n (length names)
+places-are n [] = refl
+places-are n (k ∷ ks) = ap (λ (xs : List ℕ). n ∷ xs) (places-are (suc n) ks)
+
+up-append : (k m n : ℕ) → upFrom k (m + n) ≡ upFrom k m ++ upFrom (k + m) n
+up-append k zero n =
+    let e : 0 + n ≡ n = omega arith in
+    let f : k ≡ k + 0 = omega arith in
+    ap (upFrom k) e ∙ ap (λ (j : ℕ). upFrom j n) f
+up-append k (suc m) n =
+    let e : suc m + n ≡ suc (m + n) = omega arith in
+    let f : suc k + m ≡ k + suc m = omega arith in
+    ap (upFrom k) e ∙ ap (λ (xs : List ℕ). k ∷ xs) (up-append (suc k) m n ∙ ap (λ (j : ℕ). upFrom (suc k) m ++ upFrom j n) f)
+
+pub all-above : (P : ℕ → Type 0) (k n : ℕ) → ((i : ℕ) → k ≤ i → i < k + n → P i) → All P (upFrom k n)
+all-above P k zero h = tt
+all-above P k (suc n) h = (h k (omega arith) (omega arith), all-above P (suc k) n (λ i a b. h i (omega arith) (omega arith)))
+
+module _ (names : List (List ℕ)) (ok : Granted names) where
+  -- without a condition
+  pub none-is : (c : List ℕ) → eqb (placeOf names c) 0 ≡ same c []
+  unfolding placeOf
+  none-is [] = refl
+  none-is (b ∷ c) = ne-eqb (placeFrom 1 names (b ∷ c)) 0 (λ e. omega (arith, found-range 1 names (b ∷ c) (omega (arith, ok .few)) .0))
+
+  -- a name that is found at its place
+  name-is : (g : Grant) → Usable names g → placeFrom 1 names (g .name) ≡ g .place → (c : List ℕ) → eqb (placeOf names c) (g .place) ≡ same c (g .name)
+  name-is g u f c = go (same c (g .name)) refl
+    where
+      not-there : (c : List ℕ) → same c (g .name) ≡ false → eqb (placeOf names c) (g .place) ≡ false
+      not-there [] e = unfold placeOf in ne-eqb 0 (g .place) (λ e. omega (arith, u .low))
+      not-there (b ∷ c) e = unfold placeOf in ne-eqb (placeFrom 1 names (b ∷ c)) (g .place) (λ k. false≢true (sym e ∙ same-sym (b ∷ c) (g .name) ∙ u .own (b ∷ c) k))
+
+      go : (b : Bool) → same c (g .name) ≡ b → eqb (placeOf names c) (g .place) ≡ same c (g .name)
+      go true e =
+          let k : c ≡ g .name = same-eq c (g .name) e in
+          subst (λ (x : List ℕ). eqb (placeOf names x) (g .place) ≡ same x (g .name)) (sym k)
+          (rw (place-named names (g .name) (u .full), f, eq-eqb (g .place) (g .place) refl, same-refl (g .name)))
+      go false e = not-there c e ∙ sym e
+
+  -- at the place of a repeat no condition is found
+  repeat-is : (g : Grant) → Usable names g → foundAt 1 names g ≡ false → (c : List ℕ) → eqb (placeOf names c) (g .place) ≡ false
+  repeat-is g u e [] = unfold placeOf in ne-eqb 0 (g .place) (λ k. omega (arith, u .low))
+  repeat-is g u e (b ∷ c) =
+      unfold placeOf in
+      ne-eqb (placeFrom 1 names (b ∷ c)) (g .place)
+      (λ k.
+      let same-name : g .name ≡ b ∷ c = same-eq (g .name) (b ∷ c) (u .own (b ∷ c) k) in
+      eqb-false (placeFrom 1 names (g .name)) (g .place) e (ap (placeFrom 1 names) same-name ∙ k))
+
+  -- nor behind the last name
+  behind-is : (i : ℕ) → 1 + length names ≤ i → i < nowhere → (c : List ℕ) → eqb (placeOf names c) i ≡ false
+  behind-is i a b [] = unfold placeOf in ne-eqb 0 i (λ e. omega arith)
+  behind-is i a b (x ∷ c) =
+      unfold placeOf in
+      let f = found-range 1 names (x ∷ c) (omega (arith, ok .few)) in
+      ne-eqb (placeFrom 1 names (x ∷ c)) i (λ e. ⊎-elim (λ k. omega arith) (λ k. omega arith) (f .1))
+
+  -- where a place gives what the name that is found there does, and nothing where no condition is found, all places give what the granted names do
+  module _ {B : Type 0} (at : ℕ → Option B) (of : Grant → Option B) (named : (g : Grant) → ((c : List ℕ) → eqb (placeOf names c) (g .place) ≡ same c (g .name)) → at (g .place) ≡ of g)
+      (empty : (i : ℕ) → ((c : List ℕ) → eqb (placeOf names c) i ≡ false) → at i ≡ none) where
+    place-gives : (g : Grant) → Usable names g → at (g .place) ≡ onlyIf (foundAt 1 names g) (of g)
+    place-gives g u = go (foundAt 1 names g) refl
+      where
+        go : (b : Bool) → foundAt 1 names g ≡ b → at (g .place) ≡ onlyIf b (of g)
+        go true e = named g (name-is g u (eqb-true (placeFrom 1 names (g .name)) (g .place) e))
+        go false e = empty (g .place) (repeat-is g u e)
+
+    places-give : (gs : List Grant) → All (Usable names) gs → All (λ g. at (g .place) ≡ onlyIf (foundAt 1 names g) (of g)) gs
+    places-give [] h = tt
+    places-give (g ∷ gs) h = (place-gives g (h .0), places-give gs (h .1))
+
+    named-gathered : gather at (upFrom 1 (length names)) ≡ gather of (grants names)
+    unfolding grants
+    named-gathered =
+        let gs = placed 1 names in
+        ap (gather at) (sym (places-are 1 names))
+        ∙ gather-map at (λ g. g .place) gs
+        ∙ gather-same (λ g. at (g .place)) (λ g. onlyIf (foundAt 1 names g) (of g)) gs
+        (places-give gs (usable names names 1 (omega arith) (omega (arith, ok .few)) (ok .full) (all-own names gs (λ c. found-name 1 names c (omega (arith, ok .few))))))
+        ∙ sym (gather-keep of (foundAt 1 names) gs)
+        ∙ ap (gather of) (sym (firsts-found 1 names))
+
+    pub places-gathered : gather at (upFrom 1 32) ≡ gather of (grants names)
+    places-gathered =
+        let n = length names in
+        let e : 32 ≡ n + (32 - n) = omega (arith, ok .few) in
+        ap (λ (k : ℕ). gather at (upFrom 1 k)) e
+        ∙ ap (gather at) (up-append 1 n (32 - n))
+        ∙ gather-append at (upFrom 1 n) (upFrom (1 + n) (32 - n))
+        ∙ ap (λ (xs : List B). gather at (upFrom 1 n) ++ xs)
+        (gather-none at (upFrom (1 + n) (32 - n)) (all-above (λ i. at i ≡ none) (1 + n) (32 - n) (λ i a b. empty i (behind-is i a (omega (arith, ok .few))))))
+        ∙ append-nil (gather at (upFrom 1 n))
+        ∙ named-gathered
+
 -- ---- the rows of a slot are those of a component
 
 -- the three levels by their numbers
@@ -192,44 +325,12 @@ level-is Discount x = go (eqb x base) (eqb x surcharge) (eqb x discount) refl re
     go false false true e f g = refl
     go false false false e f g = refl
 
--- the names that a question grants: not empty, and at most 32
-pub record Granted (names : List (List ℕ)) : Type 0 where
-  pub few : length names ≤ 32
-  pub full : All (λ n. 1 ≤ length n) names
-
 module _ (q : Question) (ok : Granted (q .granted)) {l : ℕ} {letter : ℕ} (level : Level l letter) (rs : List Row) where
   in-component : (place : ℕ) (name : List ℕ) → ((c : List ℕ) → eqb (placeOf (q .granted) c) place ≡ same c name)
       → keep (inSlot q l place) rs ≡ component (q .article) (q .sort) letter name rs
   unfolding inSlot component
   in-component place name h =
       keep-same _ _ rs (all-of (λ r. λ i. same (r .article) (q .article) && (eqb (r .sort) (q .sort) && (level-is level (r .level) i && h (r .condition) i))) rs)
-
-  -- without a condition
-  none-is : (c : List ℕ) → eqb (placeOf (q .granted) c) 0 ≡ same c []
-  unfolding placeOf
-  none-is [] = refl
-  none-is (b ∷ c) = ne-eqb (placeFrom 1 (q .granted) (b ∷ c)) 0 (λ e. omega (arith, found-range 1 (q .granted) (b ∷ c) (omega (arith, ok .few)) .0))
-
-  -- a name that is found at its place
-  name-is : (g : Grant) → 1 ≤ g .place → 1 ≤ length (g .name) → placeFrom 1 (q .granted) (g .name) ≡ g .place
-      → ((c : List ℕ) → placeFrom 1 (q .granted) c ≡ g .place → same (g .name) c ≡ true)
-      → (c : List ℕ) → eqb (placeOf (q .granted) c) (g .place) ≡ same c (g .name)
-  name-is g p n f h c = go (same c (g .name)) refl
-    where
-      there : (c : List ℕ) → 1 ≤ length c → placeOf (q .granted) c ≡ placeFrom 1 (q .granted) c
-      there [] l = absurd (omega arith)
-      there (b ∷ c) l = unfold placeOf in refl
-
-      not-there : (c : List ℕ) → same c (g .name) ≡ false → eqb (placeOf (q .granted) c) (g .place) ≡ false
-      not-there [] e = unfold placeOf in ne-eqb 0 (g .place) (λ e. omega arith)
-      not-there (b ∷ c) e = unfold placeOf in ne-eqb (placeFrom 1 (q .granted) (b ∷ c)) (g .place) (λ k. false≢true (sym e ∙ same-sym (b ∷ c) (g .name) ∙ h (b ∷ c) k))
-
-      go : (b : Bool) → same c (g .name) ≡ b → eqb (placeOf (q .granted) c) (g .place) ≡ same c (g .name)
-      go true e =
-          let k : c ≡ g .name = same-eq c (g .name) e in
-          subst (λ (x : List ℕ). eqb (placeOf (q .granted) x) (g .place) ≡ same x (g .name)) (sym k)
-          (rw (there (g .name) n, f, eq-eqb (g .place) (g .place) refl, same-refl (g .name)))
-      go false e = not-there c e ∙ sym e
 
   -- a slot that no row is of
   empty-slot : (place : ℕ) → ((c : List ℕ) → eqb (placeOf (q .granted) c) place ≡ false) → slotChosen rs q l place ≡ none
@@ -252,114 +353,14 @@ module _ (q : Question) (ok : Granted (q .granted)) {l : ℕ} {letter : ℕ} (le
   slot-component place name h =
       ap (λ (xs : List Row). Option·map (λ r. record { place = place; row = r }) (choose (q .date) (q .quantity) (q .currency) xs)) (in-component place name h)
 
-  -- a granted name's slot chooses what its component does if the name is found at its place, and nothing if it is a repeat
-  slot-is : (g : Grant) → 1 ≤ g .place → g .place < nowhere → 1 ≤ length (g .name) → ((c : List ℕ) → placeFrom 1 (q .granted) c ≡ g .place → same (g .name) c ≡ true)
-      → slotChosen rs q l (g .place) ≡ onlyIf (foundAt 1 (q .granted) g) (chosenAt rs q (record { level = letter; place = g .place; condition = g .name }))
-  slot-is g p m n h = go (foundAt 1 (q .granted) g) refl
-    where
-      missed : foundAt 1 (q .granted) g ≡ false → (c : List ℕ) → eqb (placeOf (q .granted) c) (g .place) ≡ false
-      missed e [] = unfold placeOf in ne-eqb 0 (g .place) (λ k. omega arith)
-      missed e (b ∷ c) =
-          unfold placeOf in
-          ne-eqb (placeFrom 1 (q .granted) (b ∷ c)) (g .place)
-          (λ k.
-          let same-name : g .name ≡ b ∷ c = same-eq (g .name) (b ∷ c) (h (b ∷ c) k) in
-          eqb-false (placeFrom 1 (q .granted) (g .name)) (g .place) e (ap (placeFrom 1 (q .granted)) same-name ∙ k))
-
-      go : (b : Bool) → foundAt 1 (q .granted) g ≡ b
-          → slotChosen rs q l (g .place) ≡ onlyIf b (chosenAt rs q (record { level = letter; place = g .place; condition = g .name }))
-      go true e = slot-component (g .place) (g .name) (name-is g p n (eqb-true (placeFrom 1 (q .granted) (g .name)) (g .place) e) h)
-      go false e = empty-slot (g .place) (missed e)
-
--- ---- all places of a level
-
--- what is needed of each grant, place by place
-record Usable (names : List (List ℕ)) (g : Grant) : Type 0 where
-  low : 1 ≤ g .place
-  high : g .place < nowhere
-  full : 1 ≤ length (g .name)
-  own : (c : List ℕ) → placeFrom 1 names c ≡ g .place → same (g .name) c ≡ true
-
-length-map : {A B : Type 0} (f : A → B) (xs : List A) → length (map f xs) ≡ length xs
-length-map f [] = refl
-length-map f (x ∷ xs) = ap suc (length-map f xs)
-
-usable : (names all : List (List ℕ)) (n : ℕ) → 1 ≤ n → n + length names ≤ nowhere → All (λ k. 1 ≤ length k) names
-    → All (λ g. (c : List ℕ) → placeFrom 1 all c ≡ g .place → same (g .name) c ≡ true) (placed n names) → All (Usable all) (placed n names)
-usable [] all n l h f o = tt
-usable (k ∷ ks) all n l h f o = (
-  record { low = l; high = omega arith; full = subst (λ (m : ℕ). 1 ≤ m) (sym (length-map raise k)) (f .0); own = o .0 },
-  usable ks all (suc n) (omega arith) (omega arith) (f .1) (o .1),
-)
-
--- for each grant, whatever name is looked up
-all-own : (names : List (List ℕ)) (gs : List Grant) → ((c : List ℕ) → All (λ g. placeFrom 1 names c ≡ g .place → same (g .name) c ≡ true) gs)
-    → All (λ g. (c : List ℕ) → placeFrom 1 names c ≡ g .place → same (g .name) c ≡ true) gs
-all-own names [] h = tt
-all-own names (g ∷ gs) h = (λ c. h c .0, all-own names gs (λ c. h c .1))
-
-places-are : (n : ℕ) (names : List (List ℕ)) → map (λ g. g .place) (placed n names) ≡ upFrom n (length names)
-places-are n [] = refl
-places-are n (k ∷ ks) = ap (λ (xs : List ℕ). n ∷ xs) (places-are (suc n) ks)
-
-up-append : (k m n : ℕ) → upFrom k (m + n) ≡ upFrom k m ++ upFrom (k + m) n
-up-append k zero n =
-    let e : 0 + n ≡ n = omega arith in
-    let f : k ≡ k + 0 = omega arith in
-    ap (upFrom k) e ∙ ap (λ (j : ℕ). upFrom j n) f
-up-append k (suc m) n =
-    let e : suc m + n ≡ suc (m + n) = omega arith in
-    let f : suc k + m ≡ k + suc m = omega arith in
-    ap (upFrom k) e ∙ ap (λ (xs : List ℕ). k ∷ xs) (up-append (suc k) m n ∙ ap (λ (j : ℕ). upFrom (suc k) m ++ upFrom j n) f)
-
-all-above : (P : ℕ → Type 0) (k n : ℕ) → ((i : ℕ) → k ≤ i → i < k + n → P i) → All P (upFrom k n)
-all-above P k zero h = tt
-all-above P k (suc n) h = (h k (omega arith) (omega arith), all-above P (suc k) n (λ i a b. h i (omega arith) (omega arith)))
-
-module _ (q : Question) (ok : Granted (q .granted)) {l : ℕ} {letter : ℕ} (level : Level l letter) (rs : List Row) where
-  slots-named : (gs : List Grant) → All (Usable (q .granted)) gs
-      → All (λ g. slotChosen rs q l (g .place) ≡ onlyIf (foundAt 1 (q .granted) g) (chosenAt rs q (record { level = letter; place = g .place; condition = g .name }))) gs
-  slots-named [] h = tt
-  slots-named (g ∷ gs) h = (slot-is q ok level rs g (h .0 .low) (h .0 .high) (h .0 .full) (h .0 .own), slots-named gs (h .1))
-
-  -- behind the last name no row is found
-  slots-behind : (i : ℕ) → 1 + length (q .granted) ≤ i → i < nowhere → slotChosen rs q l i ≡ none
-  slots-behind i a b = empty-slot q ok level rs i missed
-    where
-      missed : (c : List ℕ) → eqb (placeOf (q .granted) c) i ≡ false
-      missed [] = unfold placeOf in ne-eqb 0 i (λ e. omega arith)
-      missed (x ∷ c) =
-          unfold placeOf in
-          let f = found-range 1 (q .granted) (x ∷ c) (omega (arith, ok .few)) in
-          ne-eqb (placeFrom 1 (q .granted) (x ∷ c)) i (λ e. ⊎-elim (λ k. omega arith) (λ k. omega arith) (f .1))
-
-  abbrev names : List Grant
-  names = placed 1 (q .granted)
-
-  named-places : gather (slotChosen rs q l) (upFrom 1 (length (q .granted))) ≡ gather (λ g. chosenAt rs q (record { level = letter; place = g .place; condition = g .name })) (grants (q .granted))
-  unfolding grants
-  named-places =
-      ap (gather (slotChosen rs q l)) (sym (places-are 1 (q .granted)))
-      ∙ gather-map (slotChosen rs q l) (λ g. g .place) names
-      ∙ gather-same (λ g. slotChosen rs q l (g .place)) (λ g. onlyIf (foundAt 1 (q .granted) g) (chosenAt rs q (record { level = letter; place = g .place; condition = g .name }))) names
-      (slots-named names (usable (q .granted) (q .granted) 1 (omega arith) (omega (arith, ok .few)) (ok .full) (all-own (q .granted) names (λ c. found-name 1 (q .granted) c (omega (arith, ok .few))))))
-      ∙ sym (gather-keep (λ g. chosenAt rs q (record { level = letter; place = g .place; condition = g .name })) (foundAt 1 (q .granted)) names)
-      ∙ ap (gather (λ g. chosenAt rs q (record { level = letter; place = g .place; condition = g .name }))) (sym (firsts-found 1 (q .granted)))
-
+  -- all places of a level
   level-chosen : gather (slotChosen rs q l) (upFrom 0 33) ≡ gather (chosenAt rs q) (slotsAt (grants (q .granted)) letter)
   level-chosen =
-      let n = length (q .granted) in
-      let e : 32 ≡ n + (32 - n) = omega (arith, ok .few) in
-      let rest : gather (slotChosen rs q l) (upFrom 1 32) ≡ gather (chosenAt rs q) (map (λ g. record { level = letter; place = g .place; condition = g .name }) (grants (q .granted))) =
-      ap (λ (k : ℕ). gather (slotChosen rs q l) (upFrom 1 k)) e
-      ∙ ap (gather (slotChosen rs q l)) (up-append 1 n (32 - n))
-      ∙ gather-append (slotChosen rs q l) (upFrom 1 n) (upFrom (1 + n) (32 - n))
-      ∙ ap (λ (xs : List Chosen). gather (slotChosen rs q l) (upFrom 1 n) ++ xs)
-      (gather-none (slotChosen rs q l) (upFrom (1 + n) (32 - n)) (all-above (λ i. slotChosen rs q l i ≡ none) (1 + n) (32 - n) (λ i a b. slots-behind i a (omega (arith, ok .few)))))
-      ∙ append-nil (gather (slotChosen rs q l) (upFrom 1 n))
-      ∙ named-places
-      ∙ sym (gather-map (chosenAt rs q) (λ g. record { level = letter; place = g .place; condition = g .name }) (grants (q .granted))) in
-      (λ i. consSome (slot-component q ok level rs 0 [] (none-is q ok level rs) i) (rest i))
+      let of : Grant → Slot = λ g. record { level = letter; place = g .place; condition = g .name } in
+      let rest : gather (slotChosen rs q l) (upFrom 1 32) ≡ gather (chosenAt rs q) (map of (grants (q .granted))) =
+      places-gathered (q .granted) ok (slotChosen rs q l) (λ g. chosenAt rs q (of g)) (λ g h. slot-component (g .place) (g .name) h) empty-slot
+      ∙ sym (gather-map (chosenAt rs q) of (grants (q .granted))) in
+      (λ i. consSome (slot-component 0 [] (none-is (q .granted) ok) i) (rest i))
 
 -- ---- all three levels
 

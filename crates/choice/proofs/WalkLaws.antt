@@ -1,7 +1,7 @@
 -- The walk over the records: each slot sees the rows of its level and place, and no others, in the book's order.
 use Prim.Native.Nat.{ℕ, _+_, _-_, _*_, _≤_, _<_}
 use mathlib.Core.Path.{_≡_, refl, sym, _∙_, ap, subst}
-use mathlib.Core.Bool.{Bool, true, false, _&&_, _||_, not, cond}
+use mathlib.Core.Bool.{Bool, true, false, _&&_, _||_, cond}
 use mathlib.Core.List.{List, _∷_}
 use mathlib.Core.Option.{Option, some, none}
 use native.Mathlib.Omega.{arith}
@@ -143,7 +143,7 @@ module _ {w : List ℕ} {q : Question} {at end : ℕ} {o : Option Record} {p : P
 
 -- ---- whether the article is there
 
-article-turn : (o : Option Record) (rs : List Record) (number : List ℕ) → isSome (articleOf (consSome o rs) number) ≡ (Tests.articleOf number o || isSome (articleOf rs number))
+pub article-turn : (o : Option Record) (rs : List Record) (number : List ℕ) → isSome (articleOf (consSome o rs) number) ≡ (Tests.articleOf number o || isSome (articleOf rs number))
 unfolding articleOf Tests.startsWith
 article-turn none rs number = refl
 article-turn (some (ArticleRecord a)) rs number = go (same (a .number) number)

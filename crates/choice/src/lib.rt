@@ -1,6 +1,6 @@
 // The choice of every row of a price at once: one walk over the records fills a slot for each level and place.
 pub mod hands;
-mod passing;
+pub mod passing;
 pub mod slots;
 pub mod span;
 

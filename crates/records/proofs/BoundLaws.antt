@@ -1,7 +1,7 @@
 -- The bounds that the numbers of an accepted record have, by its kind.
 use Prim.Native.Nat.{ℕ, zero, suc, _≤_}
 use mathlib.Core.Path.{_≡_, sym, _∙_, ap, subst}
-use mathlib.Core.Bool.{true, _&&_, _||_, not}
+use mathlib.Core.Bool.{Bool, true, _&&_, _||_, not}
 use mathlib.Core.List.{List, [], _∷_, _++_, append-nil}
 use mathlib.Core.Option.{some}
 use native.Mathlib.Omega.{arith}
@@ -9,13 +9,13 @@ use lib.Dec.{eqb, leb}
 use lib.ListN.{length, drop}
 use lib.IntN.{ℤ}
 use borrow.Author.Tests.{leb-true}
-use Rattle.rules.specs.Lists.{isSome, between, same}
+use Rattle.rules.specs.Lists.{isSome, between, same, any}
 use Rattle.rules.specs.Layout.{_>>=_, give, _such_, bytes, byte, times, whole}
 use Rattle.rules.specs.Bytes.{number, signed, name, nameByte, oneOf, head, capitals, eitherSide}
 use Rattle.rules.specs.Book.{Record, ArticleRecord, PriceRecord, RoundingRecord, PackagingRecord, SchemeRecord, sale, purchase, base, surcharge, discount}
-use Rattle.rules.specs.BookLayout.{kinded, oneRecord, bookLayout, records, mostBytes, priceBody, roundingBody, packagingBody, schemeBody, keepsApart, valueOf, inBounds, zeroUnlessPresent, has, unitFor, lengthUnits, volumeUnits, weightUnits, star}
+use Rattle.rules.specs.BookLayout.{kinded, oneRecord, bookLayout, records, mostBytes, priceBody, roundingBody, packagingBody, schemeBody, keepsApart, valueOf, inBounds, zeroUnlessPresent, has, unitFor, lengthUnits, volumeUnits, weightUnits, noUnit, star}
 use Rattle.rules.proofs.TestLaws.{between-low, between-high}
-use Rattle.rules.proofs.GivesLaws.{Gives, gives-field, gives-any, gives-value, gives-if, gives-such, gives-name, gives-framed, gives-repeated, whole-gives}
+use Rattle.rules.proofs.GivesLaws.{Gives, gives-field, gives-any, gives-value, gives-tested, gives-if, gives-such, gives-bytes, gives-name, gives-framed, gives-repeated, whole-gives}
 use Rattle.rules.proofs.ListLaws.{All}
 use Rattle.rules.proofs.RangeLaws.{either-in}
 use Rattle.book.proofs.PartsLaws.{record-is}
@@ -74,6 +74,9 @@ gives-values most (suc n) h =
 nothing-in : ValuesIn []
 nothing-in i = omega arith
 
+gives-unit : (needed : Bool) (units : List (List ℕ)) → Gives (unitFor needed units) (λ u. length u ≡ 3)
+gives-unit needed units = gives-field (bytes 3) _ (gives-bytes 3) λ u e. gives-tested (any (same u) units || (same u noUnit && not needed)) u (λ _. e)
+
 gives-packaging : Gives packagingBody Bounded
 gives-packaging =
     gives-field (name 1 40) _ (gives-any (name 1 40)) λ article _.
@@ -81,12 +84,12 @@ gives-packaging =
     gives-field byte _ (gives-any byte) λ present _.
     gives-field (times 6 (signed 4 such eitherSide 10_000_000)) _ (gives-values 10_000_000 6 (omega arith)) λ physical h.
     gives-field (times 2 (signed 4 such eitherSide 10_000)) _ (gives-values 10_000 2 (omega arith)) λ counts k.
-    gives-field _ _ (gives-if (λ (u : Unit {0}). zeroUnlessPresent present (physical ++ counts)) tt) λ u _.
-    gives-field (unitFor (has 0 present || (has 1 present || has 2 present)) lengthUnits) _ (gives-any (unitFor (has 0 present || (has 1 present || has 2 present)) lengthUnits)) λ lengthUnit _.
-    gives-field (unitFor (has 3 present) volumeUnits) _ (gives-any (unitFor (has 3 present) volumeUnits)) λ volumeUnit _.
-    gives-field (unitFor (has 4 present || has 5 present) weightUnits) _ (gives-any (unitFor (has 4 present || has 5 present) weightUnits)) λ weightUnit _.
+    gives-field _ _ (gives-if (λ (u : Unit {0}). zeroUnlessPresent present (physical ++ counts)) tt) λ u z.
+    gives-field (unitFor (has 0 present || (has 1 present || has 2 present)) lengthUnits) _ (gives-unit (has 0 present || (has 1 present || has 2 present)) lengthUnits) λ lengthUnit l₁.
+    gives-field (unitFor (has 3 present) volumeUnits) _ (gives-unit (has 3 present) volumeUnits) λ volumeUnit l₂.
+    gives-field (unitFor (has 4 present || has 5 present) weightUnits) _ (gives-unit (has 4 present || has 5 present) weightUnits) λ weightUnit l₃.
     gives-field _ _ (gives-if (λ (u : Unit {0}). not (same article star && eqb (length condition) 0)) tt) λ u _.
-    gives-value _ (h counts (subst ValuesIn (append-nil counts) (k [] nothing-in)))
+    gives-value _ (record { values-in = h counts (subst ValuesIn (append-nil counts) (k [] nothing-in)); absent = z; letters = (l₁, (l₂, (l₃, tt))) })
 
 gives-scheme : Gives schemeBody Bounded
 gives-scheme =

@@ -62,5 +62,5 @@ module _ (t : List ℕ) (a p : ℕ) (here : TwoNames t a p 42 (PackagingRecord (
     is = here .is ∙ rw (v .is, u .is);
     article-in = omega (arith, here .low, here .middle, here .long);
     condition-in = omega (arith, here .middle, here .long);
-    values-in = rw (v .is) (in-bounds t (PackagingRecord (packAt t 1 a p)) (here .is));
+    values-in = rw (v .is) (in-bounds t (PackagingRecord (packAt t 1 a p)) (here .is) .values-in);
   }

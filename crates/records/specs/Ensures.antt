@@ -8,12 +8,13 @@ use lib.ListN.{length, take, drop, getD}
 use lib.IntN.{ℤ, pos, natAbs}
 use Rattle.rules.specs.Layout.{whole}
 use Rattle.rules.specs.Book.{Record, ArticleRecord, PriceRecord, RoundingRecord, PackagingRecord, SchemeRecord, Article, Row, Pack, Scheme}
-use Rattle.rules.specs.BookLayout.{kinded, valueOf, inBounds, wayOf}
+use Rattle.rules.specs.BookLayout.{kinded, valueOf, inBounds, wayOf, zeroUnlessPresent}
 use Rattle.rules.specs.declared.Part.{Part}
 use Rattle.rules.specs.declared.Value.{Value}
 use Rattle.rules.specs.declared.Way.{Way}
 use Rattle.rules.specs.declared.PriceRow.{PriceRow}
 use Rattle.rules.specs.declared.Rounding.{Rounding}
+use Rattle.rules.proofs.ListLaws.{All}
 use Rattle.book.specs.Records.{signedAt, valuesAt}
 use Rattle.records.specs.declared.articles.ArticleParts.{ArticleParts}
 use Rattle.records.specs.declared.packagings.Packing.{Packing}
@@ -42,11 +43,17 @@ pub record SchemeBounds (s : Scheme) : Type 0 where
 abbrev pub ValuesIn : List ℤ → Type 0
 ValuesIn zs = (i : ℕ) → natAbs (getD zs i (pos 0)) ≤ 10_000_000
 
+-- a packaging's values are in bounds, and 0 where they are not present; its units have three letters each
+pub record PackBounds (p : Pack) : Type 0 where
+  pub values-in : ValuesIn (p .values)
+  pub absent : zeroUnlessPresent (p .present) (p .values) ≡ true
+  pub letters : All (λ u. length u ≡ 3) (p .units)
+
 abbrev pub Bounded : Record → Type 0
 Bounded (ArticleRecord a) = Unit {0}
 Bounded (PriceRecord r) = inBounds (r .value) ≡ true
 Bounded (RoundingRecord r) = RoundingBounds r
-Bounded (PackagingRecord p) = ValuesIn (p .values)
+Bounded (PackagingRecord p) = PackBounds p
 Bounded (SchemeRecord s) = SchemeBounds s
 
 -- ---- an article

@@ -16,4 +16,5 @@ pub mod CalendarLaws
 pub mod StaysLaws
 pub mod WalkLaws
 pub mod CallLaws
+pub mod PackagingLaws
 pub mod Promises

@@ -1,0 +1,9 @@
+pub mod PlaceLaws
+pub mod WalkLaws
+pub mod UnitLaws
+pub mod ValueLaws
+pub mod SumLaws
+pub mod AnswerLaws
+pub mod CallLaws
+pub mod AbsentLaws
+pub mod Promises
