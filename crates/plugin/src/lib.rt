@@ -1,9 +1,11 @@
 // The calls that a planning tool links: thin, total, each with the contract of the call behind it.
+use rules::PackagingAnswer;
 use rules::PriceAnswer;
 use rules::TextAnswer;
 use rules::Written;
 ghost use mathlib.Core.Path.{_≡_};
-ghost use Rattle.rules.specs.Text.{text, shown};
+ghost use Rattle.rules.specs.Packaging as Packaging;
+ghost use Rattle.rules.specs.Text as Text;
 ghost use Rattle.price.specs.Call.{PriceIs};
 ghost use Rattle.calendar.specs.Calls.{CalendarIs};
 ghost use Rattle.order_number.specs.Ensures.{NumberCall};
@@ -30,8 +32,15 @@ pub extern "C" fn rafttwine_final_number(book: &[u8], question: &[u8], out: &mut
 }
 
 #[no_mangle]
+pub extern "C" fn rafttwine_packaging(book: &[u8], question: &[u8]) -> PackagingAnswer
+    ensures { λ r. ⌜ r ≡ Packaging.shown (Packaging.packaging (now (book .entry)) (now (question .entry))) ⌝ }
+{
+    cartons::packaging(book, question)
+}
+
+#[no_mangle]
 pub extern "C" fn rafttwine_text(asked: &[u8], fallback: &[u8], number: u32) -> TextAnswer
-    ensures { λ r. ⌜ r ≡ shown (text (now (asked .entry)) (now (fallback .entry)) number) ⌝ }
+    ensures { λ r. ⌜ r ≡ Text.shown (Text.text (now (asked .entry)) (now (fallback .entry)) number) ⌝ }
 {
     texts::text_answer(asked, fallback, number)
 }
