@@ -7,7 +7,7 @@ pub const LAST_YEAR: u32 = 9999;
 pub const LONGEST_PERIOD: usize = 1_096;
 
 fn is_leap_year(year: u32) -> bool {
-    (year.is_multiple_of(4) && !year.is_multiple_of(100)) || year.is_multiple_of(400)
+    (year % 4 == 0 && year % 100 != 0) || year % 400 == 0
 }
 
 fn days_of_month(year: u32, month: u32) -> u32 {

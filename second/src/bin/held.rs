@@ -239,7 +239,7 @@ fn main() -> ExitCode {
     for index in 0..arguments.cases {
         let case = Case::generate(arguments.seed, index);
         let name = format!("{}-{index}", arguments.seed);
-        let in_turn = index.is_multiple_of(arguments.every);
+        let in_turn = index % arguments.every == 0;
         let other_program = arguments.program.as_ref().filter(|_| in_turn);
         if !holds(&name, &case, other_program, &mut counts) {
             return ExitCode::FAILURE;

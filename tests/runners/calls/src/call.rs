@@ -1,0 +1,102 @@
+//! A call, and its test: its vectors, its rows and its example in the document.
+
+use crate::document::{Cells, Document};
+use crate::lent::Fill;
+use crate::shorter::shorter;
+use crate::vector::{Answer, Run, Vector};
+use std::fmt::Debug;
+
+/// The names under which the document has what is handed to a call; a call without extra or room has none.
+pub struct Names {
+    pub first: &'static str,
+    pub second: &'static str,
+    pub extra: Option<&'static str>,
+    pub room: Option<&'static str>,
+}
+
+pub struct Call<A: 'static, T: 'static> {
+    /// As C has it.
+    pub name: &'static str,
+    /// The refusals it can give, in the order in which it looks for them.
+    pub refusals: &'static [u8],
+    pub implementations: &'static [(&'static str, Run<A, T>)],
+    /// How lent memory is filled beforehand.
+    pub fill: Fill<T>,
+    pub names: Names,
+    /// The answer and what is written, as the document's example has them.
+    pub example: fn(&Cells) -> (A, Vec<T>),
+    pub vectors: Vec<Vector<A, T>>,
+}
+
+impl<A: Answer, T: Copy + PartialEq + Debug> Call<A, T> {
+    /// Tests the call; true if all went well.
+    pub fn good(&self, document: &Document) -> bool {
+        let rows = document.rows(self.name);
+        let listed: Vec<u8> = rows.iter().map(|row| row.number("Number")).collect();
+        let mut wrong: usize = self.vectors.iter().map(|vector| self.wrong(vector)).sum();
+        wrong += rows.iter().map(|row| self.wrong_row(row)).sum::<usize>();
+        wrong += self.wrong(&self.example_vector(&document.example(self.name)));
+        if listed != self.refusals {
+            wrong += 1;
+            println!("WRONG, {}: the document lists the refusals {listed:?}, not {:?}", self.name, self.refusals);
+        }
+        let through: Vec<&str> = self.implementations.iter().map(|(who, _)| *who).collect();
+        let (name, vectors, rows, through) = (self.name, self.vectors.len(), rows.len(), through.join(" and "));
+        println!("{name}: {vectors} vectors, {rows} refusals and an example of the document, through {through}: {wrong} wrong");
+        wrong == 0 && vectors > 0
+    }
+
+    /// Runs a vector through every implementation; how many did something else.
+    fn wrong(&self, vector: &Vector<A, T>) -> usize {
+        let due = vector.due(self.fill);
+        let mut wrong = 0;
+        for (who, call) in self.implementations {
+            let got = vector.run(self.fill, *call);
+            if got != due {
+                wrong += 1;
+                println!("WRONG, {} through {who}: {}\n    due {due:?}\n    got {got:?}", self.name, vector.shows);
+            }
+        }
+        wrong
+    }
+
+    /// A row of the document has its refusal with nothing lent, and as many bytes as it says; no shorter input has that refusal.
+    fn wrong_row(&self, row: &Cells) -> usize {
+        let (first, second) = (row.bytes(self.names.first), row.bytes(self.names.second));
+        let (number, extra) = (row.number("Number"), self.names.extra.map_or(0, |name| row.number(name)));
+        let vector = Vector::refused(row.text("When"), &first, &second, number).extra(extra).room(0);
+        let mut wrong = self.wrong(&vector);
+        if first.len() + second.len() != row.number::<usize>("Bytes") {
+            wrong += 1;
+            println!(
+                "WRONG, {}: {} and {} bytes are not what the row of refusal {number} says",
+                self.name,
+                first.len(),
+                second.len()
+            );
+        }
+        let with_first = shorter(&first).into_iter().map(|first| Vector { first, ..vector.clone() });
+        let with_second = shorter(&second).into_iter().map(|second| Vector { second, ..vector.clone() });
+        let as_short = |vector: &Vector<A, T>| {
+            self.implementations.iter().any(|(_, call)| vector.run(self.fill, *call).answer.number() == number)
+        };
+        if let Some(found) = with_first.chain(with_second).find(as_short) {
+            wrong += 1;
+            println!("WRONG, {}: refusal {number} has a shorter input: {:02x?} {:02x?}", self.name, found.first, found.second);
+        }
+        wrong
+    }
+
+    fn example_vector(&self, cells: &Cells) -> Vector<A, T> {
+        let (answer, written) = (self.example)(cells);
+        Vector {
+            shows: "the example of the document".to_string(),
+            first: cells.bytes(self.names.first),
+            second: cells.bytes(self.names.second),
+            extra: self.names.extra.map_or(0, |name| cells.number(name)),
+            room: self.names.room.map_or(0, |name| cells.number(name)),
+            answer,
+            written,
+        }
+    }
+}

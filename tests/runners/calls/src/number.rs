@@ -1,0 +1,70 @@
+//! The final article number: its implementations, and its vectors.
+
+mod refusals;
+mod schemes;
+mod values;
+
+use crate::call::{Call, Names};
+use crate::document::Cells;
+use second::compare::pattern;
+use second::make::{self, latin1, Article, Question, Scheme};
+use second::Written;
+
+#[cfg(feature = "number")]
+fn linked(book: &[u8], question: &[u8], out: &mut [u8]) -> Written {
+    extern "C" {
+        fn rafttwine_final_number(
+            book: *const u8,
+            book_length: usize,
+            question: *const u8,
+            question_length: usize,
+            out: *mut u8,
+            out_length: usize,
+        ) -> Written;
+    }
+    // Sound: each pointer and length are those of one slice, borrowed for the whole call; any bytes make an answer.
+    unsafe { rafttwine_final_number(book.as_ptr(), book.len(), question.as_ptr(), question.len(), out.as_mut_ptr(), out.len()) }
+}
+
+type Vector = crate::vector::Vector<Written, u8>;
+
+/// A number that is written, with five bytes more room than it needs.
+fn written(shows: &str, book: &[u8], question: &Question, number: &str) -> Vector {
+    let written = latin1(number);
+    Vector {
+        room: written.len() + 5,
+        answer: Written { length: written.len() as u64, number: 0 },
+        written,
+        ..Vector::refused(shows, book, &question.bytes(), 0)
+    }
+}
+
+fn example(cells: &Cells) -> (Written, Vec<u8>) {
+    (Written { length: cells.number("length"), number: cells.number("number") }, cells.bytes("Written"))
+}
+
+pub fn call() -> Call<Written, u8> {
+    Call {
+        name: "rafttwine_final_number",
+        refusals: &[1, 2, 3, 7],
+        implementations: &[
+            ("second", |book, question, _, out| second::final_number(book, question, out)),
+            #[cfg(feature = "number")]
+            ("the archive", |book, question, _, out| linked(book, question, out)),
+        ],
+        fill: pattern,
+        names: Names { first: "Book", second: "Question", extra: None, room: Some("Room") },
+        example,
+        vectors: [values::vectors(), schemes::vectors(), refusals::vectors()].concat(),
+    }
+}
+
+/// A book of one article and its scheme, which must be named `S`.
+fn book(article: &str, scheme: Scheme) -> Vec<u8> {
+    make::book(&[Article::new(article, "S").into(), scheme.into()])
+}
+
+/// The number of an article on a day that does not matter.
+fn ask(article: &str) -> Question {
+    Question::new(article, 20240615)
+}

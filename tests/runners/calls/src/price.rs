@@ -1,0 +1,121 @@
+//! The price call: its implementations, and how its vectors are written.
+
+mod choice;
+mod currency;
+mod granted;
+mod refusals;
+mod rounding;
+mod sums;
+mod totals;
+
+use crate::call::{Call, Names};
+use crate::document::Cells;
+use crate::parts::hex;
+use second::compare::pattern;
+use second::make::Question;
+use second::PriceAnswer;
+
+#[cfg(feature = "price")]
+fn linked(book: &[u8], question: &[u8], lines: &mut [u8]) -> PriceAnswer {
+    extern "C" {
+        fn rafttwine_price(
+            book: *const u8,
+            book_length: usize,
+            question: *const u8,
+            question_length: usize,
+            lines: *mut u8,
+            lines_length: usize,
+        ) -> PriceAnswer;
+    }
+    // Sound: each pointer and length are those of one slice, borrowed for the whole call; any bytes make an answer.
+    unsafe { rafttwine_price(book.as_ptr(), book.len(), question.as_ptr(), question.len(), lines.as_mut_ptr(), lines.len()) }
+}
+
+/// A line: text number, level, place of its granted name, amount.
+type Line = (u32, char, u8, i64);
+
+fn line_bytes((text, level, place, amount): &Line) -> Vec<u8> {
+    [&text.to_be_bytes()[..], &[*level as u8, *place], &amount.to_be_bytes()].concat()
+}
+
+type Vector = crate::vector::Vector<PriceAnswer, u8>;
+
+impl Vector {
+    /// An answer in euros for one piece with nothing unused, unless more is said, and five bytes more room than are needed.
+    fn answered(shows: &str, book: &[u8], question: &Question, lines: &[Vec<u8>], unit: i64) -> Self {
+        let written = lines.concat();
+        Vector {
+            shows: shows.to_string(),
+            first: book.to_vec(),
+            second: question.bytes(),
+            extra: 0,
+            room: written.len() + 5,
+            answer: PriceAnswer { unit, total: unit, lines: lines.len() as u64, currency: *b"EUR", ..PriceAnswer::default() },
+            written,
+        }
+    }
+
+    fn priced(shows: &str, book: &[u8], question: &Question, lines: &[Line], unit: i64) -> Self {
+        let lines: Vec<Vec<u8>> = lines.iter().map(line_bytes).collect();
+        Vector::answered(shows, book, question, &lines, unit)
+    }
+
+    /// The lines as bytes in hex.
+    fn in_hex(shows: &str, book: &[u8], question: &Question, lines: &[&str], unit: i64) -> Self {
+        let lines: Vec<Vec<u8>> = lines.iter().map(|line| hex(line).expect("hex digits")).collect();
+        Vector::answered(shows, book, question, &lines, unit)
+    }
+
+    fn total(mut self, total: i64) -> Self {
+        self.answer.total = total;
+        self
+    }
+
+    fn currency(mut self, currency: &[u8; 3]) -> Self {
+        self.answer.currency = *currency;
+        self
+    }
+
+    fn unused(mut self, set: u32, count: u8) -> Self {
+        (self.answer.unused, self.answer.unused_count) = (set, count);
+        self
+    }
+}
+
+fn example(cells: &Cells) -> (PriceAnswer, Vec<u8>) {
+    let answer = PriceAnswer {
+        unit: cells.number("unit"),
+        total: cells.number("total"),
+        lines: cells.number("lines"),
+        unused: cells.number("unused"),
+        unused_count: cells.number("unused_count"),
+        number: cells.number("number"),
+        currency: cells.array("currency"),
+    };
+    (answer, cells.bytes("Written"))
+}
+
+pub fn call() -> Call<PriceAnswer, u8> {
+    let vectors = [
+        sums::vectors(),
+        choice::vectors(),
+        currency::vectors(),
+        granted::vectors(),
+        rounding::vectors(),
+        totals::vectors(),
+        refusals::vectors(),
+    ];
+    Call {
+        name: "rafttwine_price",
+        refusals: &[1, 2, 3, 4, 5, 6, 7],
+        implementations: &[
+            ("second", |book, question, _, lines| second::price(book, question, lines)),
+            #[cfg(feature = "price")]
+            ("the archive", |book, question, _, lines| linked(book, question, lines)),
+        ],
+        fill: pattern,
+        names: Names { first: "Book", second: "Question", extra: None, room: Some("Room") },
+        example,
+        vectors: vectors.concat(),
+    }
+}

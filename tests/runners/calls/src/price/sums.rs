@@ -1,0 +1,67 @@
+//! The sums P1 to P7, byte by byte.
+
+use super::Vector;
+use crate::book;
+use crate::parts::{ask, base, share, DAY};
+use second::make::Rounding;
+
+pub fn vectors() -> Vec<Vector> {
+    [p1_to_p4(), p5_and_p6(), p7()].concat()
+}
+
+/// Book K. The text numbers show each of their four bytes, and that they have no sign.
+fn k() -> Vec<u8> {
+    book![
+        base(0x0102_0304, 10_000).dates(20240101, 20240630),
+        base(0xFFFF_FFFF, 10_500).dates(20240701, 20241231),
+        share(7, b'X', 1, 1_250).condition("OAK"),
+        share(0x8000_0000, b'D', 2, -333),
+    ]
+}
+
+fn p1_to_p4() -> Vec<Vector> {
+    let (k, oak) = (k(), ["oak"]);
+    // 12.5 % of 10000 is 1250; 3.33 % of 11250 is 374.625.
+    let p1 = ["01020304 42 00 0000000000002710", "00000007 58 01 00000000000004e2", "80000000 44 00 fffffffffffffe89"];
+    // 12.5 % of 10500 is 1312.5, a half; 3.33 % of 11813 is 393.3729.
+    let p2 = ["ffffffff 42 00 0000000000002904", "00000007 58 01 0000000000000521", "80000000 44 00 fffffffffffffe77"];
+    let p3 = ["01020304 42 00 0000000000002710", "80000000 44 00 fffffffffffffeb3"];
+    vec![
+        Vector::in_hex("P1: the last day of the first half of 2024, with oak", &k, &ask(20240630).granted(&oak), &p1, 10_875),
+        Vector::in_hex("P1 three times over", &k, &ask(20240630).granted(&oak).quantity(3), &p1, 10_875).total(32_625),
+        Vector::in_hex("P2: the day after, with oak", &k, &ask(20240701).granted(&oak), &p2, 11_420),
+        Vector::in_hex("P3: the last day of the first half, without oak", &k, &ask(20240630), &p3, 9_667),
+        Vector::refused("P4: no base row holds in 2025", &k, &ask(20250101).bytes(), 4),
+        Vector::refused("P4 with oak", &k, &ask(20250101).granted(&oak).bytes(), 4),
+        Vector::in_hex("K on its first day", &k, &ask(20240101), &p3, 9_667),
+        Vector::refused("K on the day before its first", &k, &ask(20231231).bytes(), 4),
+    ]
+}
+
+fn p5_and_p6() -> Vec<Vector> {
+    // One percent of 50 is half a cent; of -0.5 the nearest greater is 0.
+    let cheap = book![base(1, 50), share(2, b'D', 2, -100)];
+    let p5 = ["00000001 42 00 0000000000000032", "00000002 44 00 0000000000000000"];
+    let mut vectors = vec![Vector::in_hex("P5: half a cent of discount is none", &cheap, &ask(DAY), &p5, 50)];
+    // 12.5 % of 10500 is 1312.5 in each.
+    for (way, step, surcharge, unit) in [
+        (2, 5, "00000002 58 00 0000000000000523", 11_815),
+        (1, 100, "00000002 58 00 0000000000000578", 11_900),
+        (0, 100, "00000002 58 00 0000000000000514", 11_800),
+    ] {
+        let book = book![base(1, 10_500), share(2, b'X', 1, 1_250).rounding(1), Rounding::new(1, way, step)];
+        let shows = format!("P6: 1312.5 by way {way} and step {step}");
+        let lines = ["00000001 42 00 0000000000002904", surcharge];
+        vectors.push(Vector::in_hex(&shows, &book, &ask(DAY), &lines, unit));
+    }
+    vectors
+}
+
+fn p7() -> Vec<Vector> {
+    let book = book![base(1, 700).up_to(9), base(2, 600)];
+    let (few, many) = (["00000001 42 00 00000000000002bc"], ["00000002 42 00 0000000000000258"]);
+    vec![
+        Vector::in_hex("P7: nine take the row up to nine", &book, &ask(DAY).quantity(9), &few, 700).total(6_300),
+        Vector::in_hex("P7: ten take the row without a bound", &book, &ask(DAY).quantity(10), &many, 600).total(6_000),
+    ]
+}

@@ -1,0 +1,69 @@
+//! A vector: what is handed to a call, and what was worked out by hand that it does.
+
+use crate::lent::{due, lend, Fill, Outcome};
+use second::{PackagingAnswer, PriceAnswer, TextAnswer, Written};
+use std::fmt::Debug;
+
+/// What every answer has: its number, and zeros beside a refusal.
+pub trait Answer: Copy + PartialEq + Debug {
+    fn refused(number: u8) -> Self;
+    fn number(&self) -> u8;
+}
+
+macro_rules! answers {
+    ($($answer:ty)*) => {
+        $(impl Answer for $answer {
+            fn refused(number: u8) -> Self {
+                Self { number, ..Self::default() }
+            }
+
+            fn number(&self) -> u8 {
+                self.number
+            }
+        })*
+    };
+}
+
+answers!(PriceAnswer Written PackagingAnswer TextAnswer);
+
+/// A call as all calls can be called: two byte strings to read, a number where the call takes one, lent memory where it writes.
+pub type Run<A, T> = fn(&[u8], &[u8], u32, &mut [T]) -> A;
+
+#[derive(Clone)]
+pub struct Vector<A, T> {
+    pub shows: String,
+    pub first: Vec<u8>,
+    pub second: Vec<u8>,
+    pub extra: u32,
+    pub room: usize,
+    pub answer: A,
+    pub written: Vec<T>,
+}
+
+impl<A: Answer, T: Copy + PartialEq + Debug> Vector<A, T> {
+    /// A refusal, with some lent memory that must stay as it was.
+    pub fn refused(shows: &str, first: &[u8], second: &[u8], number: u8) -> Self {
+        let (first, second) = (first.to_vec(), second.to_vec());
+        Vector { shows: shows.to_string(), first, second, extra: 0, room: 60, answer: A::refused(number), written: Vec::new() }
+    }
+
+    pub fn room(mut self, room: usize) -> Self {
+        self.room = room;
+        self
+    }
+
+    pub fn extra(mut self, extra: u32) -> Self {
+        self.extra = extra;
+        self
+    }
+
+    /// All that is to be seen afterwards.
+    pub fn due(&self, fill: Fill<T>) -> Outcome<A, T> {
+        due(fill, self.room, self.answer, &self.written)
+    }
+
+    /// All that is to be seen after an implementation ran.
+    pub fn run(&self, fill: Fill<T>, call: Run<A, T>) -> Outcome<A, T> {
+        lend(fill, self.room, |out| call(&self.first, &self.second, self.extra, out))
+    }
+}
