@@ -1,0 +1,91 @@
+"""The calls: bytes in, an answer out, or `Refused` with the reason."""
+from __future__ import annotations
+
+from ctypes import c_uint8
+from datetime import date
+from struct import iter_unpack
+from typing import Any, Optional, Union
+
+from .answers import DayPrice, Line, Packaging, Price, Source, Stretch, Text
+from .library import StretchRecord, call
+from .refusals import Refusal, Refused
+from .words import Level, day_number, day_of
+
+# A line and a stretch as they are written, and the most that there can be of each.
+LINE = ">IcBq"
+LINE_BYTES = 14
+MOST_LINES = 99
+STRETCH = ">IIB3sq"
+STRETCH_BYTES = 20
+MOST_STRETCHES = 1096
+MOST_NUMBER_BYTES = 1256
+
+
+def _accepted(answer: Any) -> Any:
+    if answer.number != 0:
+        raise Refused(Refusal(answer.number))
+    return answer
+
+
+def price(book: bytes, question: bytes) -> Price:
+    """The itemised price of the article asked for."""
+    lines = (c_uint8 * (MOST_LINES * LINE_BYTES))()
+    answer = _accepted(call("price", book, question, lines))
+    written = bytes(lines)[:answer.lines * LINE_BYTES]
+    return Price(
+        unit=answer.unit, total=answer.total, currency=_letters(answer.currency),
+        lines=tuple(Line(text, Level(level), place, amount) for text, level, place, amount in iter_unpack(LINE, written)),
+        unused=tuple(bit + 1 for bit in range(32) if answer.unused >> bit & 1),
+    )
+
+
+def calendar(book: bytes, question: bytes, end: date) -> tuple[Stretch, ...]:
+    """The price calendar from the question's day to `end`: every longest stretch of days with one outcome, in the order of days."""
+    out = (c_uint8 * (MOST_STRETCHES * STRETCH_BYTES))()
+    answer = _accepted(call("calendar", book, question, day_number(end), out))
+    return tuple(_stretch(*fields) for fields in iter_unpack(STRETCH, bytes(out)[:answer.length]))
+
+
+def calendar_list(book: bytes, question: bytes, end: date) -> tuple[Stretch, ...]:
+    """The same calendar, handed over by the library as a list of records and not as bytes."""
+    out = (StretchRecord * MOST_STRETCHES)()
+    answer = _accepted(call("calendar_list", book, question, day_number(end), out))
+    return tuple(_stretch(one.first, one.last, one.refusal, bytes(one.currency), one.unit) for one in out[:answer.length])
+
+
+def final_number(book: bytes, question: bytes) -> str:
+    """The final article number: the base number with the properties' values."""
+    out = (c_uint8 * MOST_NUMBER_BYTES)()
+    answer = _accepted(call("final_number", book, question, out))
+    return _letters(out[:answer.length])
+
+
+def packaging(book: bytes, question: bytes) -> Packaging:
+    """The packaging data of the plain article, with what the granted conditions add."""
+    answer = _accepted(call("packaging", book, question))
+    values = [value if answer.present >> bit & 1 else None for bit, value in enumerate(answer.values)]
+    tare, net, items = values[4:7]
+    gross = None if tare is None or net is None or items is None else answer.gross
+    units = [_unit(answer.units[at:at + 3]) for at in (0, 3, 6)]
+    return Packaging(*(*values, gross, *units))
+
+
+def text(asked: bytes, fallback: bytes, number: int) -> Text:
+    """The text of a line, from the asked text book or else from the fallback."""
+    answer = _accepted(call("text", asked, fallback, number))
+    source = Source(answer.book)
+    book = asked if source is Source.ASKED else fallback
+    return Text(source, answer.place, memoryview(book)[answer.place:answer.place + answer.length])
+
+
+def _stretch(first: int, last: int, refusal: int, currency: bytes, unit: int) -> Stretch:
+    outcome: Union[DayPrice, Refusal] = Refusal(refusal) if refusal else DayPrice(unit, _letters(currency))
+    return Stretch(day_of(first), day_of(last), outcome)
+
+
+def _unit(letters: Any) -> Optional[str]:
+    return _letters(letters) if any(letters) else None
+
+
+def _letters(numbers: Any) -> str:
+    return bytes(numbers).decode("latin-1")

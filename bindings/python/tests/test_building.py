@@ -1,0 +1,39 @@
+"""Books and questions of readable values, the words of refusals, and the example that the package shows first."""
+import doctest
+import unittest
+from datetime import date
+
+import rafttwine
+from rafttwine import Article, Level, Percent, PriceRow, Property, Refusal, Refused, Rule, Sort, book, question, text_book
+
+
+class BuildingTest(unittest.TestCase):
+    def test_bytes_of_a_book(self) -> None:
+        row = PriceRow("A1", Level.DISCOUNT, Percent("-3.33"), condition="ASH", rule=Rule.OF_TOTAL_SO_FAR, sort=Sort.PURCHASE,
+                       currency="USD", first=date(2024, 1, 2), last=date(9999, 12, 31), up_to=258, rounding=772, text=16909060)
+        self.assertEqual(book(Article("A1", "S"), row), b"\0\0\0\x34\x01"
+                         b"\0\x06\x01\x02A1\x01S"
+                         b"\0\x25\x02\x02A1\x03ASHPD\x02\x01\x02\x03\x04\0\xff\xff\xfe\xb3USD"
+                         b"\x01\x34\xd6\xe6\x05\xf5\xbe\xbf\0\0\x01\x02\x03\x04")
+
+    def test_bytes_of_a_question_and_of_a_text_book(self) -> None:
+        asked = question("A1", date(2024, 1, 2), 9, ["ash"], [Property(2, "W"), Property(3, hidden=True), Property(4)])
+        self.assertEqual(asked, b"\0\0\0\x24\x01\x02A1S\0\0\0\x01\x34\xd6\xe6\0\0\0\x09\x01\x03ash"
+                         b"\x03\x02\0\x01W\x03\x01\0\x04\x02\0")
+        self.assertEqual(text_book({1: b"a\0"}), b"\0\0\0\x0d\x01\0\0\0\x01\0\x02a\0")
+
+    def test_what_does_not_fit_is_an_error(self) -> None:
+        with self.assertRaises(ValueError):
+            Percent("0.001").hundredths()
+        with self.assertRaises(OverflowError):
+            question("A1", date.max, quantity=1 << 32)
+        with self.assertRaises(UnicodeEncodeError):
+            book(Article("\N{EURO SIGN}"))
+
+    def test_each_refusal_has_its_number_and_words(self) -> None:
+        self.assertEqual([refusal.value for refusal in Refusal], list(range(1, 13)))
+        for refusal in Refusal:
+            self.assertEqual(str(Refused(refusal)), f"{refusal.reason} (refusal {refusal.value})")
+
+    def test_first_example(self) -> None:
+        self.assertEqual(doctest.testmod(rafttwine), (0, 5))

@@ -1,0 +1,11 @@
+"""The calendar call that fills a list of records."""
+from checks import CALENDAR, REFUSED_CALENDARS, STRETCHES, CallTest
+from rafttwine import calendar_list
+
+
+class CalendarListTest(CallTest):
+    def test_every_longest_stretch(self) -> None:
+        self.assertEqual(calendar_list(*CALENDAR), STRETCHES)
+
+    def test_refusals(self) -> None:
+        self.refuses(calendar_list, REFUSED_CALENDARS)

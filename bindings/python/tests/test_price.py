@@ -1,0 +1,38 @@
+"""The price call."""
+from checks import CallTest
+from samples import BOOK, DISCOUNT, OAK, QUESTIONS, TABLE
+from rafttwine import Level, Line, Refusal, price
+
+
+class PriceTest(CallTest):
+    def test_lines_total_and_unused_names(self) -> None:
+        answer = price(BOOK, QUESTIONS["june_oak"])
+        self.assertEqual(answer.lines, (
+            Line(TABLE, Level.BASE, 0, 10_000),
+            Line(OAK, Level.SURCHARGE, 1, 1_250),
+            Line(DISCOUNT, Level.DISCOUNT, 0, -375),
+        ))
+        self.assertEqual((answer.unit, answer.total, answer.currency, answer.unused), (10_875, 3 * 10_875, "EUR", (2,)))
+
+    def test_other_sums_worked_by_hand(self) -> None:
+        for name, amounts in {
+            "july_oak": [10_500, 1_313, -393],
+            "june": [10_000, -333],
+            "fives": [10_500, 1_315],
+            "euros": [10_500, 1_400],
+        }.items():
+            with self.subTest(name):
+                answer = price(BOOK, QUESTIONS[name])
+                self.assertEqual([line.amount for line in answer.lines], amounts)
+                self.assertEqual((answer.unit, answer.unused), (sum(amounts), ()))
+
+    def test_refusals(self) -> None:
+        self.refuses(price, (
+            (Refusal.BROKEN_BOOK, (BOOK[:-1], QUESTIONS["june"])),
+            (Refusal.BROKEN_BOOK, (b"", QUESTIONS["june"])),
+            (Refusal.BROKEN_QUESTION, (BOOK, b"")),
+            (Refusal.NO_ARTICLE, (BOOK, QUESTIONS["missing"])),
+            (Refusal.NO_BASE_LINE, (BOOK, QUESTIONS["next_year"])),
+            (Refusal.MIXED_CURRENCIES, (BOOK, QUESTIONS["mixed"])),
+            (Refusal.TOTAL_OUT_OF_RANGE, (BOOK, QUESTIONS["huge"])),
+        ))

@@ -1,0 +1,52 @@
+//! Prices of furniture by the Rafttwine library: itemised prices, price calendars, final article numbers, packaging data and the
+//! texts of lines. The library is proved to answer by the rules on all bytes; this crate makes its calls safe and its answers typed.
+//!
+//! A call takes books and questions as bytes, and writes into bytes that you lend. It needs no heap, keeps nothing, and may run in any
+//! number of threads at once. What has no answer is a [`Refusal`].
+//!
+//! ```
+//! # std::env::set_current_dir(std::env::var_os("RAFTTWINE_SAMPLES").expect("the samples' folder"))?;
+//! let book = std::fs::read("sample.book")?;
+//! let question = std::fs::read("june_oak.question")?;
+//! let mut room = [0; rafttwine::PRICE_ROOM];
+//! let price = rafttwine::price(&book, &question, &mut room)?;
+//! assert_eq!((price.unit, price.currency.as_str()), (10_875, "EUR"));
+//! for line in price.lines() {
+//!     println!("{:?} {}", line.level, line.amount);
+//! }
+//! # Ok::<(), Box<dyn std::error::Error>>(())
+//! ```
+//!
+//! Amounts are whole cents, days are numbers yyyymmdd. Build with the environment variable `RAFTTWINE_ARCHIVE` naming the file
+//! librafttwine.a.
+
+#![warn(missing_docs)]
+
+#[cfg(not(feature = "lacks_calendar"))]
+mod calendar;
+#[cfg(not(feature = "lacks_calendar_list"))]
+mod calendar_list;
+mod currency;
+#[cfg(not(feature = "lacks_final_number"))]
+mod final_number;
+#[cfg(not(feature = "lacks_packaging"))]
+mod packaging;
+mod price;
+pub mod raw;
+mod refusal;
+mod stretch;
+mod text;
+
+#[cfg(not(feature = "lacks_calendar"))]
+pub use calendar::{calendar, Stretches, CALENDAR_ROOM};
+#[cfg(not(feature = "lacks_calendar_list"))]
+pub use calendar_list::calendar_list;
+pub use currency::Currency;
+#[cfg(not(feature = "lacks_final_number"))]
+pub use final_number::{final_number, NUMBER_ROOM};
+#[cfg(not(feature = "lacks_packaging"))]
+pub use packaging::{packaging, Packaging, Unit};
+pub use price::{price, Level, Line, Lines, Price, PRICE_ROOM};
+pub use refusal::Refusal;
+pub use stretch::{DayPrice, Stretch, MOST_STRETCHES};
+pub use text::{text, Source, Text};

@@ -1,0 +1,186 @@
+/*
+ * Rafttwine for C and C++: prices, price calendars, final article numbers, packaging data and line texts for planning tools.
+ *
+ * A maker's price rows stand in a price book, a string of bytes that was packed beforehand; what the lines of a price are called stands
+ * in text books. A tool lends a book together with a question: which article, on which day, how many, and which conditions the planned
+ * piece grants. The calls work on lent bytes alone and are proved to answer by the rules, on every input.
+ *
+ * WHAT YOU MAY COUNT ON
+ *
+ * - Lend any bytes of any length. What is no book, or no question, or has no answer gets a refusal number, in a fixed order. Beside a
+ *   refusal every other field is 0, and no lent byte is written.
+ * - A call that is not refused writes the front of the lent output, and leaves what stands behind that as it was.
+ * - Every call returns. None keeps or shares anything: no heap, no globals, no locks, no files, no clock, no locale, no errno. So any
+ *   number of threads may call at once, over the same book too, and the same bytes always give the same answer.
+ * - Of the C library only memcpy and memset are called.
+ * - No call takes more than RAFTTWINE_STACK_BYTES of stack. This is measured and not proved: a test runs each call on a painted stack
+ *   and fails if more of it was touched.
+ *
+ * WHAT YOU OWE
+ *
+ * - A pointer leads to as many bytes, or list records, as the length behind it says. They can be read, and those of an output written.
+ * - Until the call returns nobody else writes what you lent, and nobody else reads an output.
+ * - An output overlaps no input. Inputs may overlap: the asked text book may be the fallback too.
+ * - A list of rafttwine_stretch is aligned as that type is. Bytes may start anywhere.
+ * - Where a length is 0 the pointer is not followed. It may then be null.
+ *
+ * WHAT A QUESTION LOOKS LIKE
+ *
+ * Numbers are big-endian. A name is a byte with its length and then that many Latin-1 bytes, each 32 to 126 or 160 to 255.
+ *
+ *   4 bytes   the length of the whole question, these four included
+ *   1 byte    1, the version
+ *   a name    the article's number, of 1 to 40 bytes
+ *   1 byte    'S' for sale prices, 'P' for purchase prices
+ *   3 bytes   the currency you would like, three capitals; three zeros if any will do
+ *   4 bytes   the day, as the number yyyymmdd
+ *   4 bytes   the quantity, 1 to 100000
+ *   1 byte    how many conditions are granted, at most 32; then each of them, a name of 1 to 20 bytes. Small letters a to z count as
+ *             capitals. A condition's place is its position in this list, from 1
+ *   1 byte    how many properties there are, at most 32; then for each of them
+ *                1 byte   its width in the final article number, 1 to 30
+ *                1 byte   0 if it has a value, 1 if it is hidden, 2 if nothing is selected
+ *                a name   its value, of 1 to width bytes without spaces (32, 160) and backslashes; empty if it has none
+ *
+ * Nothing stands behind that.
+ */
+#ifndef RAFTTWINE_H
+#define RAFTTWINE_H
+
+#include <stddef.h>
+#include <stdint.h>
+
+#ifdef __cplusplus
+extern "C" {
+#endif
+
+/* The first number changes when a program has to be compiled anew. */
+#define RAFTTWINE_VERSION "1.0.0"
+
+/* More stack than any call takes. */
+#define RAFTTWINE_STACK_BYTES 32768
+
+/* What stands in the field `number` of every answer, and in `refusal` of a stretch. */
+enum rafttwine_refusal {
+    RAFTTWINE_DONE = 0,               /* not refused: the other fields hold the answer */
+    RAFTTWINE_BROKEN_BOOK = 1,        /* the price book, or one of the two text books, is not laid out as such a book */
+    RAFTTWINE_BROKEN_QUESTION = 2,    /* the question is not laid out as above, or its day is not in the calendar */
+    RAFTTWINE_NO_ARTICLE = 3,         /* the book does not have the article */
+    RAFTTWINE_NO_BASE_LINE = 4,       /* no base price of the article holds: it has no price that day, in that quantity */
+    RAFTTWINE_MIXED_CURRENCIES = 5,   /* a fixed amount among the lines is in another currency than the first base line */
+    RAFTTWINE_TOTAL_OUT_OF_RANGE = 6, /* adding up the lines, the total went beyond a thousand million cents, up or down */
+    RAFTTWINE_SHORT_OUTPUT = 7,       /* the lent output is shorter than what is to be written */
+    RAFTTWINE_NO_PACKAGING = 8,       /* the book has no packaging data for the plain article, no condition granted */
+    RAFTTWINE_BAD_PERIOD = 9,         /* the period's end is not in the calendar, or before its start, or over 1096 days are asked for */
+    RAFTTWINE_MANY_STRETCHES = 10,    /* over 1200 stretches; a period is too short for that, so nobody meets this number */
+    RAFTTWINE_UNFIT_PACKAGING = 11,   /* packaging data in different units, or a sum of them below zero */
+    RAFTTWINE_NO_TEXT = 12            /* neither text book has the number */
+};
+
+/* ---- The price of an article, line by line ---- */
+
+/* A line is written in 14 bytes, and a price has at most 99 of them: for each of three levels one without a condition, and one for
+ * each of 32 granted ones.
+ *
+ *   4 bytes   the line's text number, for rafttwine_text
+ *   1 byte    its level: 'B' base price, 'X' surcharge, 'D' discount
+ *   1 byte    the place of the granted condition that brought it, from 1; 0 for a line without a condition
+ *   8 bytes   its amount in cents, signed (two's complement)
+ *
+ * Lines come by level B, X, D; within a level first the one without a condition, then by place. */
+#define RAFTTWINE_LINE_BYTES 14
+#define RAFTTWINE_MOST_LINES 99
+
+typedef struct rafttwine_price_answer {
+    int64_t unit;         /* the price of one piece in cents: the sum of the lines' amounts */
+    int64_t total;        /* that times the quantity */
+    uint64_t lines;       /* how many lines were written */
+    uint32_t unused;      /* which granted conditions brought no line: the lowest bit for place 1; a repeated name is never among them */
+    uint8_t unused_count; /* how many those are */
+    uint8_t number;       /* 0, or the refusal: 1, 2, 3, 4, 5, 6, 7, the first that applies */
+    uint8_t currency[3];  /* the currency of the first base line, three capitals */
+} rafttwine_price_answer;
+
+rafttwine_price_answer rafttwine_price(const uint8_t *book, size_t book_length, const uint8_t *question, size_t question_length,
+                                       uint8_t *lines, size_t lines_length);
+
+/* ---- The text of a line ---- */
+
+typedef struct rafttwine_text_answer {
+    uint64_t place;  /* where the text starts in the book that has it, from 0; it is not copied */
+    uint64_t length; /* its length in bytes, which may be 0 */
+    uint8_t number;  /* 0, or the refusal: 1, 12, the first that applies */
+    uint8_t book;    /* 1: the asked book has it; 2: the fallback has it; 0: refused */
+} rafttwine_text_answer;
+
+/* Both books have to be good, even if the asked one has the text. */
+rafttwine_text_answer rafttwine_text(const uint8_t *asked, size_t asked_length, const uint8_t *fallback, size_t fallback_length,
+                                     uint32_t number);
+
+/* How much was written, by the calls that only write. */
+typedef struct rafttwine_written {
+    uint64_t length; /* in bytes; for a list, in records */
+    uint8_t number;  /* 0, or the refusal */
+} rafttwine_written;
+
+/* ---- The price calendar: from which day to which a price stays ---- */
+
+/* The period starts on the question's day and ends on the day `end`, a number yyyymmdd; both belong to it. It is cut into the longest
+ * stretches of days with one outcome, in the order of days. A stretch is written in 20 bytes:
+ *
+ *   4 bytes   its first day, yyyymmdd
+ *   4 bytes   its last day
+ *   1 byte    0, or why there is no price on these days: 4, 5 or 6; then zeros follow
+ *   3 bytes   the currency
+ *   8 bytes   the price of one piece in cents, signed (two's complement)
+ *
+ * The refusal of the call itself is 1, 2, 9, 3, 10 or 7, the first that applies. */
+#define RAFTTWINE_STRETCH_BYTES 20
+#define RAFTTWINE_MOST_STRETCHES 1096
+
+rafttwine_written rafttwine_calendar(const uint8_t *book, size_t book_length, const uint8_t *question, size_t question_length,
+                                     uint32_t end, uint8_t *out, size_t out_length);
+
+/* ---- The final article number: the base number with the properties' values ---- */
+
+/* Writes Latin-1 bytes with no zero behind them. The refusal is 1, 2, 3 or 7, the first that applies. */
+#define RAFTTWINE_MOST_NUMBER_BYTES 1256
+
+rafttwine_written rafttwine_final_number(const uint8_t *book, size_t book_length, const uint8_t *question, size_t question_length,
+                                         uint8_t *out, size_t out_length);
+
+/* ---- Packaging data: the plain article's, with what the granted conditions add ---- */
+
+typedef struct rafttwine_packaging_answer {
+    int64_t gross;     /* tare plus net times items, in thousandths of the weight's unit, if all three are present; otherwise 0 */
+    int64_t values[8]; /* width, height, depth, volume, tare weight, net weight in thousandths of their unit; items, packs as counts */
+    uint8_t number;    /* 0, or the refusal: 1, 2, 3, 8, 11, the first that applies */
+    uint8_t present;   /* which of the eight values are known, the lowest bit for width; one that is not known is 0 */
+    uint8_t units[9];  /* three letters each for lengths, volume and weights, such as MMT, LTR, KGM; three zeros where none is known */
+} rafttwine_packaging_answer;
+
+rafttwine_packaging_answer rafttwine_packaging(const uint8_t *book, size_t book_length, const uint8_t *question,
+                                               size_t question_length);
+
+/* ---- Announced: the calls below are not in the library yet. A call that has arrived moves above this line. ---- */
+#ifdef RAFTTWINE_TO_COME
+
+/* The same stretches as a list of records. */
+typedef struct rafttwine_stretch {
+    uint32_t first;      /* its first day, yyyymmdd */
+    uint32_t last;       /* its last day */
+    int64_t unit;        /* the price of one piece in cents */
+    uint8_t refusal;     /* 0, or why there is no price on these days: 4, 5 or 6 */
+    uint8_t currency[3]; /* three capitals */
+} rafttwine_stretch;
+
+rafttwine_written rafttwine_calendar_list(const uint8_t *book, size_t book_length, const uint8_t *question, size_t question_length,
+                                          uint32_t end, rafttwine_stretch *out, size_t out_count);
+
+#endif
+
+#ifdef __cplusplus
+}
+#endif
+
+#endif

@@ -1,0 +1,45 @@
+/* What the programs of this folder share. A program is main.c or stack.c with checks.c and the file that is named after a call. */
+#ifndef CALLS_H
+#define CALLS_H
+
+#include "rafttwine.h"
+
+/* The programs are also compiled for x86-64 on machines with an Arm processor, which have no headers of a C library for x86-64: what
+ * they call of it is declared here. */
+int chdir(const char *path);
+int close(int file);
+int memcmp(const void *one, const void *other, size_t length);
+void *memset(void *to, int byte, size_t length);
+int open(const char *path, int flags, ...);
+int printf(const char *format, ...);
+long read(int file, void *to, size_t most);
+
+/* A lent output is filled with this byte before a call, to see what was written. */
+#define UNTOUCHED 0xA5
+
+/* The four bytes of a number as the library writes it. */
+#define FOUR(number) \
+    (uint32_t)(number) >> 24 & 255, (uint32_t)(number) >> 16 & 255, (uint32_t)(number) >> 8 & 255, (uint32_t)(number) & 255
+
+typedef struct sample {
+    size_t length;
+    uint8_t bytes[4096];
+} sample;
+
+/* How many facts were as expected, and how many were not. */
+extern int right, wrong;
+
+/* A file of the samples' folder. One that is missing or too long counts as wrong. */
+sample read_sample(const char *name);
+
+void expect(const char *what, long long found, long long expected);
+void expect_bytes(const char *what, const void *found, const void *expected, size_t length);
+void expect_all(const char *what, int byte, const void *found, size_t length);
+
+/* Each call's file has these three: reads the samples that all its questions need; holds the call's answers to the expected ones; makes
+ * one call. */
+void prepare(void);
+void check_call(void);
+void one_call(void);
+
+#endif
