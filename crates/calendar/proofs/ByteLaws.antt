@@ -12,7 +12,7 @@ use mir.Val.{toZ, ofZ, SFits}
 use mir.ValLaws.{toZ-ofZ}
 use Rattle.rules.specs.Lists.{join}
 use Rattle.rules.specs.Bytes.{bytesOf, signedBytesOf}
-use Rattle.rules.specs.Calendar.{Stretch, stretchBytes, stretchesBytes, mostDays}
+use Rattle.rules.specs.Calendar.{Stretch, stretchBytes, stretchesBytes}
 use Rattle.layout.specs.Ensures.{Puts}
 use Rattle.layout.proofs.StoreLaws.{puts-of, puts-then, sets-of, sets-sets}
 use Rattle.stretches.specs.declared.turns.Run.{Run}

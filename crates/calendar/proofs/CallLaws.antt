@@ -10,14 +10,12 @@ use lib.Dec.{eqb, leb}
 use lib.ListN.{length, take, drop}
 use lib.Seq.{length-take-le}
 use borrow.Author.Tests.{eq-eqb, ne-eqb, eqb-false, le-leb, lt-leb, leb-true}
-use Rattle.rules.specs.Book.{Record, articleOf}
+use Rattle.rules.specs.Book.{articleOf}
 use Rattle.rules.specs.BookLayout.{records}
-use Rattle.rules.specs.Question.{Question, questionOf}
+use Rattle.rules.specs.Question.{questionOf}
 use Rattle.rules.specs.Refusals.{Result, done, refused, _>>=_, orRefuse, refuseUnless, lentAfter}
-use Rattle.rules.specs.Calendar.{Stretch, stretches, outcome, periodTo, mostDays, stretchesBytes, calendarIn, calendar, shownBytes}
-use Rattle.rules.specs.declared.Written.{Written}
+use Rattle.rules.specs.Calendar.{Stretch, stretches, outcome, periodTo, stretchesBytes, calendarIn, calendar, shownBytes}
 use Rattle.layout.specs.Ensures.{Puts}
-use Rattle.stretches.specs.declared.runs.Runs.{Runs}
 use Rattle.calendar.specs.declared.listing.Listing.{Listing}
 use Rattle.calendar.specs.Calls.{CalendarIs}
 use Rattle.calendar.specs.Listing.{within, listing, finished, stretchesIn, listed, ListingIs, refusalOf, RefusalIs, Writable}

@@ -19,7 +19,7 @@ use Rattle.rules.specs.Calendar.{Stretch, stretches, outcome, periodTo, mostDay
 use Rattle.rules.specs.Changes.{dated, movingRows, daysOfChange, changes, isChange}
 use Rattle.rules.proofs.StaysLaws.{stays-next}
 use Rattle.rules.proofs.CalendarLaws.{period-days, period-end, period-count}
-use Rattle.book.specs.Records.{recordsLeft, recordsFrom, recordsOf, listed as recordsIn}
+use Rattle.book.specs.Records.{recordsLeft, listed as recordsIn}
 use Rattle.book.specs.Ensures.{Between}
 use Rattle.book.proofs.WalkLaws.{book-records, all-left, pass-start}
 use Rattle.question.specs.declared.Ask.{Ask}
@@ -36,7 +36,7 @@ use Rattle.calendar.specs.declared.listing.Listing.{Listing}
 use Rattle.price.specs.declared.picks.Picks.{Picks}
 use Rattle.price.specs.Picks.{PicksAre}
 use Rattle.stretches.specs.Runs.{Marked, RunsAre}
-use Rattle.calendar.specs.Listing.{within, listing, stretchesIn, listed, ListingIs, Refused}
+use Rattle.calendar.specs.Listing.{within, listing, listed, ListingIs, Refused}
 
 -- ---- the marks
 

@@ -1,18 +1,22 @@
 -- The stretches that a call asks for, before it is known whether they fit into the lent output.
-use Prim.Native.Nat.{ℕ, _*_, _≤_}
+use Prim.Native.Nat.{ℕ, zero, suc, _*_, _≤_}
 use mathlib.Core.Path.{_≡_}
 use mathlib.Core.Bool.{cond}
 use mathlib.Core.List.{List, map}
 use lib.Dec.{eqb, leb}
-use lib.ListN.{length, take}
+use lib.ListN.{length, take, getD, set}
 use Rattle.rules.specs.Book.{Record, articleOf}
 use Rattle.rules.specs.BookLayout.{records}
 use Rattle.rules.specs.Question.{Question, questionOf}
 use Rattle.rules.specs.Refusals.{Result, done, refused, _>>=_, orRefuse, refuseUnless}
 use Rattle.rules.specs.Calendar.{Stretch, stretches, outcome, periodTo, mostDays}
+use Rattle.rules.specs.Calendar.{listed as recorded}
+use Rattle.rules.specs.declared.Written.{Written}
+use Rattle.rules.specs.declared.Stretch as Declared
+use Rattle.stretches.specs.declared.turns.Run.{Run}
 use Rattle.stretches.specs.declared.runs.Runs.{Runs}
 use Rattle.calendar.specs.declared.listing.Listing.{Listing}
-use Rattle.stretches.specs.Runs.{asStretch}
+use Rattle.stretches.specs.Runs.{asStretch, noRun}
 
 -- ---- what is listed
 
@@ -71,3 +75,27 @@ pub record Writable (out : List ℕ) (r : Runs) : Type 0 where
   pub long : length (r .list) ≡ mostDays
   pub few : r .n ≤ mostDays
   pub room : 20 * r .n ≤ length out
+
+-- ---- as a list of records
+
+-- the record of a stretch
+abbrev pub recordOf : Run → Declared.Stretch
+recordOf r = recorded (asStretch r)
+
+pub record RecordAt (l : Listing) (i : ℕ) (r : Declared.Stretch) : Type 0 where
+  pub is : r ≡ recordOf (getD (l .runs .list) i noRun)
+
+-- how many are handed over, where there is room for so many
+pub record ListAnswer (l : Listing) (room : ℕ) (r : Written) : Type 0 where
+  pub refuses : (r .number ≡ 0 → ⊥) → r .length ≡ 0
+  pub answers : r .number ≡ 0 → r .length ≡ l .runs .n
+  pub number : RefusalIs (l .number) (l .runs .n) (l .runs .n) room (r .number)
+
+-- the first n elements are what g says, and the others are as in ys
+abbrev pub filled : List Declared.Stretch → (ℕ → Declared.Stretch) → ℕ → List Declared.Stretch
+filled ys g zero = ys
+filled ys g (suc i) = set (filled ys g i) i (g i)
+
+-- the records of a listing
+abbrev pub recordIn : Listing → ℕ → Declared.Stretch
+recordIn l i = recordOf (getD (l .runs .list) i noRun)

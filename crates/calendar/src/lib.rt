@@ -1,5 +1,6 @@
 // The price calendar: the longest stretches of days with one outcome.
 mod bytes;
+pub mod list;
 pub mod listing;
 
 use crate::bytes::write_runs;

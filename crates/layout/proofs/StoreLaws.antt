@@ -171,7 +171,7 @@ big-bytes m (suc k) n =
     ∙ (digit m (n / 256 ^ k % 256) (256 ^ k) (n % 256 ^ k)
     ∙ ap₂ (λ (p r : ℕ). m * p + r) (sym (pow-succ' 256 k)) (sym (mod-suc k n)))
 
-number-back : (k n : ℕ) → n < 256 ^ k → big (bytesOf k n) ≡ n
+pub number-back : (k n : ℕ) → n < 256 ^ k → big (bytesOf k n) ≡ n
 number-back k n h = big-bytes 0 k n ∙ (simp (zero-mul, zero-add) (mod-eq-of-lt h))
 
 -- A number written as k bytes and read as k bytes is the same number, for every width, place and number that fits.

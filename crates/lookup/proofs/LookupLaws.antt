@@ -59,23 +59,25 @@ gives-to-end {A} {P} (suc n) {m} g = record { sure = go (gives-to-end n g) }
         gives-field m (λ a. toEnd n m >>= λ xs. give (a ∷ xs)) g
         (λ a h. gives-field (toEnd n m) (λ xs. give (a ∷ xs)) rest (λ xs hs. gives-value (a ∷ xs) {P = All P} (h, hs))) .sure (x ∷ s) v t e
 
-gives-record : Gives oneRecord Bounded
-gives-record =
-    gives-field (number 2) _ (gives-any (number 2)) λ n _.
-    gives-field (bytes n) _ (gives-any (bytes n)) λ t _.
-    record { sure = λ s r u e. in-bounds t r (go (whole kinded t) s e) }
-  where
-    go : (o : Option Record) (s : List ℕ) {y : Record × List ℕ} → back o s ≡ some y → o ≡ some (y .0)
-    go none s {y} e = absurd (Option·none-ne-some y e)
-    go (some r) s {y} e = ap (λ (z : Record × List ℕ). some (z .0)) (Option·some-injective (r, s) y e)
+-- what each accepted record has, all records of a book have
+module _ {P : Record → Type 0} (each : (t : List ℕ) (r : Record) → whole kinded t ≡ some r → P r) where
+  gives-record : Gives oneRecord P
+  gives-record =
+      gives-field (number 2) _ (gives-any (number 2)) λ n _.
+      gives-field (bytes n) _ (gives-any (bytes n)) λ t _.
+      record { sure = λ s r u e. each t r (go (whole kinded t) s e) }
+    where
+      go : (o : Option Record) (s : List ℕ) {y : Record × List ℕ} → back o s ≡ some y → o ≡ some (y .0)
+      go none s {y} e = absurd (Option·none-ne-some y e)
+      go (some r) s {y} e = ap (λ (z : Record × List ℕ). some (z .0)) (Option·some-injective (r, s) y e)
 
-bounded : (b : List ℕ) (at : ℕ) → All Bounded (recordsLeft b at)
-unfolding recordsFrom
-bounded b at = go (recordsFrom b at) refl
-  where
-    go : (o : Option (List Record)) → recordsFrom b at ≡ o → All Bounded (listed o)
-    go none e = tt
-    go (some rs) e = whole-gives (record { sure = λ s v t f. gives-to-end (length s) gives-record .sure s v t f }) (drop at b) rs e
+  pub all-records : (b : List ℕ) (at : ℕ) → All P (recordsLeft b at)
+  unfolding recordsFrom
+  all-records b at = go (recordsFrom b at) refl
+    where
+      go : (o : Option (List Record)) → recordsFrom b at ≡ o → All P (listed o)
+      go none e = tt
+      go (some rs) e = whole-gives (record { sure = λ s v t f. gives-to-end (length s) gives-record .sure s v t f }) (drop at b) rs e
 
 none-zero : (rs : List Record) → All Bounded rs → roundingFor 0 (roundings rs) ≡ plain
 unfolding roundingFor
@@ -100,7 +102,7 @@ module _ {b : List ℕ} {from : ℕ} (number : ℕ) where
       }
 
   pub look-zero : number ≡ 0 → {r : Rounding} → r ≡ plain → RoundingUsed b from number r
-  look-zero z e = plain-used e (sym (none-zero (recordsLeft b from) (bounded b from)) ∙ ap (λ (n : ℕ). roundingFor n (roundings (recordsLeft b from))) (sym z))
+  look-zero z e = plain-used e (sym (none-zero (recordsLeft b from) (all-records in-bounds b from)) ∙ ap (λ (n : ℕ). roundingFor n (roundings (recordsLeft b from))) (sym z))
 
   pub look-start : Between b from → Looking b from number from
   look-start w = record { between = w; rest = refl }

@@ -2,13 +2,13 @@
 use Prim.Native.Nat.{ℕ, _+_, _-_, _≤_, _<_}
 use mathlib.Core.Path.{_≡_, refl, sym, _∙_, ap, ap₂}
 use mathlib.Core.Bool.{Bool, true, false, _&&_, _||_, and-assoc}
-use mathlib.Core.List.{List, [], _∷_}
+use mathlib.Core.List.{List, _∷_}
 use mathlib.Core.Option.{Option, some, none}
 use native.Mathlib.Omega.{arith}
 use lib.Dec.{eqb}
 use lib.ListN.{length, take, drop, getD, set, replicate, length-set, length-replicate, getD-replicate}
 use lib.Seq.{getD-set-same, getD-set-other}
-use borrow.Author.Tests.{eq-eqb, ne-eqb, eqb-true, eqb-false}
+use borrow.Author.Tests.{ne-eqb, eqb-true, eqb-false}
 use Rattle.rules.specs.Lists.{same, any, keep, consIf, consSome}
 use Rattle.rules.specs.Days.{isDay, next}
 use Rattle.rules.specs.Layout.{whole}
@@ -19,12 +19,10 @@ use Rattle.rules.specs.Changes.{dated, movingRows, daysOfChange, changes, isCha
 use Rattle.rules.specs.declared.PriceRow.{PriceRow}
 use Rattle.rules.proofs.TestLaws.{or-assoc, or-false, and-right}
 use Rattle.rules.proofs.DayLaws.{day-least}
-use Rattle.layout.specs.Reads.{part}
 use Rattle.layout.specs.Ensures.{Says}
 use Rattle.book.specs.Records.{recordsLeft}
 use Rattle.book.specs.Ensures.{Between, RecordHere, StopIs}
 use Rattle.book.proofs.WalkLaws.{pass-here, pass-less, pass-next, pass-record, pass-end}
-use Rattle.records.specs.Asks.{Accepted}
 use Rattle.records.specs.Tests as Tests
 use Rattle.records.specs.Ensures.{RowIs, rowIn}
 use Rattle.question.specs.declared.Ask.{Ask}

@@ -3,3 +3,4 @@ pub mod CountedLaws
 pub mod PartLaws
 pub mod QuestionLaws
 pub mod AskLaws
+pub mod RedateLaws

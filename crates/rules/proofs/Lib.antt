@@ -9,6 +9,7 @@ pub mod DayLaws
 pub mod BestLaws
 pub mod ChoiceLaws
 pub mod LinesLaws
+pub mod RoomLaws
 pub mod NoPriceLaws
 pub mod UnusedLaws
 pub mod RoundingLaws

@@ -1,14 +1,14 @@
 -- "The price book", the question: which bytes are one, and how its granted names count.
-use Prim.Native.Nat.{ℕ, zero, suc}
+use Prim.Native.Nat.{ℕ, zero, suc, _+_}
 use mathlib.Core.Bool.{Bool, _||_, not, cond}
-use mathlib.Core.List.{List, [], _∷_, map}
+use mathlib.Core.List.{List, [], _∷_, _++_, map}
 use mathlib.Core.Option.{Option, some, none}
 use lib.Dec.{eqb}
-use lib.ListN.{length}
+use lib.ListN.{length, take, drop}
 use Rattle.rules.specs.Lists.{same, between, all, any, keep}
 use Rattle.rules.specs.Letters.{letter}
 use Rattle.rules.specs.Layout.{Layout, _>>=_, give, _such_, bytes, byte, times, whole}
-use Rattle.rules.specs.Bytes.{number, name, oneOf, head, capitals, raise}
+use Rattle.rules.specs.Bytes.{number, name, oneOf, head, capitals, raise, bytesOf}
 use Rattle.rules.specs.Days.{isDay}
 use Rattle.rules.specs.Book.{sale, purchase}
 
@@ -73,6 +73,13 @@ questionOf s = whole (questionLayout (length s)) s
 
 unfoldable pub on : Question → ℕ → Question
 on q d = record { article = q .article; sort = q .sort; currency = q .currency; date = d; quantity = q .quantity; granted = q .granted; properties = q .properties }
+
+-- and its bytes: the date stands behind length, version, article, sort and currency
+abbrev pub dateAt : Question → ℕ
+dateAt q = 10 + length (q .article)
+
+unfoldable pub redated : ℕ → ℕ → List ℕ → List ℕ
+redated at d s = take at s ++ (bytesOf 4 d ++ drop (at + 4) s)
 
 -- ---- "Which row is chosen": granted names
 

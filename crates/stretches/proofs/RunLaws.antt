@@ -1,12 +1,12 @@
 -- The days that have gone by and those still to come make up the stretches of the period.
-use Prim.Native.Nat.{ℕ, suc, _+_, _-_, _≤_, _<_}
-use mathlib.Core.Path.{_≡_, refl, sym, _∙_, ap, subst}
+use Prim.Native.Nat.{ℕ, _+_, _-_, _≤_, _<_}
+use mathlib.Core.Path.{_≡_, refl, sym, _∙_, ap}
 use mathlib.Core.Bool.{Bool, true, false, not, cond}
 use mathlib.Core.List.{List, [], _∷_, _++_, map, append-assoc}
 use native.Mathlib.Omega.{arith}
 use native.Mathlib.Numerals.{add-one}
-use lib.ListN.{length, take, drop, getD, set, replicate, length-set, length-replicate, drop-of-length-le}
-use lib.Seq.{take-suc, drop-cons, take-set-le, getD-set-same, append-snoc}
+use lib.ListN.{length, take, drop, getD, set, length-set, drop-of-length-le}
+use lib.Seq.{take-suc, drop-cons, take-set-le, getD-set-same}
 use Rattle.rules.specs.Lists.{consIf}
 use Rattle.rules.specs.Calendar.{Outcome, Stretch, sameOutcome, stretches, mostDays}
 use Rattle.rules.proofs.WalkLaws as Walk

@@ -5,7 +5,6 @@ use mathlib.Core.Bool.{Bool, false, cond}
 use mathlib.Core.List.{List, _++_, map}
 use lib.IntN.{pos}
 use lib.ListN.{length, take, drop, getD}
-use Rattle.rules.specs.Calendar as Calendar
 use Rattle.rules.specs.Calendar.{Outcome, Stretch, sameOutcome, stretches, mostDays}
 use Rattle.rules.proofs.WalkLaws as Walk
 use Rattle.question.specs.declared.Ask.{Ask}

@@ -1,3 +1,4 @@
+-- `calendar::calendar` meets its contract: refused, or written, by the laws `calendar-..`.
 use denote.Ref.{now}
 use borrow.Author.Needs.{needs}
 use Rattle.calendar.proofs.CallLaws.{calendar-refused, calendar-writable, calendar-done}

@@ -1,3 +1,4 @@
+-- `calendar::refusal` meets its contract: each number in its order.
 use borrow.Author.Needs.{needs}
 use Rattle.calendar.proofs.CallLaws.{refused-listed, refused-10, refused-7, not-refused}
 use Rattle.calendar.proofs.refusal.Statement.{statement}

@@ -1,3 +1,4 @@
+-- `period::period_to` meets its contract: day after day, by the laws `count-..`.
 use Prim.Native.Nat.{_-_}
 use borrow.Author.Needs.{needs}
 use Rattle.period.specs.Contracts.{Counting}

@@ -1,3 +1,4 @@
+-- `calendar::bytes::put_currency` meets its contract: four stores.
 use native.Mathlib.Omega.{arith}
 use lib.ListN.{length-set}
 use borrow.Author.Needs.{needs}

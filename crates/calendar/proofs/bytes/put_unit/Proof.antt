@@ -1,3 +1,4 @@
+-- `calendar::bytes::put_unit` meets its contract.
 use borrow.Author.Needs.{needs}
 use Rattle.calendar.proofs.ByteLaws.{unit-puts}
 use Rattle.calendar.proofs.bytes.put_unit.Statement.{statement}

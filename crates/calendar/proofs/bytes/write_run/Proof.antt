@@ -1,3 +1,4 @@
+-- `calendar::bytes::write_run` meets its contract: four fields, one behind the other, by `run-puts`.
 use borrow.Author.Needs.{needs}
 use Rattle.calendar.proofs.ByteLaws.{run-puts}
 use Rattle.calendar.proofs.bytes.write_run.Statement.{statement}

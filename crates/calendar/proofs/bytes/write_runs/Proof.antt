@@ -1,3 +1,4 @@
+-- `calendar::bytes::write_runs` meets its contract: what is written and what is left make up the whole, by the laws `write-..`.
 use Prim.Native.Nat.{_-_}
 use borrow.Author.Needs.{needs}
 use Rattle.calendar.proofs.ByteLaws.{Writing, write-start, write-again, write-end}

@@ -1,3 +1,4 @@
+-- `calendar::listing::listing_of` meets its contract: refusals 1 and 2, or what is listed behind them, by the laws `listing-..`.
 use borrow.Author.Needs.{needs}
 use Rattle.choice.proofs.ChosenLaws.{asking}
 use Rattle.calendar.proofs.ListingLaws.{listing-1, listing-2, listing-is, listing-start, is-question}

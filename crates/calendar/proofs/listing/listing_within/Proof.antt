@@ -1,3 +1,4 @@
+-- `calendar::listing::listing_within` meets its contract: refusals 9 and 3, or the stretches, by the laws `within-..`.
 use borrow.Author.Needs.{needs}
 use Rattle.calendar.proofs.ListingLaws.{within-9, within-3, within-done, days-size, days-there, days-dates}
 use Rattle.calendar.proofs.listing.listing_within.Statement.{statement}

@@ -1,3 +1,4 @@
+-- `calendar::listing::refused` meets its contract.
 use borrow.Author.Needs.{needs}
 use Rattle.calendar.proofs.ListingLaws.{refused-is}
 use Rattle.calendar.proofs.listing.refused.Statement.{statement}

@@ -1,3 +1,4 @@
+-- `calendar::listing::runs_in` meets its contract: the marks make all other days steady, by `marked`.
 use borrow.Author.Needs.{needs}
 use Rattle.calendar.proofs.ListingLaws.{window-size, window-between, marked}
 use Rattle.calendar.proofs.listing.runs_in.Statement.{statement}

@@ -1,3 +1,4 @@
+-- `period::marks::change_by` meets its contract: both dates are days, or nothing changes.
 use borrow.Author.Needs.{needs}
 use Rattle.period.proofs.MarkLaws.{over-day, change-is, change-none}
 use Rattle.period.proofs.marks.change_by.Statement.{statement}

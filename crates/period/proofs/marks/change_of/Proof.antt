@@ -1,3 +1,4 @@
+-- `period::marks::change_of` meets its contract: a row of the asked article, or any other record.
 use borrow.Author.Needs.{needs}
 use Rattle.choice.proofs.PassingLaws.{row-kind}
 use Rattle.period.proofs.MarkLaws.{row-change, no-change}

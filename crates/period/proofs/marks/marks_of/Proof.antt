@@ -1,3 +1,4 @@
+-- `period::marks::marks_of` meets its contract: the marks made, with the records that are left, are the days of change, by the laws `mark-..`.
 use Prim.Native.Nat.{_-_}
 use lib.ListN.{length}
 use borrow.Author.Needs.{needs}

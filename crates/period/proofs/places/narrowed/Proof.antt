@@ -1,3 +1,4 @@
+-- `period::places::narrowed` meets its contract: the day in the middle is below, or not.
 use borrow.Author.Needs.{needs}
 use Rattle.period.proofs.PlaceLaws.{narrow-up, narrow-down}
 use Rattle.period.proofs.places.narrowed.Statement.{statement}

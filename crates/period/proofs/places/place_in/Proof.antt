@@ -1,3 +1,4 @@
+-- `period::places::place_in` meets its contract: once nothing is left between the bounds, the day is found there or nowhere.
 use Prim.Native.Nat.{_-_}
 use borrow.Author.Needs.{needs}
 use Rattle.period.specs.Places.{Narrowing}

@@ -1,3 +1,4 @@
+-- `stretches::runs::runs_of` meets its contract: the stretches closed, the one in hand and the days to come make up the whole, by the laws `go-..`.
 use Prim.Native.Nat.{_-_}
 use lib.ListN.{length}
 use borrow.Author.Needs.{needs}

@@ -1,3 +1,4 @@
+-- `stretches::turns::opened` meets its contract: the question is asked on that day, within the same window.
 use borrow.Author.Needs.{needs}
 use Rattle.stretches.proofs.TurnLaws.{asking-then, window-then, opened-is}
 use Rattle.stretches.proofs.turns.opened.Statement.{statement}

@@ -1,3 +1,4 @@
+-- `stretches::turns::same_outcome` meets its contract: signed numbers are the same if their bits are.
 use borrow.Author.Needs.{needs}
 use Rattle.stretches.proofs.TurnLaws.{outcome-same}
 use Rattle.stretches.proofs.turns.same_outcome.Statement.{statement}

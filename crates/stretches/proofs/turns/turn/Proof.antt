@@ -1,3 +1,4 @@
+-- `stretches::turns::turn` meets its contract: a day that is not due, one with the same outcome, one with another.
 use borrow.Author.Needs.{needs}
 use Rattle.stretches.proofs.TurnLaws.{turned-quiet, turned-same, turned-new}
 use Rattle.stretches.proofs.turns.turn.Statement.{statement}

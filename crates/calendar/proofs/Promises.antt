@@ -1,0 +1,172 @@
+-- What a caller of the calendar call can rely on, whatever the bytes: said of any answer and any output that its contract allows.
+use Prim.Native.Nat.{ℕ, _*_, _/_, _≤_}
+use mathlib.Core.Path.{_≡_, refl, sym, _∙_, ap, subst}
+use mathlib.Core.Bool.{true}
+use mathlib.Core.List.{List, [], _∷_, _++_, map}
+use mathlib.Core.Option.{some, Option·some-injective}
+use native.Mathlib.Omega.{arith}
+use lib.Dec.{leb}
+use lib.IntN.{natAbs}
+use lib.ListN.{length, drop, length-append}
+use borrow.Author.Tests.{le-leb}
+use Rattle.rules.specs.Bytes.{signedBytesOf}
+use Rattle.rules.specs.Days.{isDay}
+use Rattle.rules.specs.Book.{Record, Article, articleOf}
+use Rattle.rules.specs.BookLayout.{records}
+use Rattle.rules.specs.Question.{Question, questionOf, dateAt, redated}
+use Rattle.rules.specs.Refusals.{Result, done, refused, over, lentAfter}
+use Rattle.rules.specs.Price.{price, shown}
+use Rattle.rules.specs.Calendar.{Outcome, Stretch, stretches, outcome, periodTo, stretchBytes, stretchesBytes, calendarIn, calendar, shownBytes, lentAfterCalendar, calendarList, shownRecords, lentAfterList}
+use Rattle.rules.specs.Calendar.{listed as recorded}
+use Rattle.rules.specs.declared.Written.{Written}
+use Rattle.rules.specs.declared.Stretch as Declared
+use Rattle.rules.proofs.ListLaws.{All}
+use Rattle.rules.proofs.DayLaws.{day-most}
+use Rattle.rules.proofs.RefusalLaws.{NeverZero, or-never, unless-never, done-never}
+use Rattle.rules.proofs.CalendarLaws.{Holds, InOrder, Right, right as period-right, period-end, period-days, never-10, stretch-count}
+use Rattle.rules.proofs.CallLaws.{calendar-answered}
+use Rattle.rules.proofs.GivesLaws.{question-sound}
+use Rattle.rules.proofs.Promises as Rules
+use Rattle.calendar.specs.Calls.{CalendarIs, CalendarListIs}
+use Rattle.calendar.specs.Read.{readStretches, outcomeIn}
+use Rattle.calendar.proofs.OutcomeLaws.{call-outcome, outcome-fits}
+use Rattle.calendar.proofs.ReadLaws.{Readable, stretches-back}
+
+-- ---- the list that was written is the list that is read
+
+-- a stretch of days with outcomes of the book's is one that its bytes hold
+readable : (b : List ℕ) {book : List Record} → records b ≡ some book → (q : Question) (ss : List Stretch) → All (λ s. s .first ≤ s .last) ss → All (Holds (outcome book q)) ss → All Readable ss
+readable b e q [] o h = tt
+readable b {book} e q (s ∷ ss) o h =
+    let at : outcome book q (s .first) ≡ s .outcome = h .0 .inside (s .first) (h .0 .first-day) (omega arith) (o .0) in
+    let fits = outcome-fits b e q (s .first) in (
+      record {
+        first = omega (arith, day-most (s .first) (h .0 .first-day));
+        last = omega (arith, day-most (s .last) (h .0 .last-day));
+        letters = ap (λ (x : Outcome). length (x .currency)) (sym at) ∙ fits .0;
+        unit = subst (λ (x : Outcome). natAbs (x .unit) ≤ 1_000_000_000) at (fits .1);
+      },
+      readable b e q ss (o .1) (h .1),
+    )
+
+-- each in the order of its days
+each-ordered : (ss : List Stretch) → InOrder ss → All (λ s. s .first ≤ s .last) ss
+each-ordered [] o = tt
+each-ordered (s ∷ []) o = (o, tt)
+each-ordered (s ∷ (t ∷ ss)) o = (o .0, each-ordered (t ∷ ss) (o .2))
+
+bytes-long : (ss : List Stretch) → All Readable ss → length (stretchesBytes ss) ≡ 20 * length ss
+unfolding stretchesBytes
+bytes-long [] h = refl
+bytes-long (s ∷ ss) h =
+    length-append (stretchBytes s) (stretchesBytes ss)
+    ∙ omega (arith, one, bytes-long ss (h .1))
+  where
+    one : length (stretchBytes s) ≡ 20
+    one =
+        let e : length (s .outcome .currency ++ signedBytesOf 8 (s .outcome .unit)) ≡ 11 = length-append (s .outcome .currency) (signedBytesOf 8 (s .outcome .unit)) ∙ omega (arith, h .0 .letters) in
+        omega (arith, e)
+
+-- the same for any other way to the same outcomes
+holds-as : {f g : ℕ → Outcome} → ((d : ℕ) → isDay d ≡ true → g d ≡ f d) → (ss : List Stretch) → All (Holds f) ss → All (Holds g) ss
+holds-as e [] h = tt
+holds-as e (s ∷ ss) h =
+    (record { first-day = h .0 .first-day; last-day = h .0 .last-day; inside = λ d day l k. e d day ∙ h .0 .inside d day l k }, holds-as e ss (h .1))
+
+right-as : {f g : ℕ → Outcome} {from to : ℕ} {ss : List Stretch} → ((d : ℕ) → isDay d ≡ true → g d ≡ f d) → Right f from to ss → Right g from to ss
+right-as {ss = ss} e r = record { tiles = r .tiles; ordered = r .ordered; differ = r .differ; holds = holds-as e ss (r .holds) }
+
+-- a calendar with the number 0 has an answer
+calendar-never : {B : Type 0} (form : List Stretch → List B) (b s : List ℕ) (end room : ℕ) → NeverZero (calendarIn form b s end room)
+unfolding calendarIn
+calendar-never form b s end room =
+    or-never 0 (records b) _ (λ book.
+    or-never 1 (questionOf s) _ (λ q.
+    or-never 8 (periodTo (q .date) end) _ (λ days.
+    or-never 2 (articleOf book (q .article)) _ (λ a.
+    unless-never 9 (leb (length (stretches (outcome book q) days)) 1200) _
+    (unless-never 6 (leb (length (form (stretches (outcome book q) days))) room) _ (done-never (stretches (outcome book q) days)))))))
+
+-- ---- the promises
+
+module _ (b s : List ℕ) (end : ℕ) (lent : List ℕ) {r : Written} {after : List ℕ} (is : CalendarIs b s end lent r after) where
+  -- There is one answer and one output.
+  pub one-answer : {r′ : Written} {after′ : List ℕ} → CalendarIs b s end lent r′ after′ → (r ≡ r′) × (after ≡ after′)
+  one-answer other = (is .answer ∙ sym (other .answer), is .output ∙ sym (other .output))
+
+  -- A refused call says length 0 and writes nothing.
+  pub refused-writes-nothing : (r .number ≡ 0 → ⊥) → (r .length ≡ 0) × (after ≡ lent)
+  unfolding shownBytes lentAfter
+  refused-writes-nothing n = go (calendar b s end (length lent)) refl
+    where
+      go : (x : Result (List Stretch)) → calendar b s end (length lent) ≡ x → (r .length ≡ 0) × (after ≡ lent)
+      go (done ss) e = absurd (n (ap (λ (w : Written). w .number) (is .answer ∙ ap shownBytes e)))
+      go (refused k) e = (ap (λ (w : Written). w .length) (is .answer ∙ ap shownBytes e), is .output ∙ ap (λ x. lentAfterCalendar x lent) e)
+
+  module _ {book : List Record} {q : Question} (f : records b ≡ some book) (g : questionOf s ≡ some q) where
+    -- With an article that the book has and a period, room for a stretch a day is enough for an answer.
+    pub answered : {a : Article} {days : List ℕ} → articleOf book (q .article) ≡ some a → periodTo (q .date) end ≡ some days → 20 * length days ≤ length lent → r .number ≡ 0
+    unfolding calendarIn shownBytes
+    answered {days = days} h p room =
+        let ss : List Stretch = stretches (outcome book q) days in
+        let right = period-right (outcome book q) (question-sound s q g .date) (period-end (q .date) end days p) (period-days (q .date) end days p) in
+        let fine : All Readable ss = readable b f q ss (each-ordered ss (right .ordered)) (right .holds) in
+        let fits : leb (length (stretchesBytes ss)) (length lent) ≡ true = le-leb (length (stretchesBytes ss)) (length lent) (omega (arith, bytes-long ss fine, stretch-count (outcome book q) days)) in
+        ap (λ (w : Written). w .number) (is .answer) ∙ rw (f, g, p, h, never-10 (outcome book q) (q .date) end days p, fits)
+
+    -- The stretches read back from the bytes start on the question's day, each next one on the day after the one before, and the last ends on the end date; they stand in date
+    -- order; neighbours differ; and on every day from a stretch's first to its last the price call, asked with the question whose date bytes are that day's, answers with the
+    -- stretch's number, currency and unit total.
+    pub each-day-by-the-price-call : r .number ≡ 0 → (room : ℕ) → 1386 ≤ room
+        → Right (λ d. outcomeIn (shown (price b (redated (dateAt q) d s) room))) (q .date) end (readStretches (r .length / 20) after)
+    unfolding shownBytes lentAfter
+    each-day-by-the-price-call z room h = go (calendar b s end (length lent)) refl
+      where
+        go : (x : Result (List Stretch)) → calendar b s end (length lent) ≡ x
+            → Right (λ d. outcomeIn (shown (price b (redated (dateAt q) d s) room))) (q .date) end (readStretches (r .length / 20) after)
+        go (refused k) e = absurd (calendar-never stretchesBytes b s end (length lent) (e ∙ ap refused (sym (ap (λ (w : Written). w .number) (is .answer ∙ ap shownBytes e)) ∙ z)))
+        go (done ss) e =
+            let right = Rules.calendar-right stretchesBytes b s end (length lent) ss book q f g e in
+            let listed = calendar-answered stretchesBytes b s end (length lent) ss e in
+            let fine : All Readable ss = readable b f q ss (each-ordered ss (right .ordered)) (right .holds) in
+            let size : r .length ≡ 20 * length ss = ap (λ (w : Written). w .length) (is .answer ∙ ap shownBytes e) ∙ bytes-long ss fine in
+            let count : r .length / 20 ≡ length ss = omega arith in
+            let output : after ≡ over (stretchesBytes ss) lent = is .output ∙ ap (λ x. lentAfterCalendar x lent) e in
+            let read : readStretches (r .length / 20) after ≡ ss = (λ i. readStretches (count i) (output i)) ∙ stretches-back ss (drop (length (stretchesBytes ss)) lent) fine in
+            let same-book : listed .book ≡ book = Option·some-injective (listed .book) book (sym (listed .is-book) ∙ f) in
+            let same-question : listed .question ≡ q = Option·some-injective (listed .question) q (sym (listed .is-question) ∙ g) in
+            let has : articleOf book (q .article) ≡ some (listed .article) = sym (λ i. articleOf (same-book i) (same-question i .article)) ∙ listed .has-article in
+            subst (λ (l : List Stretch). Right (λ d. outcomeIn (shown (price b (redated (dateAt q) d s) room))) (q .date) end l) (sym read)
+            (right-as (call-outcome b s f g has room h) right)
+
+-- ---- the list of records
+
+module _ (b s : List ℕ) (end : ℕ) (lent : List Declared.Stretch) {r : Written} {after : List Declared.Stretch} (is : CalendarListIs b s end lent r after) where
+  -- There is one answer and one list.
+  pub one-list : {r′ : Written} {after′ : List Declared.Stretch} → CalendarListIs b s end lent r′ after′ → (r ≡ r′) × (after ≡ after′)
+  one-list other = (is .answer ∙ sym (other .answer), is .output ∙ sym (other .output))
+
+  -- A refused call says length 0 and hands over nothing.
+  pub refused-lists-nothing : (r .number ≡ 0 → ⊥) → (r .length ≡ 0) × (after ≡ lent)
+  unfolding shownRecords lentAfterList lentAfter
+  refused-lists-nothing n = go (calendarList b s end (length lent)) refl
+    where
+      go : (x : Result (List Stretch)) → calendarList b s end (length lent) ≡ x → (r .length ≡ 0) × (after ≡ lent)
+      go (done ss) e = absurd (n (ap (λ (w : Written). w .number) (is .answer ∙ ap shownRecords e)))
+      go (refused k) e = (ap (λ (w : Written). w .length) (is .answer ∙ ap shownRecords e), is .output ∙ ap (λ x. lentAfterList x lent) e)
+
+  -- An answered one hands over the stretches of the definition, each a record, at the front of the list.
+  pub list-right : {book : List Record} {q : Question} → records b ≡ some book → questionOf s ≡ some q → r .number ≡ 0
+      → (ss : List Stretch) × Right (outcome book q) (q .date) end ss × (r .length ≡ length ss) × (after ≡ over (map recorded ss) lent)
+  unfolding shownRecords lentAfterList lentAfter
+  list-right {book} {q} f g z = go (calendarList b s end (length lent)) refl
+    where
+      go : (x : Result (List Stretch)) → calendarList b s end (length lent) ≡ x
+          → (ss : List Stretch) × Right (outcome book q) (q .date) end ss × (r .length ≡ length ss) × (after ≡ over (map recorded ss) lent)
+      go (done ss) e = (
+        ss,
+        Rules.calendar-right (map recorded) b s end (length lent) ss book q f g e,
+        ap (λ (w : Written). w .length) (is .answer ∙ ap shownRecords e),
+        is .output ∙ ap (λ x. lentAfterList x lent) e,
+      )
+      go (refused k) e = absurd (calendar-never (map recorded) b s end (length lent) (e ∙ ap refused (sym (ap (λ (w : Written). w .number) (is .answer ∙ ap shownRecords e)) ∙ z)))
