@@ -58,7 +58,7 @@ extern "C" {
 #define RAFTTWINE_VERSION "1.0.0"
 
 /* More stack than any call takes. */
-#define RAFTTWINE_STACK_BYTES 32768
+#define RAFTTWINE_STACK_BYTES 262144
 
 /* What stands in the field `number` of every answer, and in `refusal` of a stretch. */
 enum rafttwine_refusal {

@@ -18,7 +18,12 @@ pub extern "C" fn rafttwine_price(book: &[u8], question: &[u8], lines: &mut [u8]
 }
 
 #[no_mangle]
-pub extern "C" fn rafttwine_calendar(book: &[u8], question: &[u8], end: u32, out: &mut [u8]) -> Written
+pub extern "C" fn rafttwine_calendar(
+    book: &[u8],
+    question: &[u8],
+    end: u32,
+    out: &mut [u8],
+) -> Written
     ensures { λ r. ⌜ CalendarIs (now (book .entry)) (now (question .entry)) end (now (out .entry)) r (now (out .exit)) ⌝ }
 {
     calendar::calendar(book, question, end, out)

@@ -27,7 +27,11 @@ pub fn put_digits(out: &mut [u8], at: usize, k: usize, n: u64) -> usize
 fn distance(z: i64) -> u64
     ensures { λ r. ⌜ r ≡ natAbs z ⌝ }
 {
-    if 0 <= z { z as u64 } else { (-1 - z) as u64 + 1 }
+    if 0 <= z {
+        z as u64
+    } else {
+        (-1 - z) as u64 + 1
+    }
 }
 
 // A sign, where the number is below zero.

@@ -50,7 +50,15 @@ fn put_word(out: &mut [u8], at: usize, word: Currency) -> usize
 }
 
 // First day, last day, refusal, currency, unit total.
-pub fn put_stretch(out: &mut [u8], at: usize, first: u32, last: u32, refusal: u8, currency: Currency, unit: i64) -> usize
+pub fn put_stretch(
+    out: &mut [u8],
+    at: usize,
+    first: u32,
+    last: u32,
+    refusal: u8,
+    currency: Currency,
+    unit: i64,
+) -> usize
     requires { ⌜ at + 89 ≤ length (now out) ⌝ }
     ensures { λ r. ⌜ Prints (now (out .entry)) at (stretchText (stretchOf first last refusal currency unit)) (now (out .exit)) r ⌝ }
 {

@@ -34,8 +34,11 @@ put-signed-requires c κs =
     let last = refusal .before .before .before .before in
     let first = last .before .before .before .before in
     let s = first .before .before .before .before in
-    omega (arith, room₄ (s .args .first) (s .args .last) (s .args .refusal) (s .args .currency) (s .args .unit) (s .pre) (first .put-number .ensures) (last .put-number2 .ensures) (refusal .put-number3 .ensures)
-    (first .before .before .word-of .ensures) (word .put-word .ensures))
+    omega (
+      arith,
+      room₄ (s .args .first) (s .args .last) (s .args .refusal) (s .args .currency) (s .args .unit) (s .pre) (first .put-number .ensures) (last .put-number2 .ensures) (refusal .put-number3 .ensures)
+          (first .before .before .word-of .ensures) (word .put-word .ensures),
+    )
 
 put-byte-requires : tie.Need-put-byte-requires
 put-byte-requires c κs =
