@@ -13,8 +13,9 @@
  * - Every call returns. None keeps or shares anything: no heap, no globals, no locks, no files, no clock, no locale, no errno. So any
  *   number of threads may call at once, over the same book too, and the same bytes always give the same answer.
  * - Of the C library only memcpy and memset are called.
- * - No call takes more than RAFTTWINE_STACK_BYTES of stack. This is measured and not proved: a test runs each call on a painted stack
- *   and fails if more of it was touched.
+ * - A calendar takes at most RAFTTWINE_CALENDAR_STACK_BYTES of stack, any other call at most RAFTTWINE_STACK_BYTES. This is measured
+ *   and not proved: a test makes each call on a painted stack and fails if more of it was touched. What a program's loader takes to
+ *   find memcpy and memset at the first call is in it.
  *
  * WHAT YOU OWE
  *
@@ -57,8 +58,9 @@ extern "C" {
 /* The first number changes when a program has to be compiled anew. */
 #define RAFTTWINE_VERSION "1.0.0"
 
-/* More stack than any call takes. */
-#define RAFTTWINE_STACK_BYTES 262144
+/* More stack than a call takes. */
+#define RAFTTWINE_STACK_BYTES 65536
+#define RAFTTWINE_CALENDAR_STACK_BYTES 262144
 
 /* What stands in the field `number` of every answer, and in `refusal` of a stretch. */
 enum rafttwine_refusal {

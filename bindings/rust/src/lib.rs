@@ -22,14 +22,11 @@
 
 #![warn(missing_docs)]
 
-#[cfg(not(feature = "lacks_calendar"))]
 mod calendar;
 #[cfg(not(feature = "lacks_calendar_list"))]
 mod calendar_list;
 mod currency;
-#[cfg(not(feature = "lacks_final_number"))]
 mod final_number;
-#[cfg(not(feature = "lacks_packaging"))]
 mod packaging;
 mod price;
 pub mod raw;
@@ -37,14 +34,11 @@ mod refusal;
 mod stretch;
 mod text;
 
-#[cfg(not(feature = "lacks_calendar"))]
 pub use calendar::{calendar, Stretches, CALENDAR_ROOM};
 #[cfg(not(feature = "lacks_calendar_list"))]
 pub use calendar_list::calendar_list;
 pub use currency::Currency;
-#[cfg(not(feature = "lacks_final_number"))]
 pub use final_number::{final_number, NUMBER_ROOM};
-#[cfg(not(feature = "lacks_packaging"))]
 pub use packaging::{packaging, Packaging, Unit};
 pub use price::{price, Level, Line, Lines, Price, PRICE_ROOM};
 pub use refusal::Refusal;

@@ -1,6 +1,6 @@
 // The library's tests of lent bytes and its text call as C functions, so that the benchmark and the tests can link them from another
-// language. Each one calls one function of the library and promises what that one promises. They return numbers alone: the same code
-// compiled for Arm hands over no struct of more than two registers.
+// language. Each one calls one function of the library and promises what that one promises. They return numbers alone, so that a
+// caller declares no struct.
 ghost use mathlib.Core.Path.{_≡_};
 ghost use Rattle.rules.specs.Lists.{isSome};
 ghost use Rattle.rules.specs.BookLayout.{records};

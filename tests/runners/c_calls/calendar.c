@@ -1,6 +1,8 @@
 /* The calendar call that writes bytes: the calendar worked by hand, the output's length, refusals, and pointers that are null. */
 #include "calls.h"
 
+const long most_stack = RAFTTWINE_CALENDAR_STACK_BYTES;
+
 static sample book, june_oak;
 static uint8_t out[RAFTTWINE_MOST_STRETCHES * RAFTTWINE_STRETCH_BYTES];
 

@@ -1,6 +1,8 @@
 /* The calendar call that fills a list: the calendar worked by hand, the list's length, refusals, and pointers that are null. */
 #include "calls.h"
 
+const long most_stack = RAFTTWINE_CALENDAR_STACK_BYTES;
+
 static sample book, june_oak;
 static rafttwine_stretch out[RAFTTWINE_MOST_STRETCHES];
 

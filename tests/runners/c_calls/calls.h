@@ -36,8 +36,9 @@ void expect(const char *what, long long found, long long expected);
 void expect_bytes(const char *what, const void *found, const void *expected, size_t length);
 void expect_all(const char *what, int byte, const void *found, size_t length);
 
-/* Each call's file has these three: reads the samples that all its questions need; holds the call's answers to the expected ones; makes
- * one call. */
+/* Each call's file has these four: how much stack the header gives the call; a function that reads the samples all its questions need;
+ * one that holds the call's answers to the expected ones; and one that makes one call. */
+extern const long most_stack;
 void prepare(void);
 void check_call(void);
 void one_call(void);

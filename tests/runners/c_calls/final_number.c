@@ -1,6 +1,8 @@
 /* The call for the final article number: the two worked by hand, the output's length, refusals, and pointers that are null. */
 #include "calls.h"
 
+const long most_stack = RAFTTWINE_STACK_BYTES;
+
 static sample book, padded;
 static uint8_t out[RAFTTWINE_MOST_NUMBER_BYTES];
 

@@ -1,6 +1,8 @@
 /* The packaging call: the weights worked by hand, values that are not known, refusals, and pointers that are null. */
 #include "calls.h"
 
+const long most_stack = RAFTTWINE_STACK_BYTES;
+
 static sample book, carton_oak;
 
 static rafttwine_packaging_answer ask(const sample *question) {

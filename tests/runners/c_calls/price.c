@@ -1,6 +1,8 @@
 /* The price call: lines byte by byte, what stands beside a refusal, the output's length, and pointers that are null. */
 #include "calls.h"
 
+const long most_stack = RAFTTWINE_STACK_BYTES;
+
 static sample book, june_oak;
 static uint8_t lines[RAFTTWINE_MOST_LINES * RAFTTWINE_LINE_BYTES];
 

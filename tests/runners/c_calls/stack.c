@@ -32,6 +32,6 @@ int main(int count, char **words) {
     unsigned char *lowest = stack;
     while (*lowest == PAINT) lowest++;
     long used = (long)(top - lowest);
-    printf("%ld bytes of stack, at most %d\n", used, RAFTTWINE_STACK_BYTES);
-    return used > RAFTTWINE_STACK_BYTES;
+    printf("%ld bytes of stack, at most %ld\n", used, most_stack);
+    return used > most_stack;
 }

@@ -1,6 +1,8 @@
 /* The text call: a text of either book, one that is empty, one that is missing, broken books, and pointers that are null. */
 #include "calls.h"
 
+const long most_stack = RAFTTWINE_STACK_BYTES;
+
 static sample asked, fallback;
 
 static void answered(rafttwine_text_answer answer, enum rafttwine_refusal number, uint8_t book, uint64_t place, uint64_t length) {
