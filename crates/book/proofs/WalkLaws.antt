@@ -9,7 +9,7 @@ use native.Mathlib.Omega.{arith}
 use native.Mathlib.Decide.{decLt}
 use lib.Dec.{eqb, leb}
 use lib.ListN.{length, take, drop, getD}
-use borrow.Author.Tests.{leb-true}
+use borrow.Author.Tests.{leb-true, lt-ltb}
 use Rattle.rules.specs.Lists.{isSome, consSome}
 use Rattle.rules.specs.Layout.{whole}
 use Rattle.rules.specs.Bytes.{big}
@@ -38,6 +38,13 @@ pub stop-is : {b : List ℕ} {at n : ℕ} → RecordHere b at → Number (big (t
 stop-is {b} {at} {n} p e =
     let ok : isSome (whole kinded (part b (at + 2) (at + 2 + n))) ≡ true = rw (e .is) (p .ok) in
     record { is = rw (e .is); low = some-bytes b (at + 2) (at + 2 + n) ok; fits = rw (e .is) (p .fits); ok = ok }
+
+-- so where a record ends, one was accepted
+pub end-stops : {b : List ℕ} {at e : ℕ} → RecordEnd b at e → 1 ≤ e → StopIs b at e
+unfolding recordIn
+end-stops {b} {at} {e} p h =
+    let ok : isSome (whole kinded (part b (at + 2) e)) ≡ true = p .ok ∙ lt-ltb 0 e h in
+    record { is = p .stop h; low = some-bytes b (at + 2) e ok; fits = p .fits; ok = ok }
 
 -- a record is there, or not
 record-cases : (b : List ℕ) (at : ℕ) → at ≤ length b → RecordEnd b at 0 ⊎ RecordEnd b at (recordStop b at)

@@ -40,6 +40,7 @@ pub record RecordEnd (b : List ℕ) (at r : ℕ) : Type 0 where
   pub is : oneRecord (drop at b) ≡ back (recordIn b at r) (drop r b)
   pub ok : isSome (recordIn b at r) ≡ ltb 0 r
   pub low : 0 < r → at + 2 ≤ r
+  pub stop : 0 < r → r ≡ recordStop b at
   pub fits : r ≤ length b
 
 -- an accepted record stands at `at`

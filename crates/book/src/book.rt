@@ -15,7 +15,7 @@ ghost use Rattle.rules.specs.BookLayout.{kinded, records};
 ghost use Rattle.layout.specs.Ensures.{Accepts, Says};
 ghost use Rattle.book.specs.Ensures.{RecordEnd, RecordHere, StopIs, headerOk};
 
-fn header_ok(b: &[u8]) -> bool
+pub fn header_ok(b: &[u8]) -> bool
     ensures { λ r. ⌜ Says (headerOk (now (b .entry))) r ⌝ }
 {
     let n = b.len();
@@ -43,7 +43,7 @@ fn record_ok(s: &[u8]) -> bool
 }
 
 // The end of the record at `at`, or 0.
-fn record_end(b: &[u8], at: usize) -> usize
+pub fn record_end(b: &[u8], at: usize) -> usize
     requires { ⌜ at ≤ length (now b) ⌝ }
     ensures { λ r. ⌜ RecordEnd (now (b .entry)) at r ⌝ }
 {

@@ -4,5 +4,7 @@ mod kinds;
 mod packaging;
 
 pub use book::book_ok;
+pub use book::header_ok;
+pub use book::record_end;
 pub use book::record_stop;
 pub use kinds::given_or;

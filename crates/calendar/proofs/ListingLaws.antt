@@ -19,9 +19,9 @@ use Rattle.rules.specs.Calendar.{Stretch, stretches, outcome, periodTo, mostDay
 use Rattle.rules.specs.Changes.{dated, movingRows, daysOfChange, changes, isChange}
 use Rattle.rules.proofs.StaysLaws.{stays-next}
 use Rattle.rules.proofs.CalendarLaws.{period-days, period-end, period-count}
-use Rattle.book.specs.Records.{recordsLeft, listed as recordsIn}
+use Rattle.book.specs.Records.{recordsLeft}
 use Rattle.book.specs.Ensures.{Between}
-use Rattle.book.proofs.WalkLaws.{book-records, all-left, pass-start}
+use Rattle.book.proofs.WalkLaws.{book-left}
 use Rattle.question.specs.declared.Ask.{Ask}
 use Rattle.question.specs.Asked.{askIn, AskIs}
 use Rattle.choice.specs.declared.span.Window.{Window}
@@ -33,8 +33,8 @@ use Rattle.period.specs.Marks.{MarksAre}
 use Rattle.period.proofs.PlaceLaws.{period-dates}
 use Rattle.stretches.specs.declared.runs.Runs.{Runs}
 use Rattle.calendar.specs.declared.listing.Listing.{Listing}
-use Rattle.price.specs.declared.picks.Picks.{Picks}
-use Rattle.price.specs.Picks.{PicksAre}
+use Rattle.survey.specs.declared.Surveyed.{Surveyed}
+use Rattle.survey.specs.Survey.{SurveyIs}
 use Rattle.stretches.specs.Runs.{Marked, RunsAre}
 use Rattle.calendar.specs.Listing.{within, listing, listed, ListingIs, Refused}
 
@@ -98,14 +98,14 @@ module _ (b s : List ℕ) (ask : Ask) {end : ℕ} {p : Period} (h : PeriodIs (as
     is-period : periodTo (ask .date) end ≡ some days
     is-period = h .some-is (omega arith)
 
-    pub within-3 : {k : Picks} → PicksAre b (askIn s ask) k → k .found ≡ false → {r : Listing} → Refused 3 r → ListingIs listed-within r
+    pub within-3 : {k : Surveyed} → SurveyIs b (askIn s ask) k → k .ok ≡ true → k .found ≡ false → {r : Listing} → Refused 3 r → ListingIs listed-within r
     unfolding within
-    within-3 k f w = record { long = w .long; few = w .few; is = rw is-period (article-3 (articleOf (recordsLeft b 5) (askIn s ask .article)) (stretches (outcome (recordsLeft b 5) (askIn s ask)) days) (k .found) f ∙ sym (w .is)) }
+    within-3 k t f w = record { long = w .long; few = w .few; is = rw is-period (article-3 (articleOf (recordsLeft b 5) (askIn s ask .article)) (stretches (outcome (recordsLeft b 5) (askIn s ask)) days) (k .found t) f ∙ sym (w .is)) }
 
-    pub within-done : {k : Picks} → PicksAre b (askIn s ask) k → k .found ≡ true → {r : Runs} → RunsAre (stretches (outcome (recordsLeft b 5) (askIn s ask)) days) r
+    pub within-done : {k : Surveyed} → SurveyIs b (askIn s ask) k → k .ok ≡ true → k .found ≡ true → {r : Runs} → RunsAre (stretches (outcome (recordsLeft b 5) (askIn s ask)) days) r
         → ListingIs listed-within (record { runs = r; number = 0 })
     unfolding within
-    within-done k f w = record { long = w .long; few = w .few; is = rw is-period (article-there (articleOf (recordsLeft b 5) (askIn s ask .article)) (stretches (outcome (recordsLeft b 5) (askIn s ask)) days) (k .found) f ∙ ap done (sym (w .is))) }
+    within-done k t f w = record { long = w .long; few = w .few; is = rw is-period (article-there (articleOf (recordsLeft b 5) (askIn s ask .article)) (stretches (outcome (recordsLeft b 5) (askIn s ask)) days) (k .found t) f ∙ ap done (sym (w .is))) }
 
 module _ {start end : ℕ} {p : Period} (h : PeriodIs start end p) where
   pub days-size : p .n ≡ length (take (p .n) (p .dates))
@@ -126,6 +126,9 @@ module _ {start end : ℕ} {p : Period} (h : PeriodIs start end p) where
 pub is-question : (s : List ℕ) {y : Bool} → y ≡ isSome (questionOf s) → y ≡ true → isSome (questionOf s) ≡ true
 is-question s e f = sym e ∙ f
 
+pub surveyed-window : {b : List ℕ} {q : Question} {k : Surveyed} → SurveyIs b q k → k .ok ≡ true → Windows b 5 q (k .window)
+surveyed-window k t = k .window t
+
 module _ (b s : List ℕ) (end : ℕ) {x : Bool} (e : x ≡ isSome (records b)) where
   pub listing-1 : x ≡ false → {r : Listing} → Refused 1 r → ListingIs (listing b s end) r
   unfolding listing
@@ -136,11 +139,8 @@ module _ (b s : List ℕ) (end : ℕ) {x : Bool} (e : x ≡ isSome (records b)) 
       go (some rs) g = absurd (false≢true (sym g))
 
   module _ (f : x ≡ true) where
-    pub listing-start : Between b 5
-    listing-start = pass-start b (sym e ∙ f)
-
     book-is : records b ≡ some (recordsLeft b 5)
-    book-is = book-records b (sym e ∙ f) ∙ ap (λ o. some (recordsIn o)) (sym (all-left b (sym e ∙ f)))
+    book-is = book-left b (sym e ∙ f)
 
     pub listing-2 : {y : Bool} → y ≡ isSome (questionOf s) → y ≡ false → {r : Listing} → Refused 2 r → ListingIs (listing b s end) r
     unfolding listing
@@ -150,6 +150,13 @@ module _ (b s : List ℕ) (end : ℕ) {x : Bool} (e : x ≡ isSome (records b)) 
         go none g = refl
         go (some q) g = absurd (false≢true (sym g))
 
-    pub listing-is : {ask : Ask} → AskIs s ask → {r : Listing} → ListingIs (within (recordsLeft b 5) (askIn s ask) end) r → ListingIs (listing b s end) r
+    listing-is : {ask : Ask} → AskIs s ask → {r : Listing} → ListingIs (within (recordsLeft b 5) (askIn s ask) end) r → ListingIs (listing b s end) r
     unfolding listing
     listing-is a w = record { long = w .long; few = w .few; is = rw (book-is, a .is) (w .is) }
+
+module _ (b s : List ℕ) (end : ℕ) {ask : Ask} (a : AskIs s ask) {k : Surveyed} (told : SurveyIs b (askIn s ask) k) where
+  pub surveyed-1 : k .ok ≡ false → {r : Listing} → Refused 1 r → ListingIs (listing b s end) r
+  surveyed-1 = listing-1 b s end (told .ok)
+
+  pub surveyed-is : k .ok ≡ true → {r : Listing} → ListingIs (within (recordsLeft b 5) (askIn s ask) end) r → ListingIs (listing b s end) r
+  surveyed-is t = listing-is b s end (told .ok) t a

@@ -23,10 +23,12 @@ use Rattle.rules.proofs.UnusedLaws.{unused-count}
 use Rattle.layout.specs.Ensures.{Puts}
 use Rattle.layout.proofs.StoreLaws.{puts-front}
 use Rattle.book.specs.Records.{recordsLeft}
-use Rattle.book.specs.Ensures.{Between}
-use Rattle.book.proofs.WalkLaws.{pass-start, book-left}
+use Rattle.book.proofs.WalkLaws.{book-left}
 use Rattle.question.specs.declared.Ask.{Ask}
 use Rattle.question.specs.Asked.{askIn, AskIs}
+use Rattle.choice.specs.Span.{Windows}
+use Rattle.survey.specs.declared.Surveyed.{Surveyed}
+use Rattle.survey.specs.Survey.{SurveyIs}
 use Rattle.lines.specs.declared.Pick.{Pick}
 use Rattle.lines.specs.declared.verdict.Verdict.{Verdict}
 use Rattle.lines.specs.Views.{viewsIn, viewsBytes, letters, baseFirst}
@@ -35,8 +37,7 @@ use Rattle.lines.specs.Verdict.{VerdictIs}
 use Rattle.lines.proofs.PricedLaws.{line-count, line-places, bytes-count}
 use Rattle.lines.proofs.ChosenLaws.{chosen-base-first}
 use Rattle.lines.proofs.VerdictLaws.{so, not-so}
-use Rattle.price.specs.declared.picks.Picks.{Picks}
-use Rattle.price.specs.Picks.{PickedAre, PicksAre}
+use Rattle.price.specs.Picks.{PickedAre}
 use Rattle.price.specs.Unused.{idle, UnusedIs}
 use Rattle.price.specs.Call.{answered, PriceIs}
 use Rattle.price.proofs.UnusedSetLaws.{idle-lines}
@@ -54,12 +55,12 @@ pricing book q room = priced book q >>= λ p. roomFor room (answerOf q p)
 
 -- ---- an accepted book and question
 
-module _ (b : List ℕ) {ok : Bool} (is : ok ≡ isSome (records b)) (t : not ok ≡ false) where
-  pub book-there : Between b 5
-  book-there = pass-start b (sym is ∙ so ok t)
+module _ {b : List ℕ} {q : Question} {w : Surveyed} (told : SurveyIs b q w) (t : not (w .ok) ≡ false) where
+  pub window-there : Windows b 5 q (w .window)
+  window-there = told .window (so (w .ok) t)
 
   book-is : records b ≡ some (recordsLeft b 5)
-  book-is = book-left b (sym is ∙ so ok t)
+  book-is = book-left b (sym (told .ok) ∙ so (w .ok) t)
 
 pub question-there : (s : List ℕ) {ok : Bool} → ok ≡ isSome (questionOf s) → not ok ≡ false → isSome (questionOf s) ≡ true
 question-there s {ok} is f = sym is ∙ so ok f
@@ -71,27 +72,34 @@ module _ (b s lent : List ℕ) where
   unfolding lentAfter
   refuses e f = record { answer = f ∙ ap shown (sym e); output = rw e }
 
-  pub no-book : {ok : Bool} → ok ≡ isSome (records b) → not ok ≡ true → {r : PriceAnswer} → r ≡ shown (refused 1) → PriceIs b s lent r lent
+  no-records : records b ≡ none → {r : PriceAnswer} → r ≡ shown (refused 1) → PriceIs b s lent r lent
   unfolding price
-  no-book {ok} is f = let e : records b ≡ none = absent (records b) (sym is ∙ not-so ok f) in refuses (rw e)
+  no-records e = refuses (rw e)
 
-  module _ {ok : Bool} (is : ok ≡ isSome (records b)) (t : not ok ≡ false) where
-    pub no-question : {fine : Bool} → fine ≡ isSome (questionOf s) → not fine ≡ true → {r : PriceAnswer} → r ≡ shown (refused 2) → PriceIs b s lent r lent
+  module _ {fine : Bool} (asks : fine ≡ isSome (questionOf s)) (f : not fine ≡ true) {ok : Bool} (is : ok ≡ isSome (records b)) where
+    pub neither : ok ≡ false → {r : PriceAnswer} → r ≡ shown (refused 1) → PriceIs b s lent r lent
+    neither t = no-records (absent (records b) (sym is ∙ t))
+
+    pub no-question : ok ≡ true → {r : PriceAnswer} → r ≡ shown (refused 2) → PriceIs b s lent r lent
     unfolding price
-    no-question {fine} asks f = let e : questionOf s ≡ none = absent (questionOf s) (sym asks ∙ not-so fine f) in refuses (rw (book-is b is t, e))
+    no-question t = let e : questionOf s ≡ none = absent (questionOf s) (sym asks ∙ not-so fine f) in refuses (rw (book-left b (sym is ∙ t), e))
 
-    module _ {ask : Ask} (a : AskIs s ask) {p : Picks} (picked : PicksAre b (askIn s ask) p) where
-      pub no-article : not (p .found) ≡ true → {r : PriceAnswer} → r ≡ shown (refused 3) → PriceIs b s lent r lent
+  module _ {ask : Ask} (a : AskIs s ask) {w : Surveyed} (told : SurveyIs b (askIn s ask) w) where
+    pub no-book : not (w .ok) ≡ true → {r : PriceAnswer} → r ≡ shown (refused 1) → PriceIs b s lent r lent
+    no-book f = no-records (absent (records b) (sym (told .ok) ∙ not-so (w .ok) f))
+
+    module _ (t : not (w .ok) ≡ false) where
+      pub no-article : not (w .found) ≡ true → {r : PriceAnswer} → r ≡ shown (refused 3) → PriceIs b s lent r lent
       unfolding price
       no-article f =
-          let e : articleOf (recordsLeft b 5) (askIn s ask .article) ≡ none = absent (articleOf (recordsLeft b 5) (askIn s ask .article)) (sym (picked .found) ∙ not-so (p .found) f) in
-          refuses (rw (book-is b is t, a .is, e))
+          let e : articleOf (recordsLeft b 5) (askIn s ask .article) ≡ none = absent (articleOf (recordsLeft b 5) (askIn s ask .article)) (sym (told .found (so (w .ok) t)) ∙ not-so (w .found) f) in
+          refuses (rw (book-is told t, a .is, e))
 
-      priced-call : not (p .found) ≡ false → price b s (length lent) ≡ pricing (recordsLeft b 5) (askIn s ask) (length lent)
+      priced-call : not (w .found) ≡ false → price b s (length lent) ≡ pricing (recordsLeft b 5) (askIn s ask) (length lent)
       unfolding price
       priced-call f =
-          let x = there (articleOf (recordsLeft b 5) (askIn s ask .article)) (sym (picked .found) ∙ so (p .found) f) in
-          rw (book-is b is t, a .is, x .1)
+          let x = there (articleOf (recordsLeft b 5) (askIn s ask .article)) (sym (told .found (so (w .ok) t)) ∙ so (w .found) f) in
+          rw (book-is told t, a .is, x .1)
 
 -- ---- the rows that stand for the question
 
@@ -119,39 +127,39 @@ module _ {b : List ℕ} {q : Question} {picks : List Pick} {n : ℕ} (picked : P
 
 -- ---- refusals 4 to 7, and the answer
 
-module _ (b s lent : List ℕ) {ok : Bool} (is : ok ≡ isSome (records b)) (t : not ok ≡ false) {ask : Ask} (a : AskIs s ask) {p : Picks} (picked : PicksAre b (askIn s ask) p) (f : not (p .found) ≡ false)
-    {v : Verdict} (j : VerdictIs (p .rows) (p .n) v) where
+module _ (b s lent : List ℕ) {ask : Ask} (a : AskIs s ask) {w : Surveyed} (told : SurveyIs b (askIn s ask) w) (t : not (w .ok) ≡ false) (f : not (w .found) ≡ false)
+    {picks : List Pick} {n : ℕ} (picked : PickedAre b (askIn s ask) picks n) {v : Verdict} (j : VerdictIs picks n v) where
   pub no-price : (v .number ≡ 0 → ⊥) → {r : PriceAnswer} → r ≡ shown (refused (v .number)) → PriceIs b s lent r lent
   no-price z =
-      let e = j .refuses z (recordsLeft b 5) (askIn s ask) (stand (picked .picked)) in
-      refuses b s lent (priced-call b s lent is t a picked f ∙ rw (e .is))
+      let e = j .refuses z (recordsLeft b 5) (askIn s ask) (stand picked) in
+      refuses b s lent (priced-call b s lent a told t f ∙ rw (e .is))
 
   module _ (z : v .number ≡ 0) where
     at-price : price b s (length lent) ≡ roomFor (length lent) (answerOf (askIn s ask) (record { lines = linesOf (recordsLeft b 5) (askIn s ask); currency = letters (v .currency) }))
-    at-price = let e = j .answered z (recordsLeft b 5) (askIn s ask) (stand (picked .picked)) in priced-call b s lent is t a picked f ∙ rw (e .is)
+    at-price = let e = j .answered z (recordsLeft b 5) (askIn s ask) (stand picked) in priced-call b s lent a told t f ∙ rw (e .is)
 
-    pub no-room : length lent < 14 * p .n → {r : PriceAnswer} → r ≡ shown (refused 7) → PriceIs b s lent r lent
+    pub no-room : length lent < 14 * n → {r : PriceAnswer} → r ≡ shown (refused 7) → PriceIs b s lent r lent
     unfolding answerOf
     no-room h =
-        let e : leb (length (linesBytes (linesOf (recordsLeft b 5) (askIn s ask)))) (length lent) ≡ false = rw (size (picked .picked)) (lt-leb (14 * p .n) (length lent) h) in
+        let e : leb (length (linesBytes (linesOf (recordsLeft b 5) (askIn s ask)))) (length lent) ≡ false = rw (size picked) (lt-leb (14 * n) (length lent) h) in
         refuses b s lent (at-price ∙ rw e)
 
     -- with room, the lines go to the front, and what is read is the definition's
-    pub has-answer : {set : ℕ} → UnusedIs (askIn s ask .granted) (map (λ v. v .place) (viewsIn (p .rows) (p .n))) set → 14 * p .n ≤ length lent
-        → {after : List ℕ} → Puts lent 0 (viewsBytes (viewsIn (p .rows) (p .n)) (take (p .n) (v .amounts))) after
-        → {r : PriceAnswer} → r ≡ answered (ask .quantity) (p .n) v set → PriceIs b s lent r after
+    pub has-answer : {set : ℕ} → UnusedIs (askIn s ask .granted) (map (λ v. v .place) (viewsIn picks n)) set → 14 * n ≤ length lent
+        → {after : List ℕ} → Puts lent 0 (viewsBytes (viewsIn picks n) (take n (v .amounts))) after
+        → {r : PriceAnswer} → r ≡ answered (ask .quantity) n v set → PriceIs b s lent r after
     unfolding answerOf shown lentAfter
-    has-answer {set} u h {after} w {r} e =
+    has-answer {set} u h {after} put {r} e =
         let book : List Record = recordsLeft b 5 in
         let q : Question = askIn s ask in
         let ls : List Line = linesOf book q in
-        let x = j .answered z book q (stand (picked .picked)) in
-        let fits : leb (length (linesBytes ls)) (length lent) ≡ true = rw (size (picked .picked)) (le-leb (14 * p .n) (length lent) h) in
+        let x = j .answered z book q (stand picked) in
+        let fits : leb (length (linesBytes ls)) (length lent) ≡ true = rw (size picked) (le-leb (14 * n) (length lent) h) in
         let is-done : price b s (length lent) ≡ done (answerOf q (record { lines = ls; currency = letters (v .currency) })) = at-price ∙ rw fits in
-        let count : length ls ≡ p .n = line-count book q (p .rows) (p .n) (stand (picked .picked)) (omega (arith, picked .picked .few, picked .picked .long)) in
-        let set′ : set ≡ setOf (unusedOf q ls) = set-is (picked .picked) u in
+        let count : length ls ≡ n = line-count book q picks n (stand picked) (omega (arith, picked .few, picked .long)) in
+        let set′ : set ≡ setOf (unusedOf q ls) = set-is picked u in
         let ones′ : ones set ≡ length (unusedOf q ls) = ap ones set′ ∙ unused-count q ls in
-        let bytes : viewsBytes (viewsIn (p .rows) (p .n)) (take (p .n) (v .amounts)) ≡ linesBytes ls = sym (x .bytes) in
+        let bytes : viewsBytes (viewsIn picks n) (take n (v .amounts)) ≡ linesBytes ls = sym (x .bytes) in
         record {
           answer = e ∙ (λ i. record {
             unit = sym (x .unit) i;
@@ -162,5 +170,5 @@ module _ (b s lent : List ℕ) {ok : Bool} (is : ok ≡ isSome (records b)) (t :
             number = 0;
             currency = letters (v .currency);
           }) ∙ ap shown (sym is-done);
-          output = puts-front w ∙ ap (λ (new : List ℕ). over new lent) bytes ∙ ap (λ (a : Result Answer). lentAfter written a lent) (sym is-done);
+          output = puts-front put ∙ ap (λ (new : List ℕ). over new lent) bytes ∙ ap (λ (a : Result Answer). lentAfter written a lent) (sym is-done);
         }

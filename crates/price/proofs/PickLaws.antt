@@ -36,7 +36,7 @@ use Rattle.lines.specs.declared.Pick.{Pick}
 use Rattle.lines.specs.Views.{View, viewOf, viewIn, viewsIn}
 use Rattle.lines.specs.Contracts.{Sound}
 use Rattle.price.specs.declared.picks.Picks.{Picks}
-use Rattle.price.specs.Picks.{RoundingsIn, Held, HandHeld, RowPicked, HandPicked, Counted, viewsFrom, Picking, PicksSoFar, Filled, PickedAre, PicksFrom, PicksAre}
+use Rattle.price.specs.Picks.{RoundingsIn, Held, HandHeld, RowPicked, HandPicked, Counted, viewsFrom, Picking, PicksSoFar, Filled, PickedAre, PicksFrom}
 
 pub held-kind : {b : List ℕ} {at end : ℕ} → Held b at end → OfKind 2 (take (end - at) (drop at b))
 held-kind h = there-kind (h .there)
@@ -195,23 +195,12 @@ module _ {b : List ℕ} {slots : List Seen} {w : Window} (filled : Filled b slot
   pub filled-held : {i : ℕ} → i < 99 → {hand : Hand} → TakenIs (getD slots i unseen) hand → HandHeld b hand
   filled-held l t = slot-held (filled .holds) l t
 
--- ---- by a walk over the book, or over a window of it
+-- ---- by a walk over a window of the book
 
-module _ {b : List ℕ} {q : Question} {walked : Walked} where
-  pub of-filled : WalkIs b 5 q walked → Filled b (walked .slots) (walked .window)
-  of-filled walk = record { asked = q; holds = walk .slots; window = walk .window }
-
-  pub within-filled : {w : Window} → Windows b 5 q w → WalkIs (take (w .last) b) (w .first) q walked → Filled b (walked .slots) w
-  within-filled window walk = record { asked = q; holds = walk-within window walk; window = window }
+pub within-filled : {b : List ℕ} {q : Question} {w : Window} → Windows b 5 q w → {walked : Walked} → WalkIs (take (w .last) b) (w .first) q walked → Filled b (walked .slots) w
+within-filled {q = q} window walk = record { asked = q; holds = walk-within window walk; window = window }
 
 module _ {b q : List ℕ} {ask : Ask} (a : Asking q ask) {walked : Walked} {r : Picks} where
-  pub of-picks : WalkIs b 5 (askIn q ask) walked → PicksFrom b (walked .slots) (walked .window) (walked .found) r → PicksAre b (askIn q ask) r
-  of-picks walk p = record {
-    picked = p .each (askIn q ask) (walk .slots) (asking-granted a);
-    found = p .told ∙ walk .found;
-    window = subst (Windows b 5 (askIn q ask)) (sym (p .kept)) (walk .window);
-  }
-
   pub within-picks : {w : Window} {found : Bool} → Windows b 5 (askIn q ask) w → WalkIs (take (w .last) b) (w .first) (askIn q ask) walked → PicksFrom b (walked .slots) w found r
       → PickedAre b (askIn q ask) (r .rows) (r .n)
   within-picks window walk p = p .each (askIn q ask) (walk-within window walk) (asking-granted a)

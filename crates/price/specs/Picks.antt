@@ -5,8 +5,8 @@ use mathlib.Core.List.{List, _++_, map}
 use mathlib.Core.Bool.{Bool, cond}
 use lib.Dec.{eqb}
 use lib.ListN.{length}
-use Rattle.rules.specs.Lists.{gather, isSome}
-use Rattle.rules.specs.Book.{Row, Record, rows, roundings, articleOf}
+use Rattle.rules.specs.Lists.{gather}
+use Rattle.rules.specs.Book.{Row, Record, rows, roundings}
 use Rattle.rules.specs.Question.{Question}
 use Rattle.rules.specs.Lines.{chosen}
 use Rattle.rules.proofs.ListLaws.{All}
@@ -89,8 +89,3 @@ pub record PicksFrom (b : List ℕ) (slots : List Seen) (w : Window) (found : Bo
   pub each : (q : Question) → SlotsHold b (rows (recordsLeft b 5)) q slots → Granted (q .granted) → PickedAre b q (r .rows) (r .n)
   pub told : r .found ≡ found
   pub kept : r .window ≡ w
-
-pub record PicksAre (b : List ℕ) (q : Question) (r : Picks) : Type 0 where
-  pub picked : PickedAre b q (r .rows) (r .n)
-  pub found : r .found ≡ isSome (articleOf (recordsLeft b 5) (q .article))
-  pub window : Windows b 5 q (r .window)

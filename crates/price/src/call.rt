@@ -1,7 +1,7 @@
 // The price call: refusals 1, 2, 3, 4, 5, 6, 7 in that order, and the lines at the front of the lent output.
 use crate::answer::answer;
 use crate::answer::refusal;
-use crate::picks::picks_of;
+use crate::picks::picks_within;
 use crate::unused::unused;
 use book::book_ok;
 use lines::verdict::judge;
@@ -9,23 +9,30 @@ use lines::write_lines;
 use question::ask_of;
 use question::question_ok;
 use rules::PriceAnswer;
+use survey::survey;
 ghost use Rattle.price.specs.Call.{PriceIs};
 
-// No byte is written before all seven are tested.
+// No byte is written before all seven are tested. The question is looked at first, so that the book is gone through once; a question
+// that is none is refused only once the book is known to be one.
 pub fn price(book: &[u8], question: &[u8], out: &mut [u8]) -> PriceAnswer
     ensures { λ r. ⌜ PriceIs (now (book .entry)) (now (question .entry)) (now (out .entry)) r (now (out .exit)) ⌝ }
 {
-    if !book_ok(book) {
+    if !question_ok(question) {
+        if book_ok(book) {
+            return refusal(2);
+        }
         return refusal(1);
     }
-    if !question_ok(question) {
-        return refusal(2);
-    }
     let ask = ask_of(question);
-    let picks = picks_of(book, question, ask);
-    if !picks.found {
+    let surveyed = survey(book, question, ask);
+    if !surveyed.ok {
+        return refusal(1);
+    }
+    if !surveyed.found {
         return refusal(3);
     }
+    let window = surveyed.window;
+    let picks = picks_within(book, window, question, ask);
     let rows = picks.rows;
     let n = picks.n;
     let v = judge(rows, n);

@@ -11,11 +11,10 @@ use rules::Currency;
 use rules::Rounding;
 use rules::Value;
 use rules::Way;
-ghost use Rattle.book.specs.Ensures.{Between};
 ghost use Rattle.question.specs.Asked.{askIn};
 ghost use Rattle.choice.specs.Span.{Windows};
 ghost use Rattle.choice.specs.Walk.{Asking};
-ghost use Rattle.price.specs.Picks.{RoundingsIn, Held, HandHeld, RowPicked, HandPicked, Counted, Filled, PicksFrom, PickedAre, PicksAre};
+ghost use Rattle.price.specs.Picks.{RoundingsIn, Held, HandHeld, RowPicked, HandPicked, Counted, Filled, PicksFrom, PickedAre};
 
 // The first n of the rows count. `found`, once the whole book was walked: it has a record of the article. `window`: where its rows and the
 // roundings stand.
@@ -106,19 +105,7 @@ pub fn picks_from(b: &[u8], slots: [Seen; 100], window: Window, found: bool) -> 
     }
 }
 
-// By one walk over the whole book.
-pub fn picks_of(b: &[u8], q: &[u8], ask: Ask) -> Picks
-    requires { ⌜ Between (now b) 5 ⌝ }
-    requires { ⌜ Asking (now q) ask ⌝ }
-    ensures { λ r. ⌜ PicksAre (now (b .entry)) (askIn (now (q .entry)) ask) r ⌝ }
-{
-    let walked = walk(b, 5, q, ask);
-    let slots = walked.slots;
-    let window = walked.window;
-    picks_from(b, slots, window, walked.found)
-}
-
-// By a walk over the window that an earlier one told. Whether the article has a record was told then, and is not looked for again.
+// By a walk over the window of the question.
 pub fn picks_within(b: &[u8], window: Window, q: &[u8], ask: Ask) -> Picks
     requires { ⌜ Asking (now q) ask ⌝ }
     requires { ⌜ Windows (now b) 5 (askIn (now q) ask) window ⌝ }

@@ -2,107 +2,100 @@
 use native.Mathlib.Omega.{arith}
 use borrow.Author.Needs.{needs}
 use Rattle.choice.proofs.ChosenLaws.{asking}
-use Rattle.price.proofs.CallLaws.{book-there, question-there, no-book, no-question, no-article, can-judge, can-write, no-price, no-room, has-answer}
+use Rattle.price.proofs.CallLaws.{window-there, question-there, neither, no-book, no-question, no-article, can-judge, can-write, no-price, no-room, has-answer}
 use Rattle.price.proofs.call.price.Statement.{statement}
 use Rattle.price.proofs.call.price.Tie as tie
 
 returns : tie.Need-returns
-returns c = no-book _ _ _ (c .before .before .book-ok .ensures) (c .before .if1 .taken) (c .refusal .ensures)
+returns c = let asks = c .before .before .before in no-question _ _ _ (asks .before .question-ok .ensures) (asks .if1 .taken) (c .before .before .book-ok .ensures) (c .before .if2 .taken) (c .refusal .ensures)
 
 returns-2 : tie.Need-returns-2
-returns-2 c =
-    let asks = c .before .before in
-    let book = asks .before .before in
-    no-question _ _ _ (book .book-ok .ensures) (asks .before .if1 .left) (asks .question-ok .ensures) (c .before .if2 .taken) (c .refusal2 .ensures)
+returns-2 c = let asks = c .before .before .before in neither _ _ _ (asks .before .question-ok .ensures) (asks .if1 .taken) (c .before .before .book-ok .ensures) (c .before .if2 .left) (c .refusal2 .ensures)
 
 ask-of-requires : tie.Need-ask-of-requires
-ask-of-requires c κs = question-there _ (c .before .question-ok .ensures) (c .if2 .left)
+ask-of-requires c κs = question-there _ (c .before .question-ok .ensures) (c .if1 .left)
 
-picks-of-requires : tie.Need-picks-of-requires
-picks-of-requires c κs =
-    let asks = c .before .before in
-    let book = asks .before .before in
-    (book-there _ (book .book-ok .ensures) (asks .before .if1 .left), asking (c .ask-of .ensures))
+survey-requires : tie.Need-survey-requires
+survey-requires c κs = asking (c .ask-of .ensures)
 
 returns-3 : tie.Need-returns-3
-returns-3 c =
-    let picks = c .before .before .before in
-    let asks = picks .before .before .before in
-    let book = asks .before .before in
-    no-article _ _ _ (book .book-ok .ensures) (asks .before .if1 .left) (picks .before .ask-of .ensures) (picks .picks-of .ensures) (c .before .if3 .taken) (c .refusal3 .ensures)
-
-judge-requires : tie.Need-judge-requires
-judge-requires c κs = can-judge (c .before .before .before .picks-of .ensures .picked)
+returns-3 c = let told = c .before .before .before in no-book _ _ _ (told .before .ask-of .ensures) (told .survey .ensures) (c .before .if3 .taken) (c .refusal3 .ensures)
 
 returns-4 : tie.Need-returns-4
-returns-4 c =
-    let judged = c .before .before .before in
-    let picks = judged .before .before .before .before in
-    let asks = picks .before .before .before in
-    let book = asks .before .before in
-    no-price _ _ _ (book .book-ok .ensures) (asks .before .if1 .left) (picks .before .ask-of .ensures) (picks .picks-of .ensures) (judged .before .before .if3 .left) (judged .judge .ensures)
-    (search needs) (c .refusal4 .ensures)
+returns-4 c = let told = c .before .before .before .before .before in no-article _ _ _ (told .before .ask-of .ensures) (told .survey .ensures) (c .before .before .before .if3 .left) (c .before .if4 .taken) (c .refusal4 .ensures)
+
+picks-within-requires : tie.Need-picks-within-requires
+picks-within-requires c κs = let told = c .before .before .before .before .before in (asking (told .before .ask-of .ensures), window-there (told .survey .ensures) (c .before .before .before .if3 .left))
+
+judge-requires : tie.Need-judge-requires
+judge-requires c κs = can-judge (c .before .picks-within .ensures)
 
 returns-5 : tie.Need-returns-5
 returns-5 c =
+    let judged = c .before .before .before in
+    let picks = judged .before .before in
+    let told = picks .before .before .before .before .before .before in
+    no-price _ _ _ (told .before .ask-of .ensures) (told .survey .ensures) (picks .before .before .before .before .if3 .left) (picks .before .before .if4 .left) (picks .picks-within .ensures) (judged .judge .ensures)
+    (search needs) (c .refusal5 .ensures)
+
+returns-6 : tie.Need-returns-6
+returns-6 c =
     let judged = c .before .before .before .before in
-    let picks = judged .before .before .before .before in
-    let asks = picks .before .before .before in
-    let book = asks .before .before in
-    no-room _ _ _ (book .book-ok .ensures) (asks .before .if1 .left) (picks .before .ask-of .ensures) (picks .picks-of .ensures) (judged .before .before .if3 .left) (judged .judge .ensures)
-    (search needs) (omega arith) (c .refusal5 .ensures)
+    let picks = judged .before .before in
+    let told = picks .before .before .before .before .before .before in
+    no-room _ _ _ (told .before .ask-of .ensures) (told .survey .ensures) (picks .before .before .before .before .if3 .left) (picks .before .before .if4 .left) (picks .picks-within .ensures) (judged .judge .ensures)
+    (search needs) (omega arith) (c .refusal6 .ensures)
 
 unused-requires : tie.Need-unused-requires
 unused-requires c κs =
-    let judged = c .before .before .before in
-    let picks = judged .before .before .before .before in
-    (asking (picks .before .ask-of .ensures), picks .picks-of .ensures .picked .few)
+    let picks = c .before .before .before .before .before in
+    (asking (picks .before .before .before .before .before .before .before .ask-of .ensures), picks .picks-within .ensures .few)
 
 write-lines-requires : tie.Need-write-lines-requires
 write-lines-requires c κs =
     let judged = c .before .before .before .before .before .before in
-    let picks = judged .before .before .before .before in
-    can-write (picks .picks-of .ensures .picked) (judged .judge .ensures) (search needs)
+    can-write (judged .before .before .picks-within .ensures) (judged .judge .ensures) (search needs)
 
 answer-requires : tie.Need-answer-requires
 answer-requires c κs =
     let judged = c .before .before .before .before .before .before .before .before .before in
-    let picks = judged .before .before .before .before in
-    (picks .before .ask-of .ensures .most, judged .judge .ensures .unit-in)
+    (judged .before .before .before .before .before .before .before .before .before .ask-of .ensures .most, judged .judge .ensures .unit-in)
 
-returns-6 : tie.Need-returns-6
-returns-6 c =
+returns-7 : tie.Need-returns-7
+returns-7 c =
     let wrote = c .before .before .before in
     let idle = wrote .before .before .before in
     let judged = idle .before .before .before .before in
-    let picks = judged .before .before .before .before in
-    let asks = picks .before .before .before in
-    let book = asks .before .before in
-    has-answer _ _ _ (book .book-ok .ensures) (asks .before .if1 .left) (picks .before .ask-of .ensures) (picks .picks-of .ensures) (judged .before .before .if3 .left) (judged .judge .ensures)
+    let picks = judged .before .before in
+    let told = picks .before .before .before .before .before .before in
+    has-answer _ _ _ (told .before .ask-of .ensures) (told .survey .ensures) (picks .before .before .before .before .if3 .left) (picks .before .before .if4 .left) (picks .picks-within .ensures) (judged .judge .ensures)
     (search needs) (idle .unused .ensures) (omega arith) (wrote .write-lines .ensures) (c .answer .ensures)
 
 pub price-spec : {M : Type 1} → statement M
 price-spec =
     tie.close
     (tie.spec
+    (λ c κs. search needs)  -- question-ok-requires
     (λ c κs. search needs)  -- book-ok-requires
     (λ c κs. search needs)  -- refusal-requires
     returns
-    (λ c κs. search needs)  -- question-ok-requires
     (λ c κs. search needs)  -- refusal-requires-2
     returns-2
     ask-of-requires
-    picks-of-requires
+    survey-requires
     (λ c κs. search needs)  -- refusal-requires-3
     returns-3
-    judge-requires
     (λ c κs. search needs)  -- refusal-requires-4
     returns-4
-    (λ c. search needs)  -- mul-if5
+    picks-within-requires
+    judge-requires
     (λ c κs. search needs)  -- refusal-requires-5
     returns-5
+    (λ c. search needs)  -- mul-if6
+    (λ c κs. search needs)  -- refusal-requires-6
+    returns-6
     unused-requires
     write-lines-requires
     answer-requires
     (λ c. search needs)  -- same-length
-    returns-6)
+    returns-7)
