@@ -32,10 +32,9 @@ use Rattle.question.proofs.PartLaws.{granted-stop}
 use Rattle.choice.specs.declared.hands.Hand.{Hand}
 use Rattle.choice.specs.declared.hands.Seen.{Seen}
 use Rattle.choice.specs.declared.span.Window.{Window}
-use Rattle.choice.specs.declared.Walked.{Walked}
 use Rattle.choice.specs.Slots.{levelOf, placeOf, inSlot, slotChosen}
 use Rattle.choice.specs.Hands.{takenOf, TakenIs, RowThere, HandIs, NoRow, OneRow, SeenIs}
-use Rattle.choice.specs.Walk.{Asking, askOn, unseen, seenOf, Chooses, SlotsHold, WalkIs}
+use Rattle.choice.specs.Walk.{Asking, askOn, unseen, seenOf, Chooses, SlotsHold}
 use Rattle.choice.specs.Span.{ownRows, Windows}
 use Rattle.choice.proofs.PassingLaws.{same-row}
 use Rattle.choice.proofs.SlotLaws.{Granted}
@@ -158,14 +157,14 @@ slot-own q level place rs =
     twice true false c = refl
     twice false b c = refl
 
-pub walk-within : {w : List ℕ} {from : ℕ} {q : Question} {window : Window} {r : Walked} → Windows w from q window → WalkIs (take (window .last) w) (window .first) q r
-    → SlotsHold w (rows (recordsLeft w from)) q (r .slots)
+pub walk-within : {w : List ℕ} {from : ℕ} {q : Question} {window : Window} {slots : List Seen} → Windows w from q window
+    → SlotsHold (take (window .last) w) (rows (recordsLeft (take (window .last) w) (window .first))) q slots → SlotsHold w (rows (recordsLeft w from)) q slots
 unfolding seenOf
-walk-within {w} {from} {q} {window} {r} a b = record {
-  long = b .slots .long;
+walk-within {w} {from} {q} {window} {slots} a b = record {
+  long = b .long;
   each = λ level place l m.
-      subst (SeenIs w (getD (r .slots) (level * 33 + place) unseen))
+      subst (SeenIs w (getD slots (level * 33 + place) unseen))
       (ap (Choice.walk (q .date) (q .quantity) (q .currency) Choice.start)
       (sym (slot-own q level place (recordsLeft (take (window .last) w) (window .first))) ∙ ap (keep (inSlot q level place)) (a .same) ∙ slot-own q level place (recordsLeft w from)))
-      (seen-whole (a .fits) (b .slots .each level place l m));
+      (seen-whole (a .fits) (b .each level place l m));
 }

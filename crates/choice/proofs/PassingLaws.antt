@@ -18,8 +18,8 @@ use Rattle.rules.specs.Question.{Question, noCurrency, askedOf}
 use Rattle.rules.specs.Choice.{isPercent}
 use Rattle.rules.specs.declared.PriceRow.{PriceRow}
 use Rattle.rules.specs.declared.Currency.{Currency}
-use Rattle.rules.proofs.TestLaws.{and-left, and-true, and-false}
-use Rattle.rules.proofs.ChoiceLaws.{isAsked}
+use Rattle.rules.proofs.TestLaws.{and-left, and-true, and-false, so, not-so}
+use Rattle.rules.proofs.ChoiceLaws.{isAsked, stands}
 use Rattle.layout.specs.Ensures.{Number, Says}
 use Rattle.book.specs.Records.{kindOf}
 use Rattle.records.specs.Tests as Tests
@@ -31,7 +31,7 @@ use Rattle.question.specs.Parts.{namesAt}
 use Rattle.question.specs.Asked.{askIn, lettersOf}
 use Rattle.choice.specs.declared.hands.Passing.{Passing}
 use Rattle.choice.specs.Slots.{levelOf, placeOf, inSlot}
-use Rattle.choice.specs.Walk.{slotAt, slotOf, passingOf, inAsked, RowPasses, Passes, unasked, isRounding}
+use Rattle.choice.specs.Walk.{slotAt, slotOf, standing, passingOf, inAsked, RowPasses, Passes, unasked, isRounding}
 
 -- ---- the slot
 
@@ -149,32 +149,39 @@ in-asked : (o : Option (List ℕ)) (r : Row) → isAsked o r ≡ inAsked o (r .c
 in-asked none r = refl
 in-asked (some c) r = refl
 
-pub row-passes : (t : List ℕ) (row : PriceRow) (at end : ℕ) (q : List ℕ) (ask : Ask) {slot : ℕ} {percent holds asked : Bool}
-    → Number (slotOf (askIn q ask) (rowIn t row)) 100 slot → Says (isPercent (row .value)) percent
-    → Says (isDay (row .from) && (isDay (row .to) && between (row .from) (row .to) (ask .date))) holds
-    → Says (inAsked (askedOf (lettersOf (ask .currency))) (lettersOf (row .currency))) asked
-    → RowPasses (askIn q ask) at end (rowIn t row)
-    (record {
-      own = eqb (row .sort) (ask .sort);
-      slot = slot;
-      stands = not (eqb (row .level) 66 && percent) && holds;
-      asked = asked;
-      reaches = eqb (row .upto) 0 || leb (ask .quantity) (row .upto);
-      hand = record { at = at; end = end; upto = row .upto; from = row .from };
-    })
-unfolding passingOf rowIn
-row-passes t row at end q ask s p h a = record {
-  is = λ i.
-      record {
-        own = eqb (row .sort) (ask .sort);
-        slot = s .is i;
-        stands = not (eqb (row .level) 66 && sym (p .is) i) && sym (h .is) i;
-        asked = (sym (a .is) ∙ sym (in-asked (askedOf (lettersOf (ask .currency))) (rowIn t row))) i;
+module _ (t : List ℕ) (row : PriceRow) (at end : ℕ) (q : List ℕ) (ask : Ask) {percent holds : Bool} (p : Says (isPercent (row .value)) percent)
+    (h : Says (isDay (row .from) && (isDay (row .to) && between (row .from) (row .to) (ask .date))) holds) where
+  counts : stands (ask .date) (rowIn t row) ≡ (not (eqb (row .level) 66 && percent) && holds)
+  unfolding rowIn
+  counts = λ i. not (eqb (row .level) 66 && p .is i) && h .is i
+
+  pub row-past : not (not (eqb (row .level) 66 && percent) && holds) ≡ true → RowPasses (askIn q ask) at end (rowIn t row) unasked
+  unfolding passingOf rowIn
+  row-past e = record { is = ap (λ (x : Bool). cond x (standing (askIn q ask) at end (rowIn t row)) unasked) (sym (counts ∙ not-so _ e)); below = omega arith }
+
+  pub row-passes : not (not (eqb (row .level) 66 && percent) && holds) ≡ false → {slot : ℕ} {asked : Bool} → Number (slotOf (askIn q ask) (rowIn t row)) 100 slot
+      → Says (inAsked (askedOf (lettersOf (ask .currency))) (lettersOf (row .currency))) asked
+      → RowPasses (askIn q ask) at end (rowIn t row)
+      (record {
+        slot = slot;
+        stands = not (eqb (row .level) 66 && percent) && holds;
+        asked = asked;
         reaches = eqb (row .upto) 0 || leb (ask .quantity) (row .upto);
         hand = record { at = at; end = end; upto = row .upto; from = row .from };
-      };
-  below = s .below;
-}
+      })
+  unfolding passingOf rowIn
+  row-passes e s a = record {
+    is = (λ i.
+        record {
+          slot = s .is i;
+          stands = sym counts i;
+          asked = (sym (a .is) ∙ sym (in-asked (askedOf (lettersOf (ask .currency))) (rowIn t row))) i;
+          reaches = eqb (row .upto) 0 || leb (ask .quantity) (row .upto);
+          hand = record { at = at; end = end; upto = row .upto; from = row .from };
+        })
+        ∙ ap (λ (x : Bool). cond x (standing (askIn q ask) at end (rowIn t row)) unasked) (sym (counts ∙ so _ e));
+    below = s .below;
+  }
 
 -- ---- any record
 

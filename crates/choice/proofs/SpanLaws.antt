@@ -9,7 +9,7 @@ use lib.Dec.{eqb}
 use lib.ListN.{length, take, drop}
 use lib.Seq.{length-take-le, take-take}
 use borrow.Author.Tests.{eq-eqb, ne-eqb, eqb-true}
-use Rattle.rules.specs.Lists.{same, isSome, keep, consIf, consSome}
+use Rattle.rules.specs.Lists.{same, isSome, keep, consSome}
 use Rattle.rules.specs.Layout.{whole}
 use Rattle.rules.specs.Bytes.{big}
 use Rattle.rules.specs.Book.{Record, ArticleRecord, PriceRecord, RoundingRecord, PackagingRecord, SchemeRecord, rows, roundings}
@@ -21,10 +21,9 @@ use Rattle.layout.specs.Ensures.{Says}
 use Rattle.book.specs.Records.{recordIn, recordsFrom, listed, recordsLeft}
 use Rattle.book.specs.Ensures.{Between, RecordEnd, StopIs}
 use Rattle.book.proofs.BookLaws.{inFront, record-good, from-end, from-record}
-use Rattle.choice.specs.declared.hands.Passing.{Passing}
 use Rattle.choice.specs.declared.span.Span.{Span}
 use Rattle.choice.specs.declared.span.Window.{Window}
-use Rattle.choice.specs.Walk.{passingOf, Passes, isRounding}
+use Rattle.choice.specs.Walk.{isRounding}
 use Rattle.choice.specs.Span.{spanAfter, SpanAfter, rowSpan, roundingSpan, WindowAfter, ownRows, Windows}
 use Rattle.choice.proofs.SlotLaws.{gather-append}
 
@@ -107,18 +106,6 @@ rows-gather q = record { empty = refl; append = λ xs ys. ap (keep _) (gather-ap
 
 pub roundings-gather : Gathers roundings
 roundings-gather = record { empty = refl; append = λ xs ys. gather-append _ xs ys }
-
-pub rows-outside : {q : Question} {at end : ℕ} {o : Option Record} {p : Passing} → Passes q at end o p → p .own ≡ false → (r : Record) → o ≡ some r → ownRows q (r ∷ []) ≡ []
-unfolding ownRows passingOf
-rows-outside pass f (ArticleRecord a) e = refl
-rows-outside {q} {at} {end} {o} {p} pass f (PriceRecord r) e = ap (λ b. consIf b r []) (go (same (r .article) (q .article)) refl)
-  where
-    go : (b : Bool) → same (r .article) (q .article) ≡ b → (b && eqb (r .sort) (q .sort)) ≡ false
-    go true t = sym (ap (λ (x : Passing). x .own) (pass .row r e t)) ∙ f
-    go false t = refl
-rows-outside pass f (RoundingRecord r) e = refl
-rows-outside pass f (PackagingRecord r) e = refl
-rows-outside pass f (SchemeRecord r) e = refl
 
 pub roundings-outside : {o : Option Record} {b : Bool} → Says (isRounding o) b → b ≡ false → (r : Record) → o ≡ some r → roundings (r ∷ []) ≡ []
 unfolding isRounding

@@ -11,15 +11,13 @@ use lib.Seq.{getD-set-same, getD-set-other}
 use borrow.Author.Tests.{eq-eqb, ne-eqb, eqb-true, eqb-false}
 use Rattle.rules.specs.Lists.{same, isSome, keep, consIf, consSome, pick, first}
 use Rattle.rules.specs.Layout.{whole}
-use Rattle.rules.specs.Book.{Row, Record, ArticleRecord, PriceRecord, RoundingRecord, PackagingRecord, SchemeRecord, rows, roundings, articles, articleOf}
+use Rattle.rules.specs.Book.{Row, Record, ArticleRecord, PriceRecord, RoundingRecord, PackagingRecord, SchemeRecord, rows, articles, articleOf}
 use Rattle.rules.specs.BookLayout.{kinded}
 use Rattle.rules.specs.Question.{Question}
-use Rattle.rules.specs.Choice.{better}
-use Rattle.rules.proofs.TestLaws.{or-false, or-assoc}
+use Rattle.rules.specs.Choice.{better, reaches}
+use Rattle.rules.proofs.TestLaws.{or-false}
 use Rattle.rules.proofs.BestLaws.{inHand}
 use Rattle.rules.proofs.ChoiceLaws as Choice
-use Rattle.layout.specs.Reads.{part}
-use Rattle.layout.specs.Ensures.{Says}
 use Rattle.book.specs.Records.{recordsLeft}
 use Rattle.book.specs.Ensures.{Between, RecordHere, StopIs}
 use Rattle.book.proofs.WalkLaws.{pass-here, pass-next, pass-record, pass-end}
@@ -28,13 +26,10 @@ use Rattle.records.specs.Tests as Tests
 use Rattle.choice.specs.declared.hands.Hand.{Hand}
 use Rattle.choice.specs.declared.hands.Seen.{Seen}
 use Rattle.choice.specs.declared.hands.Passing.{Passing}
-use Rattle.choice.specs.declared.span.Window.{Window}
 use Rattle.choice.specs.Slots.{inSlot}
 use Rattle.choice.specs.Hands.{limitOf, betterHand, handAfter, seenAfter, SeenAfter, RowThere, HandIs, NoRow, OneRow, SeenIs}
-use Rattle.choice.specs.Walk.{slotOf, passingOf, Passes, isRounding, unseen, seenOf, WalkIs}
-use Rattle.choice.specs.Span.{rowSpan, roundingSpan, WindowAfter, ownRows}
+use Rattle.choice.specs.Walk.{slotOf, standing, passingOf, unasked, Passes, unseen, seenOf, SlotsHold}
 use Rattle.choice.proofs.PassingLaws.{slot-in}
-use Rattle.choice.proofs.SpanLaws.{Spanning, rows-gather, roundings-gather, rows-outside, roundings-outside, span-start, span-turn, span-end, windows}
 
 -- ---- a slot sees a row
 
@@ -59,8 +54,8 @@ module _ {w : List ℕ} {new : Hand} {r : Row} (there : RowThere w (new .at) (ne
   hand-is false h = unfold handAfter in h
 
 pub seen-row : (q : Question) (at end : ℕ) {w : List ℕ} {r : Row} {s : Seen} {state : Choice.Seen} → RowThere w at end r → SeenIs w s state
-    → SeenIs w (seenAfter s (passingOf q at end r)) (Choice.see (q .date) (q .quantity) (q .currency) state r)
-unfolding seenAfter passingOf
+    → SeenIs w (seenAfter s (standing q at end r)) (Choice.see (q .date) (q .quantity) (q .currency) state r)
+unfolding seenAfter
 seen-row q at end {r = r} there p = record {
   seen = ap (λ b. b || (Choice.stands (q .date) r && Choice.isAsked (q .currency) r)) (p .seen);
   asked = hand-is there refl refl _ (p .asked);
@@ -84,6 +79,24 @@ module _ {w : List ℕ} {q : Question} {level place : ℕ} (l : level < 3) (m : 
     rest = sym (ap (λ b. Choice.walk (q .date) (q .quantity) (q .currency) (s .state) (consIf b r (keep (inSlot q level place) left))) t) ∙ s .rest;
   }
 
+  -- one that does not count that day
+  sees-still : {slot : Seen} {r : Row} {left : List Row} → Choice.stands (q .date) r ≡ false → Sees w q level place slot (r ∷ left) all → Sees w q level place slot left all
+  sees-still {r = r} {left} t s = record { state = s .state; is = s .is; rest = go (inSlot q level place r) (s .rest) }
+    where
+      seeing : Choice.Seen → List Row → Choice.Seen
+      seeing = Choice.walk (q .date) (q .quantity) (q .currency)
+
+      still : Choice.see (q .date) (q .quantity) (q .currency) (s .state) r ≡ s .state
+      still = λ i. record {
+        seen = (ap (λ (b : Bool). s .state .seen || (b && Choice.isAsked (q .currency) r)) t ∙ or-false (s .state .seen)) i;
+        asked = Choice.handIf (t i && Choice.isAsked (q .currency) r && reaches (q .quantity) r) (s .state .asked) r;
+        other = Choice.handIf (t i && reaches (q .quantity) r) (s .state .other) r;
+      }
+
+      go : (b : Bool) → seeing (s .state) (consIf b r (keep (inSlot q level place) left)) ≡ seenOf q all level place → seeing (s .state) (keep (inSlot q level place) left) ≡ seenOf q all level place
+      go true e = ap (λ (x : Choice.Seen). seeing x (keep (inSlot q level place) left)) (sym still) ∙ e
+      go false e = e
+
   module _ (slots : List Seen) (i : ℕ) (new : Seen) where
     -- another slot is set
     sees-not : {left : List Row} → (i ≡ level * 33 + place → ⊥) → Sees w q level place (getD slots (level * 33 + place) unseen) left all
@@ -92,11 +105,11 @@ module _ {w : List ℕ} {q : Question} {level place : ℕ} (l : level < 3) (m : 
 
     -- a row of this slot
     sees-row : (at end : ℕ) {r : Row} {left : List Row} → length slots ≡ 100 → RowThere w at end r → i ≡ level * 33 + place → inSlot q level place r ≡ true
-        → new ≡ seenAfter (getD slots i unseen) (passingOf q at end r) → Sees w q level place (getD slots (level * 33 + place) unseen) (r ∷ left) all
+        → new ≡ seenAfter (getD slots i unseen) (standing q at end r) → Sees w q level place (getD slots (level * 33 + place) unseen) (r ∷ left) all
         → Sees w q level place (getD (set slots i new) (level * 33 + place) unseen) left all
     sees-row at end {r} {left} long there e t f s =
         let here : i < length slots = omega (arith, long) in
-        let now : getD (set slots i new) (level * 33 + place) unseen ≡ seenAfter (getD slots (level * 33 + place) unseen) (passingOf q at end r) =
+        let now : getD (set slots i new) (level * 33 + place) unseen ≡ seenAfter (getD slots (level * 33 + place) unseen) (standing q at end r) =
         rw (← e) (getD-set-same slots i new unseen here ∙ f) in
         record {
           state = Choice.see (q .date) (q .quantity) (q .currency) (s .state) r;
@@ -121,7 +134,7 @@ module _ {w : List ℕ} {q : Question} {at end : ℕ} {o : Option Record} {p : P
       skip : Tests.rowOf (q .article) o ≡ false → Seen-to rs → Done
       skip e s = sees-not l m slots (p .slot) new (λ f. omega (arith, ap (λ (x : Passing). x .slot) (pass .other e))) s
 
-      mine : (r : Row) → o ≡ some (PriceRecord r) → p ≡ passingOf q at end r → same (r .article) (q .article) ≡ true → (b : Bool) → eqb (slotOf q r) (level * 33 + place) ≡ b → Seen-to (PriceRecord r ∷ rs) → Done
+      mine : (r : Row) → o ≡ some (PriceRecord r) → p ≡ standing q at end r → same (r .article) (q .article) ≡ true → (b : Bool) → eqb (slotOf q r) (level * 33 + place) ≡ b → Seen-to (PriceRecord r ∷ rs) → Done
       mine r e f a true h s =
           sees-row l m slots (p .slot) new at end long (there r e) (ap (λ x. x .slot) f ∙ eqb-true (slotOf q r) (level * 33 + place) h) (slot-in q r level place l m ∙ rw (a, h))
           (after .is ∙ ap (seenAfter (getD slots (p .slot) unseen)) f) s
@@ -129,8 +142,16 @@ module _ {w : List ℕ} {q : Question} {at end : ℕ} {o : Option Record} {p : P
           sees-not l m slots (p .slot) new (λ g. eqb-false (slotOf q r) (level * 33 + place) h (sym (ap (λ x. x .slot) f) ∙ g))
           (sees-past l m (slot-in q r level place l m ∙ rw (a, h)) s)
 
+      -- a row of the asked article, which counts that day or does not
+      article : (r : Row) → o ≡ some (PriceRecord r) → same (r .article) (q .article) ≡ true → (b : Bool) → Choice.stands (q .date) r ≡ b → Seen-to (PriceRecord r ∷ rs) → Done
+      article r e a true h s =
+          mine r e (pass .row r e a ∙ ap (λ (b : Bool). cond b (standing q at end r) unasked) h) a (eqb (slotOf q r) (level * 33 + place)) refl s
+      article r e a false h s =
+          let f : p ≡ unasked = pass .row r e a ∙ ap (λ (b : Bool). cond b (standing q at end r) unasked) h in
+          sees-not l m slots (p .slot) new (λ g. omega (arith, ap (λ (x : Passing). x .slot) f)) (sees-still l m h s)
+
       priced : (r : Row) → o ≡ some (PriceRecord r) → (b : Bool) → same (r .article) (q .article) ≡ b → Seen-to (PriceRecord r ∷ rs) → Done
-      priced r e true a s = mine r e (pass .row r e a) a (eqb (slotOf q r) (level * 33 + place)) refl s
+      priced r e true a s = article r e a (Choice.stands (q .date) r) refl s
       priced r e false a s = skip (ap (Tests.rowOf (q .article)) e ∙ a) (sees-past l m (slot-in q r level place l m ∙ rw a) s)
 
       go : (x : Option Record) → o ≡ x → Seen-to (consSome x rs) → Done
@@ -162,68 +183,43 @@ pub accepted : {w : List ℕ} {at end : ℕ} → StopIs w at end → Accepted (t
 accepted s = record { ok = s .ok }
 
 -- once the records from `at` on have gone by, the slots will have seen all from `from` on
-pub record Walking (w : List ℕ) (from : ℕ) (q : Question) (slots : List Seen) (found : Bool) (window : Window) (at : ℕ) : Type 0 where
+pub record Walking (w : List ℕ) (from : ℕ) (q : Question) (slots : List Seen) (at : ℕ) : Type 0 where
   pub between : Between w at
-  pub rows-span : Spanning (ownRows q) w from (rowSpan window) at
-  pub roundings-span : Spanning roundings w from (roundingSpan window) at
   pub long : length slots ≡ 100
   pub sees : (level place : ℕ) → level < 3 → place < 33 → Sees w q level place (getD slots (level * 33 + place) unseen) (rows (recordsLeft w at)) (rows (recordsLeft w from))
-  pub article : (found || isSome (articleOf (recordsLeft w at) (q .article))) ≡ isSome (articleOf (recordsLeft w from) (q .article))
 
 module _ (w : List ℕ) (from : ℕ) (q : Question) where
-  pub walk-start : Between w from → Walking w from q (replicate 100 unseen) false (record { first = from; last = from; from = from; to = from }) from
+  pub walk-start : Between w from → Walking w from q (replicate 100 unseen) from
   unfolding seenOf
   walk-start b = record {
     between = b;
-    rows-span = span-start (rows-gather q) (b .low);
-    roundings-span = span-start roundings-gather (b .low);
     long = length-replicate 100 unseen;
     sees = λ level place l p.
         let k : level * 33 + place < 100 = omega arith in
         rw (getD-replicate 100 (level * 33 + place) unseen unseen k) (record { state = Choice.start; is = record { seen = refl; asked = NoRow refl; other = NoRow refl }; rest = refl });
-    article = refl;
   }
 
-  module _ {slots : List Seen} {found : Bool} {window : Window} {at : ℕ} (inv : Walking w from q slots found window at) where
+  module _ {slots : List Seen} {at : ℕ} (inv : Walking w from q slots at) where
     pub walk-here : at < length w → RecordHere w at
     walk-here h = pass-here (inv .between) h
 
-    module _ (h : at < length w) {end : ℕ} (stop : StopIs w at end) {p : Passing} {new : Seen} {next : Window} {rounding b : Bool} where
-      pub walk-turn : Passes q (at + 2) end (whole kinded (take (end - (at + 2)) (drop (at + 2) w))) p → SeenAfter (getD slots (p .slot) unseen) p new → WindowAfter window (p .own) rounding at end next
-          → Says (isRounding (whole kinded (take (end - (at + 2)) (drop (at + 2) w)))) rounding
-          → Says (Tests.articleOf (q .article) (whole kinded (take (end - (at + 2)) (drop (at + 2) w)))) b → Walking w from q (set slots (p .slot) new) (found || b) next end
-      walk-turn pass after noted kind art =
-          let step = pass-record (inv .between) h stop in
-          record {
-            between = pass-next (inv .between) h stop;
-            rows-span = span-turn (rows-gather q) (inv .rows-span) (inv .between) stop step (rows-outside pass) (noted .rows);
-            roundings-span = span-turn roundings-gather (inv .roundings-span) (inv .between) stop step (roundings-outside kind) (noted .roundings);
-            long = length-set slots (p .slot) new ∙ inv .long;
-            sees = λ level place l m.
-                sees-turn pass (λ r e. record { low = omega arith; order = omega (arith, stop .low); fits = stop .fits; is = e }) slots (inv .long) after (recordsLeft w end) l m
-                (subst (λ (rs : List Record). Sees w q level place (getD slots (level * 33 + place) unseen) (rows rs) (rows (recordsLeft w from))) step (inv .sees level place l m));
-            article =
-                or-assoc found b (isSome (articleOf (recordsLeft w end) (q .article)))
-                ∙ ap (λ x. found || (x || isSome (articleOf (recordsLeft w end) (q .article)))) (sym (art .is))
-                ∙ ap (λ x. found || x) (sym (ap (λ rs. isSome (articleOf rs (q .article))) step ∙ article-turn (whole kinded (part w (at + 2) end)) (recordsLeft w end) (q .article)))
-                ∙ inv .article;
-          }
-
-    pub walk-end : length w ≤ at → WalkIs w from q (record { slots = slots; found = found; window = window })
-    unfolding articleOf
-    walk-end h =
-        let none-left = pass-end (inv .between) h in
+    pub walk-turn : at < length w → {end : ℕ} → StopIs w at end → {p : Passing} → Passes q (at + 2) end (whole kinded (take (end - (at + 2)) (drop (at + 2) w))) p
+        → {new : Seen} → SeenAfter (getD slots (p .slot) unseen) p new → Walking w from q (set slots (p .slot) new) end
+    walk-turn h {end} stop {p} pass {new} after =
+        let step = pass-record (inv .between) h stop in
         record {
-          slots = record {
-            long = inv .long;
-            each = λ level place l p.
-                let s = inv .sees level place l p in
-                subst (SeenIs w (getD slots (level * 33 + place) unseen))
-                (sym (ap (λ (rs : List Record). Choice.walk (q .date) (q .quantity) (q .currency) (s .state) (keep (inSlot q level place) (rows rs))) none-left) ∙ s .rest) (s .is);
-          };
-          found =
-              sym (or-false found)
-              ∙ ap (λ (rs : List Record). found || isSome (articleOf rs (q .article))) (sym none-left)
-              ∙ inv .article;
-          window = windows (span-end (rows-gather q) (inv .rows-span) (inv .between .fits) none-left) (span-end roundings-gather (inv .roundings-span) (inv .between .fits) none-left);
+          between = pass-next (inv .between) h stop;
+          long = length-set slots (p .slot) new ∙ inv .long;
+          sees = λ level place l m.
+              sees-turn pass (λ r e. record { low = omega arith; order = omega (arith, stop .low); fits = stop .fits; is = e }) slots (inv .long) after (recordsLeft w end) l m
+              (subst (λ (rs : List Record). Sees w q level place (getD slots (level * 33 + place) unseen) (rows rs) (rows (recordsLeft w from))) step (inv .sees level place l m));
         }
+
+    pub walk-end : length w ≤ at → SlotsHold w (rows (recordsLeft w from)) q slots
+    walk-end h = record {
+      long = inv .long;
+      each = λ level place l p.
+          let s = inv .sees level place l p in
+          subst (SeenIs w (getD slots (level * 33 + place) unseen))
+          (sym (ap (λ (rs : List Record). Choice.walk (q .date) (q .quantity) (q .currency) (s .state) (keep (inSlot q level place) (rows rs))) (pass-end (inv .between) h)) ∙ s .rest) (s .is);
+    }

@@ -6,22 +6,20 @@ use mathlib.Core.List.{List}
 use mathlib.Core.Option.{Option, some, none}
 use lib.Dec.{eqb, ltb}
 use lib.ListN.{length, getD}
-use Rattle.rules.specs.Lists.{same, isSome, keep}
-use Rattle.rules.specs.Book.{Row, Record, PriceRecord, rows, articleOf}
+use Rattle.rules.specs.Lists.{same, keep}
+use Rattle.rules.specs.Book.{Row, Record, PriceRecord}
 use Rattle.rules.specs.Question.{Question}
 use Rattle.rules.specs.Choice.{reaches}
 use Rattle.rules.proofs.ChoiceLaws as Choice
-use Rattle.book.specs.Records.{kindOf, recordsLeft}
+use Rattle.book.specs.Records.{kindOf}
 use Rattle.records.specs.Tests.{rowOf}
 use Rattle.question.specs.declared.Ask.{Ask}
 use Rattle.question.specs.Parts.{NamesStand}
-use Rattle.choice.specs.declared.Walked.{Walked}
 use Rattle.choice.specs.declared.hands.Hand.{Hand}
 use Rattle.choice.specs.declared.hands.Seen.{Seen}
 use Rattle.choice.specs.declared.hands.Passing.{Passing}
 use Rattle.choice.specs.Slots.{levelOf, placeOf, inSlot, slotChosen}
 use Rattle.choice.specs.Hands.{SeenIs}
-use Rattle.choice.specs.Span.{Windows}
 
 -- ---- the question, as far as its date plays no part
 
@@ -54,9 +52,9 @@ slotAt level place = cond (ltb level 3 && ltb place 33) (level * 33 + place) 99
 unfoldable pub slotOf : Question → Row → ℕ
 slotOf q r = cond (eqb (r .sort) (q .sort)) (slotAt (levelOf (r .level)) (placeOf (q .granted) (r .condition))) 99
 
-unfoldable pub passingOf : Question → ℕ → ℕ → Row → Passing
-passingOf q at end r = record {
-  own = eqb (r .sort) (q .sort);
+-- what one is that counts that day
+abbrev pub standing : Question → ℕ → ℕ → Row → Passing
+standing q at end r = record {
   slot = slotOf q r;
   stands = Choice.stands (q .date) r;
   asked = Choice.isAsked (q .currency) r;
@@ -70,7 +68,11 @@ noHand = record { at = 0; end = 0; upto = 0; from = 0 }
 
 -- what any other record is
 abbrev pub unasked : Passing
-unasked = record { own = false; slot = 99; stands = false; asked = false; reaches = false; hand = noHand }
+unasked = record { slot = 99; stands = false; asked = false; reaches = false; hand = noHand }
+
+-- a row of the asked article on another day is like one of another article
+unfoldable pub passingOf : Question → ℕ → ℕ → Row → Passing
+passingOf q at end r = cond (Choice.stands (q .date) r) (standing q at end r) unasked
 
 -- a row in this currency is in the asked one
 abbrev pub inAsked : Option (List ℕ) → List ℕ → Bool
@@ -111,8 +113,3 @@ pub record Chooses (q : Question) (rs : List Row) (i : ℕ) (r : Row) : Type 0 w
 pub record SlotsHold (w : List ℕ) (rs : List Row) (q : Question) (slots : List Seen) : Type 0 where
   pub long : length slots ≡ 100
   pub each : (level place : ℕ) → level < 3 → place < 33 → SeenIs w (getD slots (level * 33 + place) unseen) (seenOf q rs level place)
-
-pub record WalkIs (w : List ℕ) (from : ℕ) (q : Question) (r : Walked) : Type 0 where
-  pub slots : SlotsHold w (rows (recordsLeft w from)) q (r .slots)
-  pub found : r .found ≡ isSome (articleOf (recordsLeft w from) (q .article))
-  pub window : Windows w from q (r .window)

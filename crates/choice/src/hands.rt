@@ -34,15 +34,23 @@ impl Seen {
     };
 }
 
-// A row that goes by: whether it is of the asked article and sort; the slot it is of, or 99 for none; and whether it holds that day,
-// is in the asked currency, and reaches the quantity.
+// A row that goes by: the slot it is of, or 99 for none; whether it counts that day, is in the asked currency, and reaches the quantity.
 pub struct Passing {
-    pub own: bool,
     pub slot: usize,
     pub stands: bool,
     pub asked: bool,
     pub reaches: bool,
     pub hand: Hand,
+}
+
+impl Passing {
+    pub const FOREIGN: Passing = Passing {
+        slot: 99,
+        stands: false,
+        asked: false,
+        reaches: false,
+        hand: Hand::EMPTY,
+    };
 }
 
 // No limit is above every limit.

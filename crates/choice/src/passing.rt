@@ -82,17 +82,19 @@ fn is_asked(asked: Currency, currency: Currency) -> bool
     !none & (currency.0 == asked.0) & (currency.1 == asked.1) & (currency.2 == asked.2)
 }
 
-// A row of the asked article, which stands from `at` to `end`.
+// A row of the asked article, which stands from `at` to `end`. Few hold that day: only of these the condition is looked for.
 fn row_passing(t: &[u8], row: PriceRow, at: usize, end: usize, q: &[u8], ask: Ask) -> Passing
     requires { ⌜ RowIs (now t) row ⌝ }
     requires { ⌜ Asking (now q) ask ⌝ }
     ensures { λ r. ⌜ RowPasses (askIn (now (q .entry)) ask) at end (rowIn (now (t .entry)) row) r ⌝ }
 {
-    let own = row.sort == ask.sort;
-    let slot = slot_of(t, row, q, ask);
     let value = row.value;
     let percent_base = (row.level == b'B') & is_percent(value);
     let stands = !percent_base & holds(row.from, row.to, ask.date);
+    if !stands {
+        return Passing::FOREIGN;
+    }
+    let slot = slot_of(t, row, q, ask);
     let wanted = ask.currency;
     let currency = row.currency;
     let asked = is_asked(wanted, currency);
@@ -104,7 +106,6 @@ fn row_passing(t: &[u8], row: PriceRow, at: usize, end: usize, q: &[u8], ask: As
         from: row.from,
     };
     Passing {
-        own,
         slot,
         stands,
         asked,
@@ -126,14 +127,7 @@ pub fn passing(t: &[u8], at: usize, end: usize, q: &[u8], ask: Ask) -> Passing
         let row = row_of(t);
         row_passing(t, row, at, end, q, ask)
     } else {
-        Passing {
-            own: false,
-            slot: 99,
-            stands: false,
-            asked: false,
-            reaches: false,
-            hand: Hand::EMPTY,
-        }
+        Passing::FOREIGN
     }
 }
 

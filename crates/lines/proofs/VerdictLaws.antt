@@ -12,6 +12,7 @@ use Rattle.rules.specs.Refusals.{refused}
 use Rattle.rules.specs.Price.{priced}
 use Rattle.rules.specs.declared.Cents.{Cents}
 use Rattle.rules.specs.declared.Total.the-variants.{InRange, OutOfRange}
+use Rattle.rules.proofs.TestLaws.{so, not-so}
 use Rattle.layout.specs.Ensures.{Says}
 use Rattle.amounts.proofs.TotalLaws.{total-in-range}
 use Rattle.lines.specs.declared.Pick.{Pick}
@@ -22,14 +23,6 @@ use Rattle.lines.specs.Contracts.{StandFor, FirstBase, ListedIs, mostAmo
 use Rattle.lines.specs.Verdict.{refusedBy, VerdictIs}
 use Rattle.lines.proofs.AmountLaws.{zeros-in}
 use Rattle.lines.proofs.PricedLaws.{price-4, price-5, price-6, price-done, unit-is, bytes-are}
-
-pub not-so : (b : Bool) → not b ≡ true → b ≡ false
-not-so false e = refl
-not-so true e = sym e
-
-pub so : (b : Bool) → not b ≡ false → b ≡ true
-so true e = refl
-so false e = sym e
 
 -- a refusal that is the definition's
 refused-by : {picks : List Pick} {n k : ℕ} → (k ≡ 0 → ⊥) → ((book : List Record) (q : Question) → StandFor book q picks n → priced book q ≡ refused k)

@@ -12,6 +12,7 @@ use lib.ListN.{length, take, drop}
 use borrow.Author.Tests.{le-leb, lt-leb}
 use Rattle.rules.specs.Lists.{isSome}
 use Rattle.rules.proofs.ListLaws.{absent}
+use Rattle.rules.proofs.TestLaws.{so, not-so}
 use Rattle.rules.specs.Book.{Record, Article, articleOf, rows, roundings}
 use Rattle.rules.specs.BookLayout.{records}
 use Rattle.rules.specs.Question.{Question, questionOf}
@@ -36,7 +37,6 @@ use Rattle.lines.specs.Contracts.{StandFor, Listable, Writable}
 use Rattle.lines.specs.Verdict.{VerdictIs}
 use Rattle.lines.proofs.PricedLaws.{line-count, line-places, bytes-count}
 use Rattle.lines.proofs.ChosenLaws.{chosen-base-first}
-use Rattle.lines.proofs.VerdictLaws.{so, not-so}
 use Rattle.price.specs.Picks.{PickedAre}
 use Rattle.price.specs.Unused.{idle, UnusedIs}
 use Rattle.price.specs.Call.{answered, PriceIs}

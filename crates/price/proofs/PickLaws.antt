@@ -23,11 +23,10 @@ use Rattle.lookup.specs.Ensures.{RoundingUsed}
 use Rattle.choice.specs.Hands.{TakenIs}
 use Rattle.question.specs.declared.Ask.{Ask}
 use Rattle.question.specs.Asked.{askIn}
-use Rattle.choice.specs.Walk.{Asking, SlotsHold, WalkIs, unseen}
+use Rattle.choice.specs.Walk.{Asking, SlotsHold, unseen}
 use Rattle.choice.specs.Span.{Windows}
 use Rattle.choice.specs.Slots.{slotChosen, slotsChosen, upFrom}
 use Rattle.choice.specs.declared.hands.Seen.{Seen}
-use Rattle.choice.specs.declared.Walked.{Walked}
 use Rattle.choice.specs.declared.span.Window.{Window}
 use Rattle.choice.proofs.SlotLaws.{Granted, slots-choose}
 use Rattle.choice.specs.declared.hands.Hand.{Hand}
@@ -197,13 +196,14 @@ module _ {b : List ℕ} {slots : List Seen} {w : Window} (filled : Filled b slot
 
 -- ---- by a walk over a window of the book
 
-pub within-filled : {b : List ℕ} {q : Question} {w : Window} → Windows b 5 q w → {walked : Walked} → WalkIs (take (w .last) b) (w .first) q walked → Filled b (walked .slots) w
-within-filled {q = q} window walk = record { asked = q; holds = walk-within window walk; window = window }
+pub within-filled : {b : List ℕ} {q : Question} {w : Window} → Windows b 5 q w
+    → {slots : List Seen} → SlotsHold (take (w .last) b) (rows (recordsLeft (take (w .last) b) (w .first))) q slots → Filled b slots w
+within-filled {q = q} window holds = record { asked = q; holds = walk-within window holds; window = window }
 
-module _ {b q : List ℕ} {ask : Ask} (a : Asking q ask) {walked : Walked} {r : Picks} where
-  pub within-picks : {w : Window} {found : Bool} → Windows b 5 (askIn q ask) w → WalkIs (take (w .last) b) (w .first) (askIn q ask) walked → PicksFrom b (walked .slots) w found r
-      → PickedAre b (askIn q ask) (r .rows) (r .n)
-  within-picks window walk p = p .each (askIn q ask) (walk-within window walk) (asking-granted a)
+pub within-picks : {b q : List ℕ} {ask : Ask} {w : Window} → Asking q ask → Windows b 5 (askIn q ask) w
+    → {slots : List Seen} → SlotsHold (take (w .last) b) (rows (recordsLeft (take (w .last) b) (w .first))) (askIn q ask) slots
+    → {found : Bool} {r : Picks} → PicksFrom b slots w found r → PickedAre b (askIn q ask) (r .rows) (r .n)
+within-picks {q = q} {ask = ask} a window holds p = p .each (askIn q ask) (walk-within window holds) (asking-granted a)
 
 pub within-long : {b : List ℕ} {q : Question} {w : Window} → Windows b 5 q w → length (take (w .last) b) ≡ w .last
 within-long {b} {w = w} window = length-take-le (w .last) b (window .fits)

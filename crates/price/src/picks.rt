@@ -112,7 +112,6 @@ pub fn picks_within(b: &[u8], window: Window, q: &[u8], ask: Ask) -> Picks
     ensures { λ r. ⌜ PickedAre (now (b .entry)) (askIn (now (q .entry)) ask) (r .rows) (r .n) ⌝ }
 {
     let last = window.last;
-    let walked = walk(&b[..last], window.first, q, ask);
-    let slots = walked.slots;
+    let slots = walk(&b[..last], window.first, q, ask);
     picks_from(b, slots, window, false)
 }

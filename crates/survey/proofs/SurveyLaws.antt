@@ -13,7 +13,7 @@ use Rattle.rules.specs.Book.{Record, ArticleRecord, PriceRecord, RoundingRecord
 use Rattle.rules.specs.BookLayout.{kinded, records}
 use Rattle.rules.specs.Question.{Question}
 use Rattle.rules.specs.declared.PriceRow.{PriceRow}
-use Rattle.rules.proofs.TestLaws.{or-false, or-assoc}
+use Rattle.rules.proofs.TestLaws.{or-false, or-assoc, so, not-so}
 use Rattle.layout.specs.Reads.{part}
 use Rattle.layout.specs.Ensures.{Says}
 use Rattle.book.specs.Records.{recordsLeft}
@@ -86,10 +86,6 @@ module _ (b : List ℕ) (q : Question) where
   module _ {r : Bool} (header : Says (headerOk b) r) where
     pub survey-header : not r ≡ true → {found : Bool} {window : Window} → SurveyIs b q (record { ok = false; found = found; window = window })
     survey-header e = refuses (book-not b header (not-so r e))
-      where
-        not-so : (t : Bool) → not t ≡ true → t ≡ false
-        not-so true f = sym f
-        not-so false f = refl
 
     pub survey-start : not r ≡ false → Surveying b q false (record { first = 5; last = 5; from = 5; to = 5 }) 5
     survey-start e = record {
@@ -101,10 +97,6 @@ module _ (b : List ℕ) (q : Question) where
         article = refl;
       };
     }
-      where
-        so : (t : Bool) → not t ≡ false → t ≡ true
-        so true f = refl
-        so false f = sym f
 
   module _ {found : Bool} {window : Window} {at : ℕ} (inv : Surveying b q found window at) where
     pub survey-here : at < length b → at ≤ length b

@@ -10,10 +10,10 @@ use Rattle.choice.proofs.walk.Tie as tie
 ruleset laws = (needs, accepted, walk-start, walk-here, walk-turn, walk-end)
 
 abbrev Inv-loop : tie.InvT-loop
-Inv-loop w from q ask slots₀ found₀ window₀ at₀ slots found window at = Walking w from (askIn q ask) slots found window at
+Inv-loop w from q ask slots₀ at₀ slots at = Walking w from (askIn q ask) slots at
 
 abbrev μ-loop : tie.MeasureT-loop
-μ-loop w from q ask slots₀ found₀ window₀ at₀ slots found window at = length w - at
+μ-loop w from q ask slots₀ at₀ slots at = length w - at
 
 pub walk-spec : {M : Type 1} → statement M
 walk-spec =
@@ -24,13 +24,10 @@ walk-spec =
     (λ c. search laws)  -- loop-holds
     (λ c κs. search laws)  -- record-stop-requires
     (λ c. search needs)  -- add-start
-    (λ c. search needs)  -- sub-t
-    (λ c. search needs)  -- part-t-start
-    (λ c. search needs)  -- part-t-end
-    (λ c κs. search laws)  -- is-asked-article-requires
+    (λ c. search needs)  -- sub-passing
+    (λ c. search needs)  -- part-passing-start
+    (λ c. search needs)  -- part-passing-end
     (λ c κs. search laws)  -- passing-requires
-    (λ c κs. search laws)  -- is-rounding-record-requires
-    (λ c κs. search laws)  -- noted-requires
     (λ c. search needs)  -- mul-old
     (λ c. search needs)  -- array-copy-out-old
     (λ c κs. search laws)  -- see-requires
