@@ -1,5 +1,5 @@
 -- Names at a place, byte strings compared, small letters raised.
-use Prim.Native.Nat.{ℕ, suc, _+_, _-_, _≤_, _<_}
+use Prim.Native.Nat.{ℕ, zero, suc, _+_, _-_, _≤_, _<_}
 use mathlib.Core.Path.{_≡_, refl, sym, _∙_, ap}
 use mathlib.Core.Bool.{Bool, true, false, _&&_, and-true, and-false, and-assoc}
 use mathlib.Core.List.{List, [], _∷_, map}
@@ -11,7 +11,7 @@ use native.Mathlib.Decide.{decLt}
 use lib.Dec.{eqb, leb}
 use lib.ListN.{length, take, drop, getD, set, drop-of-length-le, length-map, List·getD-eq-default, List·getD-map}
 use lib.Seq.{drop-cons}
-use borrow.Author.Tests.{leb-true, lt-ltb, le-ltb}
+use borrow.Author.Tests.{leb-true, lt-ltb, le-ltb, ne-eqb}
 use Rattle.rules.specs.Lists.{all, between, isSome, same}
 use Rattle.rules.specs.Layout.{Layout, _>>=_, _such_, bytes, byte, whole, wholly}
 use Rattle.rules.specs.Bytes.{name, nameByte, raise}
@@ -113,6 +113,12 @@ same-length [] (y ∷ ys) n = refl
 same-length (x ∷ xs) [] n = refl
 same-length (x ∷ xs) (y ∷ ys) n = ap (λ b. eqb x y && b) (same-length xs ys (λ e. n (ap suc e))) ∙ and-false (eqb x y)
 
+same-at : (xs ys : List ℕ) (i : ℕ) → i < length xs → (getD xs i 0 ≡ getD ys i 0 → ⊥) → same xs ys ≡ false
+same-at [] ys i h n = absurd (omega arith)
+same-at (x ∷ xs) [] i h n = refl
+same-at (x ∷ xs) (y ∷ ys) zero h n = ap (λ b. b && same xs ys) (ne-eqb x y n)
+same-at (x ∷ xs) (y ∷ ys) (suc i) h n = ap (λ b. eqb x y && b) (same-at xs ys i (omega arith) n) ∙ and-false (eqb x y)
+
 pub record Comparing (xs ys : List ℕ) (ok : Bool) (i : ℕ) : Type 0 where
   pub long : length xs ≡ length ys
   pub rest : (ok && same (drop i xs) (drop i ys)) ≡ same xs ys
@@ -120,6 +126,17 @@ pub record Comparing (xs ys : List ℕ) (ok : Bool) (i : ℕ) : Type 0 where
 module _ (xs ys : List ℕ) where
   pub compare-not : (length xs ≡ length ys → ⊥) → Says (same xs ys) false
   compare-not n = record { is = same-length xs ys n }
+
+  pub compare-none : length xs ≡ length ys → length xs < 1 → Says (same xs ys) true
+  compare-none e h = record { is = go xs ys e h }
+    where
+      go : (xs ys : List ℕ) → length xs ≡ length ys → length xs < 1 → same xs ys ≡ true
+      go [] [] e h = refl
+      go [] (y ∷ ys) e h = absurd (omega arith)
+      go (x ∷ xs) ys e h = absurd (omega arith)
+
+  pub compare-last : 1 ≤ length xs → (getD xs (length xs - 1) 0 ≡ getD ys (length xs - 1) 0 → ⊥) → Says (same xs ys) false
+  compare-last h n = record { is = same-at xs ys (length xs - 1) (omega arith) n }
 
   pub compare-start : length xs ≡ length ys → Comparing xs ys true 0
   compare-start e = record { long = e; rest = refl }
