@@ -143,6 +143,19 @@ typedef struct rafttwine_written {
 rafttwine_written rafttwine_calendar(const uint8_t *book, size_t book_length, const uint8_t *question, size_t question_length,
                                      uint32_t end, uint8_t *out, size_t out_length);
 
+/* The same stretches as a list of records, with the same refusals. The list's room is counted in records, and so is the length in the
+ * answer; nobody needs room for more than RAFTTWINE_MOST_STRETCHES. */
+typedef struct rafttwine_stretch {
+    uint32_t first;      /* its first day, yyyymmdd */
+    uint32_t last;       /* its last day */
+    int64_t unit;        /* the price of one piece in cents; 0 if there is none */
+    uint8_t refusal;     /* 0, or why there is no price on these days: 4, 5 or 6 */
+    uint8_t currency[3]; /* three capitals; zeros if there is no price */
+} rafttwine_stretch;
+
+rafttwine_written rafttwine_calendar_list(const uint8_t *book, size_t book_length, const uint8_t *question, size_t question_length,
+                                          uint32_t end, rafttwine_stretch *out, size_t out_count);
+
 /* ---- The final article number: the base number with the properties' values ---- */
 
 /* Writes Latin-1 bytes with no zero behind them. The refusal is 1, 2, 3 or 7, the first that applies. */
@@ -163,23 +176,6 @@ typedef struct rafttwine_packaging_answer {
 
 rafttwine_packaging_answer rafttwine_packaging(const uint8_t *book, size_t book_length, const uint8_t *question,
                                                size_t question_length);
-
-/* ---- Announced: the calls below are not in the library yet. A call that has arrived moves above this line. ---- */
-#ifdef RAFTTWINE_TO_COME
-
-/* The same stretches as a list of records. */
-typedef struct rafttwine_stretch {
-    uint32_t first;      /* its first day, yyyymmdd */
-    uint32_t last;       /* its last day */
-    int64_t unit;        /* the price of one piece in cents */
-    uint8_t refusal;     /* 0, or why there is no price on these days: 4, 5 or 6 */
-    uint8_t currency[3]; /* three capitals */
-} rafttwine_stretch;
-
-rafttwine_written rafttwine_calendar_list(const uint8_t *book, size_t book_length, const uint8_t *question, size_t question_length,
-                                          uint32_t end, rafttwine_stretch *out, size_t out_count);
-
-#endif
 
 #ifdef __cplusplus
 }

@@ -23,7 +23,6 @@
 #![warn(missing_docs)]
 
 mod calendar;
-#[cfg(not(feature = "lacks_calendar_list"))]
 mod calendar_list;
 mod currency;
 mod final_number;
@@ -35,7 +34,6 @@ mod stretch;
 mod text;
 
 pub use calendar::{calendar, Stretches, CALENDAR_ROOM};
-#[cfg(not(feature = "lacks_calendar_list"))]
 pub use calendar_list::calendar_list;
 pub use currency::Currency;
 pub use final_number::{final_number, NUMBER_ROOM};

@@ -1,4 +1,4 @@
--- What a caller of the calendar call can rely on, whatever the bytes: said of any answer and any output that its contract allows.
+-- What a caller of the calendar calls can rely on, whatever the bytes: said of any answer and any output that their contracts allow.
 use Prim.Native.Nat.{ℕ, _*_, _/_, _≤_}
 use mathlib.Core.Path.{_≡_, refl, sym, _∙_, ap, subst}
 use mathlib.Core.Bool.{true}
@@ -28,7 +28,7 @@ use Rattle.rules.proofs.CallLaws.{calendar-answered}
 use Rattle.rules.proofs.GivesLaws.{question-sound}
 use Rattle.rules.proofs.Promises as Rules
 use Rattle.calendar.specs.Calls.{CalendarIs, CalendarListIs}
-use Rattle.calendar.specs.Read.{readStretches, outcomeIn}
+use Rattle.calendar.specs.Read.{readStretches, listedStretches, outcomeIn}
 use Rattle.calendar.proofs.OutcomeLaws.{call-outcome, outcome-fits}
 use Rattle.calendar.proofs.ReadLaws.{Readable, stretches-back}
 
@@ -87,6 +87,20 @@ calendar-never form b s end room =
     unless-never 9 (leb (length (stretches (outcome book q) days)) 1200) _
     (unless-never 6 (leb (length (form (stretches (outcome book q) days))) room) _ (done-never (stretches (outcome book q) days)))))))
 
+-- and the book has its article
+answered-article : {B : Type 0} (form : List Stretch → List B) (b s : List ℕ) (end room : ℕ) (ss : List Stretch) {book : List Record} {q : Question}
+    → records b ≡ some book → questionOf s ≡ some q → calendarIn form b s end room ≡ done ss → (a : Article) × (articleOf book (q .article) ≡ some a)
+answered-article form b s end room ss {book} {q} f g e =
+    let listed = calendar-answered form b s end room ss e in
+    let same-book : listed .book ≡ book = Option·some-injective (listed .book) book (sym (listed .is-book) ∙ f) in
+    let same-question : listed .question ≡ q = Option·some-injective (listed .question) q (sym (listed .is-question) ∙ g) in
+    (listed .article, sym (λ i. articleOf (same-book i) (same-question i .article)) ∙ listed .has-article)
+
+-- the stretches of the records at the front of a list
+records-back : (ss : List Stretch) (rest : List Declared.Stretch) → listedStretches (length ss) (map recorded ss ++ rest) ≡ ss
+records-back [] rest = refl
+records-back (s ∷ ss) rest = ap (λ l. s ∷ l) (records-back ss rest)
+
 -- ---- the promises
 
 module _ (b s : List ℕ) (end : ℕ) (lent : List ℕ) {r : Written} {after : List ℕ} (is : CalendarIs b s end lent r after) where
@@ -127,17 +141,13 @@ module _ (b s : List ℕ) (end : ℕ) (lent : List ℕ) {r : Written} {after : L
         go (refused k) e = absurd (calendar-never stretchesBytes b s end (length lent) (e ∙ ap refused (sym (ap (λ (w : Written). w .number) (is .answer ∙ ap shownBytes e)) ∙ z)))
         go (done ss) e =
             let right = Rules.calendar-right stretchesBytes b s end (length lent) ss book q f g e in
-            let listed = calendar-answered stretchesBytes b s end (length lent) ss e in
             let fine : All Readable ss = readable b f q ss (each-ordered ss (right .ordered)) (right .holds) in
             let size : r .length ≡ 20 * length ss = ap (λ (w : Written). w .length) (is .answer ∙ ap shownBytes e) ∙ bytes-long ss fine in
             let count : r .length / 20 ≡ length ss = omega arith in
             let output : after ≡ over (stretchesBytes ss) lent = is .output ∙ ap (λ x. lentAfterCalendar x lent) e in
             let read : readStretches (r .length / 20) after ≡ ss = (λ i. readStretches (count i) (output i)) ∙ stretches-back ss (drop (length (stretchesBytes ss)) lent) fine in
-            let same-book : listed .book ≡ book = Option·some-injective (listed .book) book (sym (listed .is-book) ∙ f) in
-            let same-question : listed .question ≡ q = Option·some-injective (listed .question) q (sym (listed .is-question) ∙ g) in
-            let has : articleOf book (q .article) ≡ some (listed .article) = sym (λ i. articleOf (same-book i) (same-question i .article)) ∙ listed .has-article in
             subst (λ (l : List Stretch). Right (λ d. outcomeIn (shown (price b (redated (dateAt q) d s) room))) (q .date) end l) (sym read)
-            (right-as (call-outcome b s f g has room h) right)
+            (right-as (call-outcome b s f g (answered-article stretchesBytes b s end (length lent) ss f g e .1) room h) right)
 
 -- ---- the list of records
 
@@ -155,18 +165,21 @@ module _ (b s : List ℕ) (end : ℕ) (lent : List Declared.Stretch) {r : Writte
       go (done ss) e = absurd (n (ap (λ (w : Written). w .number) (is .answer ∙ ap shownRecords e)))
       go (refused k) e = (ap (λ (w : Written). w .length) (is .answer ∙ ap shownRecords e), is .output ∙ ap (λ x. lentAfterList x lent) e)
 
-  -- An answered one hands over the stretches of the definition, each a record, at the front of the list.
-  pub list-right : {book : List Record} {q : Question} → records b ≡ some book → questionOf s ≡ some q → r .number ≡ 0
-      → (ss : List Stretch) × Right (outcome book q) (q .date) end ss × (r .length ≡ length ss) × (after ≡ over (map recorded ss) lent)
-  unfolding shownRecords lentAfterList lentAfter
-  list-right {book} {q} f g z = go (calendarList b s end (length lent)) refl
-    where
-      go : (x : Result (List Stretch)) → calendarList b s end (length lent) ≡ x
-          → (ss : List Stretch) × Right (outcome book q) (q .date) end ss × (r .length ≡ length ss) × (after ≡ over (map recorded ss) lent)
-      go (done ss) e = (
-        ss,
-        Rules.calendar-right (map recorded) b s end (length lent) ss book q f g e,
-        ap (λ (w : Written). w .length) (is .answer ∙ ap shownRecords e),
-        is .output ∙ ap (λ x. lentAfterList x lent) e,
-      )
-      go (refused k) e = absurd (calendar-never (map recorded) b s end (length lent) (e ∙ ap refused (sym (ap (λ (w : Written). w .number) (is .answer ∙ ap shownRecords e)) ∙ z)))
+  module _ {book : List Record} {q : Question} (f : records b ≡ some book) (g : questionOf s ≡ some q) where
+    -- The stretches of the records handed over tile the period, stand in date order and differ from their neighbours, and on every day of a stretch the price call has its
+    -- outcome: as for the bytes.
+    pub each-listed-day-by-the-price-call : r .number ≡ 0 → (room : ℕ) → 1386 ≤ room
+        → Right (λ d. outcomeIn (shown (price b (redated (dateAt q) d s) room))) (q .date) end (listedStretches (r .length) after)
+    unfolding shownRecords lentAfterList lentAfter
+    each-listed-day-by-the-price-call z room h = go (calendarList b s end (length lent)) refl
+      where
+        go : (x : Result (List Stretch)) → calendarList b s end (length lent) ≡ x
+            → Right (λ d. outcomeIn (shown (price b (redated (dateAt q) d s) room))) (q .date) end (listedStretches (r .length) after)
+        go (refused k) e = absurd (calendar-never (map recorded) b s end (length lent) (e ∙ ap refused (sym (ap (λ (w : Written). w .number) (is .answer ∙ ap shownRecords e)) ∙ z)))
+        go (done ss) e =
+            let right = Rules.calendar-right (map recorded) b s end (length lent) ss book q f g e in
+            let size : r .length ≡ length ss = ap (λ (w : Written). w .length) (is .answer ∙ ap shownRecords e) in
+            let output : after ≡ over (map recorded ss) lent = is .output ∙ ap (λ x. lentAfterList x lent) e in
+            let read : listedStretches (r .length) after ≡ ss = (λ i. listedStretches (size i) (output i)) ∙ records-back ss (drop (length (map recorded ss)) lent) in
+            subst (λ (l : List Stretch). Right (λ d. outcomeIn (shown (price b (redated (dateAt q) d s) room))) (q .date) end l) (sym read)
+            (right-as (call-outcome b s f g (answered-article (map recorded) b s end (length lent) ss f g e .1) room h) right)

@@ -1,10 +1,11 @@
--- What a caller reads: the stretches in the lent output, 20 bytes each, and a day's outcome in the answer of the price call.
+-- What a caller reads: the stretches in the lent output, 20 bytes each or a record each, and a day's outcome in the answer of the price call.
 use Prim.Native.Nat.{ℕ, zero, suc}
-use mathlib.Core.List.{List, [], _∷_}
+use mathlib.Core.List.{List, [], _∷_, map}
 use lib.ListN.{take, drop, getD}
 use Rattle.rules.specs.Bytes.{big, signedOf}
 use Rattle.rules.specs.Calendar.{Outcome, Stretch}
 use Rattle.rules.specs.declared.PriceAnswer.{PriceAnswer}
+use Rattle.rules.specs.declared.Stretch as Declared
 
 abbrev pub stretchIn : List ℕ → Stretch
 stretchIn s = record {
@@ -16,6 +17,12 @@ stretchIn s = record {
 abbrev pub readStretches : ℕ → List ℕ → List Stretch
 readStretches zero s = []
 readStretches (suc n) s = stretchIn s ∷ readStretches n (drop 20 s)
+
+abbrev pub stretchOf : Declared.Stretch → Stretch
+stretchOf r = record { first = r .first; last = r .last; outcome = record { refusal = r .refusal; currency = r .currency; unit = r .unit } }
+
+abbrev pub listedStretches : ℕ → List Declared.Stretch → List Stretch
+listedStretches n l = map stretchOf (take n l)
 
 abbrev pub outcomeIn : PriceAnswer → Outcome
 outcomeIn a = record { refusal = a .number; currency = a .currency; unit = a .unit }

@@ -1,13 +1,18 @@
-// The calls that a planning tool links: thin, total, each with the contract of the call behind it.
+// The calls that a planning tool links: thin, total, each with the contract of the call behind it. Only the list of records is filled
+// here: a lent list of structs cannot be handed on.
+use calendar::list::list_answer;
+use calendar::list::record_at;
+use calendar::listing::listing_of;
 use rules::PackagingAnswer;
 use rules::PriceAnswer;
+use rules::Stretch;
 use rules::TextAnswer;
 use rules::Written;
 ghost use mathlib.Core.Path.{_≡_};
 ghost use Rattle.rules.specs.Packaging as Packaging;
 ghost use Rattle.rules.specs.Text as Text;
 ghost use Rattle.price.specs.Call.{PriceIs};
-ghost use Rattle.calendar.specs.Calls.{CalendarIs};
+ghost use Rattle.calendar.specs.Calls.{CalendarIs, CalendarListIs};
 ghost use Rattle.order_number.specs.Ensures.{NumberCall};
 
 #[no_mangle]
@@ -27,6 +32,26 @@ pub extern "C" fn rafttwine_calendar(
     ensures { λ r. ⌜ CalendarIs (now (book .entry)) (now (question .entry)) end (now (out .entry)) r (now (out .exit)) ⌝ }
 {
     calendar::calendar(book, question, end, out)
+}
+
+#[no_mangle]
+pub extern "C" fn rafttwine_calendar_list(
+    book: &[u8],
+    question: &[u8],
+    end: u32,
+    out: &mut [Stretch],
+) -> Written
+    ensures { λ r. ⌜ CalendarListIs (now (book .entry)) (now (question .entry)) end (now (out .entry)) r (now (out .exit)) ⌝ }
+{
+    let listing = listing_of(book, question, end);
+    let answer = list_answer(listing, out.len());
+    let n = answer.length as usize;
+    let mut i: usize = 0;
+    while i < n {
+        out[i] = record_at(listing, i);
+        i += 1;
+    }
+    answer
 }
 
 #[no_mangle]

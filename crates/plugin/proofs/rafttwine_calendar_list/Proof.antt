@@ -1,4 +1,4 @@
--- `calendar::list::calendar_list` meets its contract: a walk of its MIR, by hand, since a lent list of structs is written through. The borrow of the list is
+-- `rafttwine_calendar_list` meets its contract: a walk of its MIR, by hand, since a lent list of structs is written through. The borrow of the list is
 -- opened once, before the first call, and closed once, after the loop. Before turn i the list is `filled ys g i`; a turn stores `g i` at i, which is
 -- `filled ys g (suc i)` by computation. Assumes nothing.
 use mathlib.Core.Path.{_≡_, refl, sym, ap, subst}
@@ -52,32 +52,32 @@ use borrow.Author.Needs.{scaled-fits}
 use borrow.Author.Tests.{lt-ltb, le-ltb}
 use Rattle.rules.specs.declared.Stretch.{Stretch}
 use Rattle.rules.specs.declared.Written.{Written}
 use Rattle.calendar.specs.declared.listing.Listing.{Listing}
 use Rattle.calendar.specs.Listing.{listing, ListingIs, ListAnswer, RecordAt, recordIn, filled}
 use Rattle.calendar.proofs.RecordLaws.{filled-length, list-room, list-few, list-called}
 use Rattle.rules.proofs.Stretch as T
 use Rattle.rules.proofs.Stretch.Laws as T′
 use Rattle.rules.proofs.Written as R
 use Rattle.rules.proofs.Written.Laws as R′
 use Rattle.calendar.proofs.listing.Listing as L
 use Rattle.calendar.proofs.listing.Listing.Laws as L′
 use Rattle.calendar.proofs.listing.listing_of as of
 use Rattle.calendar.proofs.listing.listing_of.Symbol as of-def
 use Rattle.calendar.proofs.listing.listing_of.Symbol.{name as #of}
 use Rattle.calendar.proofs.listing.listing_of.Met as of-thm
 use Rattle.calendar.proofs.list.list_answer as answer
 use Rattle.calendar.proofs.list.list_answer.Symbol as answer-def
 use Rattle.calendar.proofs.list.list_answer.Symbol.{name as #answer}
 use Rattle.calendar.proofs.list.list_answer.Met as answer-thm
 use Rattle.calendar.proofs.list.record_at as at
 use Rattle.calendar.proofs.list.record_at.Symbol as at-def
 use Rattle.calendar.proofs.list.record_at.Symbol.{name as #at}
 use Rattle.calendar.proofs.list.record_at.Met as at-thm
-use Rattle.calendar.proofs.list.calendar_list.Key.{name as #list}
-use Rattle.calendar.proofs.list.calendar_list as f
-use Rattle.calendar.proofs.list.calendar_list.Statement as stated
-use Rattle.calendar.proofs.list.calendar_list.Code as code
-use Rattle.calendar.proofs.list.calendar_list.Code.Mir as pieces
+use Rattle.plugin.proofs.rafttwine_calendar_list.Key.{name as #list}
+use Rattle.plugin.proofs.rafttwine_calendar_list as f
+use Rattle.plugin.proofs.rafttwine_calendar_list.Statement as stated
+use Rattle.plugin.proofs.rafttwine_calendar_list.Code as code
+use Rattle.plugin.proofs.rafttwine_calendar_list.Code.Mir as pieces
 
 abbrev stayed : Stays (f.ended .signature .params) (f.ended .kept)
 stayed = (stay-none-slice (0 ∷ []) tt (plain (λ _. u8)) yes, (stay-none-slice (1 ∷ []) tt (plain (λ _. u8)) yes, (stay-none (λ _. u32) yes, (stay-slice (2 ∷ []) tt (plain (λ _. T.the-row)), tt))))
@@ -428,9 +428,9 @@ module _ {M : Type 1} (𝓤 : URA M) (H : Heap 𝓤) (A : Atoms 𝓤) (W : Given
       (goes-none-slice 𝓤 H A W 3 (0 ∷ []) tt (plain (λ _. u8)) yes, (goes-none-slice 𝓤 H A W 3 (1 ∷ []) tt (plain (λ _. u8)) yes, (goes-none 𝓤 H A W 3 (λ _. u32) yes (λ κs x f. refl), (goes-slice 𝓤 H A W 3 2 tt (plain (λ _. T.the-row)), tt))))
       (f.clauses 𝓤 H A mem run) (WpFn 𝓤 H (𝓣 .C) (𝓣 .Λ) code.function) (WpFn-mono 𝓤 H (W .laws) 𝓣 code.function) list-walks
 
-pub calendar-list-spec : {M : Type 1} → stated.statement M
+pub rafttwine-calendar-list-spec : {M : Type 1} → stated.statement M
 unfolding code.routine tablesOf
-calendar-list-spec 𝓤 H 𝓜 𝓖 𝓡 =
+rafttwine-calendar-list-spec 𝓤 H 𝓜 𝓖 𝓡 =
     entered 𝓤 H (tripleOf 𝓤 H (𝓖 .A) f.signature (f.spec 𝓤 H (𝓖 .A) (𝓜 .mem) (𝓡 .run)))
     (tables 𝓤 H 𝓜 𝓡 code.env .C) (tables 𝓤 H 𝓜 𝓡 code.env .Λ) #list code.function (code.unfolded 𝓤 H 𝓜 𝓡)
     (list-meets 𝓤 H (𝓖 .A) (givenOf 𝓤 H 𝓜 𝓖) (𝓜 .mem) (𝓡 .run) (tablesOf 𝓤 H 𝓜 (tables 𝓤 H 𝓜 𝓡 code.env))
