@@ -6,8 +6,7 @@ fn main() {
     if std::env::var_os("CARGO_FEATURE_ARCHIVE").is_none() {
         return;
     }
-    let directory = std::env::var("RAFTTWINE_ARCHIVE_DIR")
-        .expect("the feature `archive` needs RAFTTWINE_ARCHIVE_DIR");
+    let directory = std::env::var("RAFTTWINE_ARCHIVE_DIR").expect("the feature `archive` needs RAFTTWINE_ARCHIVE_DIR");
     // A changed archive has to be linked again.
     println!("cargo:rerun-if-changed={directory}/libplugin.a");
     println!("cargo:rustc-link-search=native={directory}");

@@ -50,10 +50,7 @@ pub struct TextAnswer {
 
 impl PriceAnswer {
     pub fn refused(number: u8) -> Self {
-        PriceAnswer {
-            number,
-            ..Self::default()
-        }
+        PriceAnswer { number, ..Self::default() }
     }
 }
 
@@ -65,18 +62,12 @@ impl Written {
 
 impl PackagingAnswer {
     pub fn refused(number: u8) -> Self {
-        PackagingAnswer {
-            number,
-            ..Self::default()
-        }
+        PackagingAnswer { number, ..Self::default() }
     }
 }
 
 impl TextAnswer {
     pub fn refused(number: u8) -> Self {
-        TextAnswer {
-            number,
-            ..Self::default()
-        }
+        TextAnswer { number, ..Self::default() }
     }
 }

@@ -128,21 +128,15 @@ impl Book {
     }
 
     pub fn article(&self, number: &[u8]) -> Option<&Article> {
-        self.articles
-            .iter()
-            .find(|article| article.number == number)
+        self.articles.iter().find(|article| article.number == number)
     }
 
     pub fn rounding(&self, number: u16) -> Option<&Rounding> {
-        self.roundings
-            .iter()
-            .find(|rounding| rounding.number == number)
+        self.roundings.iter().find(|rounding| rounding.number == number)
     }
 
     pub fn packaging(&self, article: &[u8], condition: &[u8]) -> Option<&Packaging> {
-        self.packagings
-            .iter()
-            .find(|record| record.article == article && record.condition == condition)
+        self.packagings.iter().find(|record| record.article == article && record.condition == condition)
     }
 
     pub fn scheme(&self, id: &[u8]) -> Option<&Scheme> {
@@ -151,10 +145,7 @@ impl Book {
 }
 
 fn read_article(reader: &mut Reader) -> Option<Article> {
-    Some(Article {
-        number: reader.name(1, 40)?,
-        scheme: reader.name(0, 20)?,
-    })
+    Some(Article { number: reader.name(1, 40)?, scheme: reader.name(0, 20)? })
 }
 
 fn read_price(reader: &mut Reader) -> Option<PriceRow> {
@@ -207,13 +198,7 @@ fn read_rounding(reader: &mut Reader) -> Option<Rounding> {
     if number == 0 || !(1..=1_000_000).contains(&step) {
         return None;
     }
-    Some(Rounding {
-        number,
-        way,
-        step,
-        add_before,
-        add_after,
-    })
+    Some(Rounding { number, way, step, add_before, add_after })
 }
 
 fn read_packaging(reader: &mut Reader) -> Option<Packaging> {
@@ -235,22 +220,14 @@ fn read_packaging(reader: &mut Reader) -> Option<Packaging> {
     let groups: [&[&[u8; 3]]; 3] = [&LENGTH_UNITS, &VOLUME_UNITS, &WEIGHT_UNITS];
     for place in 0..3 {
         let unit: [u8; 3] = reader.array()?;
-        let needed = VALUES_OF_UNIT[place]
-            .iter()
-            .any(|&value| has_bit(present, value));
+        let needed = VALUES_OF_UNIT[place].iter().any(|&value| has_bit(present, value));
         if groups[place].contains(&&unit) {
             units[place] = Some(unit);
         } else if unit != [0; 3] || needed {
             return None;
         }
     }
-    Some(Packaging {
-        article,
-        condition,
-        present,
-        values,
-        units,
-    })
+    Some(Packaging { article, condition, present, values, units })
 }
 
 fn read_scheme(reader: &mut Reader) -> Option<Scheme> {
@@ -263,22 +240,10 @@ fn read_scheme(reader: &mut Reader) -> Option<Scheme> {
     let trims = reader.one_of(&[0, 1])? == 1;
     // Once values are trimmed only the separator tells them apart, so it must be there and must
     // not look like the shortest run of either filling character.
-    if trims
-        && (value_separator.is_empty()
-            || value_separator == [hidden]
-            || value_separator == [unselected])
-    {
+    if trims && (value_separator.is_empty() || value_separator == [hidden] || value_separator == [unselected]) {
         return None;
     }
-    Some(Scheme {
-        id,
-        number_separator,
-        value_separator,
-        shows_hidden,
-        hidden,
-        unselected,
-        trims,
-    })
+    Some(Scheme { id, number_separator, value_separator, shows_hidden, hidden, unselected, trims })
 }
 
 /// A filling character, or its default where a zero says that none is given.

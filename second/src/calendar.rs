@@ -5,9 +5,7 @@ use crate::book::Book;
 use crate::days::period;
 use crate::price::price_on;
 use crate::question::Question;
-use crate::refusal::{
-    BAD_BOOK, BAD_PERIOD, BAD_QUESTION, DONE, NO_ARTICLE, TOO_LITTLE_ROOM, TOO_MANY_STRETCHES,
-};
+use crate::refusal::{BAD_BOOK, BAD_PERIOD, BAD_QUESTION, DONE, NO_ARTICLE, TOO_LITTLE_ROOM, TOO_MANY_STRETCHES};
 
 pub const STRETCH_LENGTH: usize = 20;
 
@@ -36,10 +34,7 @@ pub fn write<T: Copy>(parts: &[T], out: &mut [T]) -> Written {
         return Written::refused(TOO_LITTLE_ROOM);
     }
     out[..parts.len()].copy_from_slice(parts);
-    Written {
-        length: parts.len() as u64,
-        number: DONE,
-    }
+    Written { length: parts.len() as u64, number: DONE }
 }
 
 impl Stretch {
@@ -82,13 +77,7 @@ fn stretch_of_day(book: &Book, question: &Question, day: u32) -> Stretch {
         Ok(priced) => (DONE, priced.currency, priced.unit),
         Err(number) => (number, [0; 3], 0),
     };
-    Stretch {
-        first: day,
-        last: day,
-        unit,
-        refusal,
-        currency,
-    }
+    Stretch { first: day, last: day, unit, refusal, currency }
 }
 
 fn same_price(one: &Stretch, other: &Stretch) -> bool {

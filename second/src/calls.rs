@@ -5,8 +5,7 @@ use crate::answers::{PackagingAnswer, PriceAnswer, Stretch, TextAnswer, Written}
 pub trait Calls {
     fn price(&self, book: &[u8], question: &[u8], out: &mut [u8]) -> PriceAnswer;
     fn calendar(&self, book: &[u8], question: &[u8], end: u32, out: &mut [u8]) -> Written;
-    fn calendar_list(&self, book: &[u8], question: &[u8], end: u32, out: &mut [Stretch])
-        -> Written;
+    fn calendar_list(&self, book: &[u8], question: &[u8], end: u32, out: &mut [Stretch]) -> Written;
     fn final_number(&self, book: &[u8], question: &[u8], out: &mut [u8]) -> Written;
     fn packaging(&self, book: &[u8], question: &[u8]) -> PackagingAnswer;
     fn text(&self, asked: &[u8], fallback: &[u8], number: u32) -> TextAnswer;
@@ -24,13 +23,7 @@ impl Calls for Second {
         crate::calendar(book, question, end, out)
     }
 
-    fn calendar_list(
-        &self,
-        book: &[u8],
-        question: &[u8],
-        end: u32,
-        out: &mut [Stretch],
-    ) -> Written {
+    fn calendar_list(&self, book: &[u8], question: &[u8], end: u32, out: &mut [Stretch]) -> Written {
         crate::calendar_list(book, question, end, out)
     }
 
@@ -90,12 +83,7 @@ mod linked {
             out: *mut u8,
             out_len: usize,
         ) -> Written;
-        pub fn rafttwine_packaging(
-            book: *const u8,
-            book_len: usize,
-            question: *const u8,
-            question_len: usize,
-        ) -> PackagingAnswer;
+        pub fn rafttwine_packaging(book: *const u8, book_len: usize, question: *const u8, question_len: usize) -> PackagingAnswer;
         pub fn rafttwine_text(
             asked: *const u8,
             asked_len: usize,
@@ -112,14 +100,7 @@ mod linked {
 impl Calls for Archive {
     fn price(&self, book: &[u8], question: &[u8], out: &mut [u8]) -> PriceAnswer {
         unsafe {
-            linked::rafttwine_price(
-                book.as_ptr(),
-                book.len(),
-                question.as_ptr(),
-                question.len(),
-                out.as_mut_ptr(),
-                out.len(),
-            )
+            linked::rafttwine_price(book.as_ptr(), book.len(), question.as_ptr(), question.len(), out.as_mut_ptr(), out.len())
         }
     }
 
@@ -137,13 +118,7 @@ impl Calls for Archive {
         }
     }
 
-    fn calendar_list(
-        &self,
-        book: &[u8],
-        question: &[u8],
-        end: u32,
-        out: &mut [Stretch],
-    ) -> Written {
+    fn calendar_list(&self, book: &[u8], question: &[u8], end: u32, out: &mut [Stretch]) -> Written {
         unsafe {
             linked::rafttwine_calendar_list(
                 book.as_ptr(),
@@ -171,25 +146,10 @@ impl Calls for Archive {
     }
 
     fn packaging(&self, book: &[u8], question: &[u8]) -> PackagingAnswer {
-        unsafe {
-            linked::rafttwine_packaging(
-                book.as_ptr(),
-                book.len(),
-                question.as_ptr(),
-                question.len(),
-            )
-        }
+        unsafe { linked::rafttwine_packaging(book.as_ptr(), book.len(), question.as_ptr(), question.len()) }
     }
 
     fn text(&self, asked: &[u8], fallback: &[u8], number: u32) -> TextAnswer {
-        unsafe {
-            linked::rafttwine_text(
-                asked.as_ptr(),
-                asked.len(),
-                fallback.as_ptr(),
-                fallback.len(),
-                number,
-            )
-        }
+        unsafe { linked::rafttwine_text(asked.as_ptr(), asked.len(), fallback.as_ptr(), fallback.len(), number) }
     }
 }

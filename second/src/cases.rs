@@ -4,10 +4,7 @@
 //! the pools hold what lies at a bound and next to it. A part of the cases is damaged.
 
 use crate::days::{day_before, is_day, next_day, period};
-use crate::make::{
-    self, latin1, Article, Packaging, Price, Property, Question, Record, Rounding, Scheme,
-    TextRecord,
-};
+use crate::make::{self, latin1, Article, Packaging, Price, Property, Question, Record, Rounding, Scheme, TextRecord};
 use crate::random::Random;
 use crate::reader::LONGEST_BOOK;
 
@@ -191,35 +188,17 @@ pub fn plain_case() -> Case {
             Price::percent("A1", b'X', 1, 1250).condition("OAK").into(),
             Price::percent("A1", b'D', 2, -333).up_to(9).into(),
             Rounding::new(1, 2, 100).adds(3, -1).into(),
-            Packaging::new("A1", "")
-                .value(0, 1)
-                .value(3, 2)
-                .value(4, 3)
-                .value(5, 4)
-                .value(6, 5)
-                .into(),
+            Packaging::new("A1", "").value(0, 1).value(3, 2).value(4, 3).value(5, 4).value(6, 5).into(),
             Packaging::new("*", "OAK").value(5, 6).value(7, 7).into(),
-            Scheme::new("S1", "/", "_")
-                .characters(b'#', b'+')
-                .trim(1)
-                .into(),
+            Scheme::new("S1", "/", "_").characters(b'#', b'+').trim(1).into(),
         ],
-        question: Question::new("A1", 20240228)
-            .granted(&["oak", "Ash"])
-            .valued(3, "V")
-            .hidden(2)
-            .unselected(1),
+        question: Question::new("A1", 20240228).granted(&["oak", "Ash"]).valued(3, "V").hidden(2).unselected(1),
         end: 20240301,
         asked: vec![TextRecord::new(1, b"one"), TextRecord::new(2, b"two")],
         fallback: vec![TextRecord::new(3, b""), TextRecord::new(1, b"uno")],
         text_number: 1,
         damages: Vec::new(),
-        rooms: Rooms {
-            price: Room::Longer(30),
-            calendar: Room::Longer(40),
-            list: Room::Longer(2),
-            number: Room::Longer(9),
-        },
+        rooms: Rooms { price: Room::Longer(30), calendar: Room::Longer(40), list: Room::Longer(2), number: Room::Longer(9) },
     }
 }
 
@@ -238,10 +217,7 @@ pub fn sweep() -> impl Iterator<Item = Case> {
         (0..length * 256).map(move |step| {
             let (place, mask) = (step / 256, (step % 256) as u8);
             let damages = vec![(target, Damage::Change { place, mask })];
-            Case {
-                damages,
-                ..plain.clone()
-            }
+            Case { damages, ..plain.clone() }
         })
     })
 }
@@ -279,55 +255,19 @@ const ARTICLES: [&str; 8] = [
     "A234567890123456789012345678901234567891",
 ];
 
-const NO_DAYS: [u32; 14] = [
-    0,
-    1,
-    101,
-    1231,
-    10100,
-    20230229,
-    20240100,
-    20240230,
-    20240631,
-    20241301,
-    19000229,
-    99991232,
-    100000101,
-    u32::MAX,
-];
+const NO_DAYS: [u32; 14] =
+    [0, 1, 101, 1231, 10100, 20230229, 20240100, 20240230, 20240631, 20241301, 19000229, 99991232, 100000101, u32::MAX];
 
 const DATES: [u32; 16] = [
-    10101, 10102, 10301, 19000228, 20000229, 20231231, 20240101, 20240228, 20240229, 20240301,
-    20240615, 20240630, 20241231, 99970101, 99991230, 99991231,
+    10101, 10102, 10301, 19000228, 20000229, 20231231, 20240101, 20240228, 20240229, 20240301, 20240615, 20240630, 20241231,
+    99970101, 99991230, 99991231,
 ];
 
-const CENTS: [i32; 20] = [
-    0,
-    1,
-    -1,
-    3,
-    5,
-    15,
-    49,
-    50,
-    51,
-    99,
-    100,
-    150,
-    -50,
-    -150,
-    1250,
-    10_000,
-    10_500,
-    -10_000,
-    100_000_000,
-    -100_000_000,
-];
+const CENTS: [i32; 20] =
+    [0, 1, -1, 3, 5, 15, 49, 50, 51, 99, 100, 150, -50, -150, 1250, 10_000, 10_500, -10_000, 100_000_000, -100_000_000];
 
-const HUNDREDTHS: [i32; 18] = [
-    0, 1, -1, 99, 100, -100, 333, -333, 1250, 2500, -2500, 5000, -5000, 9_999, 10_000, -10_000,
-    100_000, -100_000,
-];
+const HUNDREDTHS: [i32; 18] =
+    [0, 1, -1, 99, 100, -100, 333, -333, 1250, 2500, -2500, 5000, -5000, 9_999, 10_000, -10_000, 100_000, -100_000];
 
 const STEPS: [u32; 11] = [1, 2, 3, 5, 10, 50, 99, 100, 1000, 999_999, 1_000_000];
 
@@ -367,35 +307,14 @@ struct Scene {
 
 impl Scene {
     fn new(mut random: Random) -> Self {
-        let theme = random.weighted(&[
-            (40, Theme::Calm),
-            (25, Theme::Wild),
-            (20, Theme::Limit),
-            (15, Theme::Foreign),
-        ]);
+        let theme = random.weighted(&[(40, Theme::Calm), (25, Theme::Wild), (20, Theme::Limit), (15, Theme::Foreign)]);
         let article = random.weighted(&[(85, "A1"), (5, ARTICLES[4]), (5, "A"), (5, ARTICLES[6])]);
-        let date = if random.percent(85) {
-            random.pick(&DATES)
-        } else {
-            any_day(&mut random)
-        };
+        let date = if random.percent(85) { random.pick(&DATES) } else { any_day(&mut random) };
         let end = any_end(&mut random, date);
         let quantity = random.pick(&[1, 1, 2, 9, 10, 11, 99_999, 100_000]);
         let days = days_around(&mut random, date, end);
-        let names = (0..random.between(1, 6))
-            .map(|_| latin1(random.pick(&NAMES)))
-            .collect();
-        Scene {
-            theme,
-            article: latin1(article),
-            sort: random.pick(b"SSSP"),
-            date,
-            end,
-            quantity,
-            days,
-            names,
-            random,
-        }
+        let names = (0..random.between(1, 6)).map(|_| latin1(random.pick(&NAMES))).collect();
+        Scene { theme, article: latin1(article), sort: random.pick(b"SSSP"), date, end, quantity, days, names, random }
     }
 
     fn case(mut self) -> Case {
@@ -404,9 +323,7 @@ impl Scene {
         let mut question = Question {
             article: self.article.clone(),
             sort: self.sort,
-            currency: self
-                .random
-                .weighted(&[(60, *b"EUR"), (20, *b"USD"), (20, [0; 3])]),
+            currency: self.random.weighted(&[(60, *b"EUR"), (20, *b"USD"), (20, [0; 3])]),
             date: self.date,
             quantity: self.quantity,
             granted,
@@ -429,25 +346,14 @@ impl Scene {
             fallback,
             text_number: self.random.pick(&TEXT_NUMBERS),
             damages,
-            rooms: Rooms {
-                price: self.room(14 * 40),
-                calendar: self.room(20 * 40),
-                list: self.room(40),
-                number: self.room(200),
-            },
+            rooms: Rooms { price: self.room(14 * 40), calendar: self.room(20 * 40), list: self.room(40), number: self.room(200) },
         }
     }
 
     fn room(&mut self, greatest: usize) -> Room {
         let longer = Room::Longer(self.random.between(1, 40));
         let any = Room::Any(self.random.below(greatest));
-        self.random.weighted(&[
-            (40, Room::Exact),
-            (12, Room::OneShort),
-            (3, Room::Empty),
-            (30, longer),
-            (15, any),
-        ])
+        self.random.weighted(&[(40, Room::Exact), (12, Room::OneShort), (3, Room::Empty), (30, longer), (15, any)])
     }
 
     // Names.
@@ -480,15 +386,7 @@ impl Scene {
     /// The same name once raised, but with some letters small.
     fn recased(&mut self, name: &[u8]) -> Vec<u8> {
         let chance = self.random.pick(&[0, 50, 100]);
-        name.iter()
-            .map(|byte| {
-                if self.random.percent(chance) {
-                    byte.to_ascii_lowercase()
-                } else {
-                    *byte
-                }
-            })
-            .collect()
+        name.iter().map(|byte| if self.random.percent(chance) { byte.to_ascii_lowercase() } else { *byte }).collect()
     }
 
     fn condition(&mut self) -> Vec<u8> {
@@ -542,15 +440,8 @@ impl Scene {
 
     fn article_record(&mut self, number: Vec<u8>) -> Record {
         let scheme = self.scheme_id();
-        let scheme = if self.random.percent(15) {
-            String::new()
-        } else {
-            scheme
-        };
-        Record::Article(Article {
-            number,
-            scheme: latin1(&scheme),
-        })
+        let scheme = if self.random.percent(15) { String::new() } else { scheme };
+        Record::Article(Article { number, scheme: latin1(&scheme) })
     }
 
     fn price_rows(&mut self, records: &mut Vec<Record>) {
@@ -587,8 +478,7 @@ impl Scene {
         let count = if self.names.len() > 30 {
             self.random.between(10, 60)
         } else {
-            self.random
-                .weighted(&[(10, 0), (10, 1), (30, 4), (30, 9), (20, 16)])
+            self.random.weighted(&[(10, 0), (10, 1), (30, 4), (30, 9), (20, 16)])
         };
         for _ in 0..count {
             let row = self.price_row();
@@ -615,11 +505,7 @@ impl Scene {
         let fixed = u8::from(self.random.percent(if level == b'B' { 90 } else { 50 }));
         let value = self.value(level, fixed);
         let (from, to) = self.row_dates();
-        let sort = if self.random.percent(92) {
-            self.sort
-        } else {
-            self.random.pick(b"SP")
-        };
+        let sort = if self.random.percent(92) { self.sort } else { self.random.pick(b"SP") };
         Price {
             article: self.row_article(),
             condition: self.condition(),
@@ -656,9 +542,7 @@ impl Scene {
     fn currency(&mut self) -> [u8; 3] {
         match self.theme {
             Theme::Calm | Theme::Limit => self.random.weighted(&[(97, *b"EUR"), (3, *b"USD")]),
-            Theme::Wild => self
-                .random
-                .weighted(&[(60, *b"EUR"), (25, *b"USD"), (15, *b"EUS")]),
+            Theme::Wild => self.random.weighted(&[(60, *b"EUR"), (25, *b"USD"), (15, *b"EUS")]),
             Theme::Foreign => self.random.weighted(&[(70, *b"EUR"), (30, *b"USD")]),
         }
     }
@@ -722,11 +606,7 @@ impl Scene {
     }
 
     fn rounding(&mut self) -> Rounding {
-        let step = if self.random.percent(15) {
-            self.random.between(1, 1_000_000) as u32
-        } else {
-            self.random.pick(&STEPS)
-        };
+        let step = if self.random.percent(15) { self.random.between(1, 1_000_000) as u32 } else { self.random.pick(&STEPS) };
         // Great steps and adds would leave no other number in the case alone.
         let tame = self.theme == Theme::Calm && self.random.percent(70);
         Rounding {
@@ -775,31 +655,18 @@ impl Scene {
                 *value = self.packaging_value(place, with_negatives);
             }
         }
-        let pools: [&[&[u8; 3]]; 3] = [
-            &[b"MMT", b"INH", b"FOT", b"CMT", b"MTR"],
-            &[b"LTR", b"INQ", b"MTQ"],
-            &[b"KGM", b"LBR", b"MGM"],
-        ];
+        let pools: [&[&[u8; 3]]; 3] =
+            [&[b"MMT", b"INH", b"FOT", b"CMT", b"MTR"], &[b"LTR", b"INQ", b"MTQ"], &[b"KGM", b"LBR", b"MGM"]];
         let needing = [0b0000_0111, 0b0000_1000, 0b0011_0000];
         let mut units = [[0; 3]; 3];
         for place in 0..3 {
             let rare = *self.random.pick(pools[place]);
-            let unit = if self.random.percent(95) {
-                *pools[place][0]
-            } else {
-                rare
-            };
+            let unit = if self.random.percent(95) { *pools[place][0] } else { rare };
             if present & needing[place] != 0 || self.random.percent(50) {
                 units[place] = unit;
             }
         }
-        Packaging {
-            article: self.row_article(),
-            condition: self.condition(),
-            present,
-            values,
-            units,
-        }
+        Packaging { article: self.row_article(), condition: self.condition(), present, values, units }
     }
 
     fn packaging_value(&mut self, place: usize, with_negatives: bool) -> i32 {
@@ -817,16 +684,7 @@ impl Scene {
     }
 
     fn scheme_id(&mut self) -> String {
-        let ids = [
-            "S1",
-            "S1",
-            "S1",
-            "S1",
-            "S2",
-            "s1",
-            "S",
-            "ABCDEFGHIJKLMNOPQRST",
-        ];
+        let ids = ["S1", "S1", "S1", "S1", "S2", "s1", "S", "ABCDEFGHIJKLMNOPQRST"];
         self.random.pick(&ids).to_string()
     }
 
@@ -870,36 +728,22 @@ impl Scene {
             1 => usize::from(width),
             _ => self.random.between(1, usize::from(width)),
         };
-        let value = (0..length)
-            .map(|_| self.random.pick(b"OAKX-_:#!~\xa1\xff"))
-            .collect();
-        Property {
-            width,
-            state,
-            value,
-        }
+        let value = (0..length).map(|_| self.random.pick(b"OAKX-_:#!~\xa1\xff")).collect();
+        Property { width, state, value }
     }
 
     fn texts(&mut self) -> Vec<TextRecord> {
         (0..self.random.below(6))
             .map(|_| {
                 let length = self.random.pick(&[0, 1, 5, 20, 255, 256]);
-                TextRecord {
-                    number: self.random.pick(&TEXT_NUMBERS),
-                    text: (0..length).map(|_| self.random.byte()).collect(),
-                }
+                TextRecord { number: self.random.pick(&TEXT_NUMBERS), text: (0..length).map(|_| self.random.byte()).collect() }
             })
             .collect()
     }
 
     // Damage.
 
-    fn damage(
-        &mut self,
-        book: &mut Vec<Record>,
-        question: &mut Question,
-        damages: &mut Vec<(Target, Damage)>,
-    ) {
+    fn damage(&mut self, book: &mut Vec<Record>, question: &mut Question, damages: &mut Vec<(Target, Damage)>) {
         let target = self.random.weighted(&[
             (40, Target::Book),
             (28, Target::Question),
@@ -947,10 +791,7 @@ impl Scene {
                 let more = self.random.between(1, 8);
                 Damage::Append((0..more).map(|_| self.random.byte()).collect())
             }
-            4 | 5 => Damage::Change {
-                place,
-                mask: 1 << self.random.below(8),
-            },
+            4 | 5 => Damage::Change { place, mask: 1 << self.random.below(8) },
             6 => Damage::Insert { place, byte },
             7 => Damage::Remove { place },
             8 => Damage::SetVersion(self.random.pick(&[0, 2, 255])),
@@ -977,8 +818,7 @@ impl Scene {
 
     /// Moves a number just beyond its bound on one side or the other.
     fn beyond(&mut self, bound: i32) -> i32 {
-        self.random
-            .pick(&[bound + 1, -bound - 1, i32::MAX, i32::MIN, bound, -bound])
+        self.random.pick(&[bound + 1, -bound - 1, i32::MAX, i32::MIN, bound, -bound])
     }
 
     fn spoil_record(&mut self, record: &mut Record) {
@@ -1218,17 +1058,10 @@ fn change_daily(case: &mut Case, random: &mut Random) {
     // Every name means another look at every row on every day.
     question.granted.truncate(1);
     case.end = end_after(question.date, random.between(1_000, 1_096));
-    for (place, day) in period(question.date, case.end)
-        .unwrap_or_default()
-        .iter()
-        .enumerate()
-    {
+    for (place, day) in period(question.date, case.end).unwrap_or_default().iter().enumerate() {
         if random.percent(95) {
-            let row = Price {
-                article: question.article.clone(),
-                sort: question.sort,
-                ..Price::fixed("", b'B', place as i32 % 7 + 1)
-            };
+            let row =
+                Price { article: question.article.clone(), sort: question.sort, ..Price::fixed("", b'B', place as i32 % 7 + 1) };
             case.book.push(row.dates(*day, *day).into());
         }
     }
@@ -1237,17 +1070,8 @@ fn change_daily(case: &mut Case, random: &mut Random) {
 /// Makes one of the text books about as long as it may be.
 fn fill_text_books(case: &mut Case, random: &mut Random) {
     case.damages.clear();
-    let wanted = random.pick(&[
-        LONGEST_BOOK - 1,
-        LONGEST_BOOK,
-        LONGEST_BOOK,
-        LONGEST_BOOK + 1,
-    ]);
-    let texts = if random.percent(50) {
-        &mut case.asked
-    } else {
-        &mut case.fallback
-    };
+    let wanted = random.pick(&[LONGEST_BOOK - 1, LONGEST_BOOK, LONGEST_BOOK, LONGEST_BOOK + 1]);
+    let texts = if random.percent(50) { &mut case.asked } else { &mut case.fallback };
     let mut missing = wanted - make::text_book(texts).len();
     while missing >= 6 {
         let mut length = (missing - 6).min(65_535);
@@ -1265,12 +1089,7 @@ fn fill_text_books(case: &mut Case, random: &mut Random) {
 fn fill_book(case: &mut Case, random: &mut Random) {
     case.damages.clear();
     case.end = next_day(case.question.date).unwrap_or(case.question.date);
-    let wanted = random.pick(&[
-        LONGEST_BOOK - 1,
-        LONGEST_BOOK,
-        LONGEST_BOOK,
-        LONGEST_BOOK + 1,
-    ]);
+    let wanted = random.pick(&[LONGEST_BOOK - 1, LONGEST_BOOK, LONGEST_BOOK, LONGEST_BOOK + 1]);
     let missing = wanted - make::book(&case.book).len();
     case.book.extend(filling(missing));
 }

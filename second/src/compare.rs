@@ -15,14 +15,7 @@ pub enum Call {
     Text,
 }
 
-pub const ALL_CALLS: [Call; 6] = [
-    Call::Price,
-    Call::Calendar,
-    Call::CalendarList,
-    Call::FinalNumber,
-    Call::Packaging,
-    Call::Text,
-];
+pub const ALL_CALLS: [Call; 6] = [Call::Price, Call::Calendar, Call::CalendarList, Call::FinalNumber, Call::Packaging, Call::Text];
 
 impl Call {
     pub fn name(self) -> &'static str {
@@ -36,7 +29,9 @@ impl Call {
         }
     }
 
-    /// The numbers that the call can give.
+    /// The numbers that the call can give. Each call has a list of refusals of its own, in which no
+    /// other number stands; of those lists only one number is missing here: a calendar is never
+    /// refused with 10, since its period has at most 1,096 days, and so at most 1,096 stretches.
     pub fn possible(self) -> &'static [u8] {
         match self {
             Call::Price => &[0, 1, 2, 3, 4, 5, 6, 7],
@@ -47,6 +42,15 @@ impl Call {
         }
     }
 }
+
+/// Numbers that the program can print, 0 for a calendar: those of the calendar call without 7, as
+/// the program's own room is enough for every calendar.
+pub const PROGRAM_NUMBERS: [u8; 5] = [0, 1, 2, 3, 9];
+
+/// Numbers that a stretch can carry: those of the price call that depend on the day. Broken input
+/// and a missing article refuse the whole calendar, and a day's price is written nowhere, so there
+/// is no 7.
+pub const STRETCH_NUMBERS: [u8; 4] = [0, 4, 5, 6];
 
 #[derive(Debug, Clone, Copy, PartialEq, Eq)]
 pub enum Answer {
@@ -73,6 +77,25 @@ pub struct Outcome {
     pub answer: Answer,
     pub bytes: Vec<u8>,
     pub list: Vec<Stretch>,
+}
+
+impl Outcome {
+    /// The answer, and what stands in the lent memory, bytes as hexadecimal.
+    pub fn told(&self) -> String {
+        let mut told = format!("{:?}", self.answer);
+        if !self.bytes.is_empty() {
+            told += &format!("\n        lent bytes {}", hex(&self.bytes));
+        }
+        for record in &self.list {
+            told += &format!("\n        {record:?}");
+        }
+        told
+    }
+}
+
+/// Two digits a byte.
+pub fn hex(bytes: &[u8]) -> String {
+    bytes.iter().map(|byte| format!("{byte:02x}")).collect()
 }
 
 /// How much room each writing call gets, in bytes or records.
@@ -176,11 +199,7 @@ pub fn run(call: Call, calls: &dyn Calls, inputs: &Inputs, sizes: Sizes) -> Outc
             Answer::Text(calls.text(asked, fallback, inputs.text_number))
         }
     };
-    Outcome {
-        answer,
-        bytes,
-        list,
-    }
+    Outcome { answer, bytes, list }
 }
 
 /// What every outcome owes, whatever the rules of the call say: beside a refusal there are only
@@ -188,16 +207,8 @@ pub fn run(call: Call, calls: &dyn Calls, inputs: &Inputs, sizes: Sizes) -> Outc
 pub fn broken_promise(outcome: &Outcome) -> Option<&'static str> {
     let number = outcome.answer.number();
     let (empty, bytes_written, records_written) = match outcome.answer {
-        Answer::Price(answer) => (
-            answer == PriceAnswer::refused(number),
-            answer.lines as usize * 14,
-            0,
-        ),
-        Answer::Written(answer) => (
-            answer == Written::refused(number),
-            answer.length as usize,
-            answer.length as usize,
-        ),
+        Answer::Price(answer) => (answer == PriceAnswer::refused(number), answer.lines as usize * 14, 0),
+        Answer::Written(answer) => (answer == Written::refused(number), answer.length as usize, answer.length as usize),
         Answer::Packaging(answer) => (answer == PackagingAnswer::refused(number), 0, 0),
         Answer::Text(answer) => (answer == TextAnswer::refused(number), 0, 0),
     };
@@ -208,9 +219,7 @@ pub fn broken_promise(outcome: &Outcome) -> Option<&'static str> {
     let filled = pattern(outcome.bytes.len());
     let list = outcome.list.get(records_written.min(outcome.list.len())..);
     let filled_list = list_pattern(outcome.list.len());
-    if bytes.is_some_and(|left| !filled.ends_with(left))
-        || list.is_some_and(|left| !filled_list.ends_with(left))
-    {
+    if bytes.is_some_and(|left| !filled.ends_with(left)) || list.is_some_and(|left| !filled_list.ends_with(left)) {
         return Some("memory was written that should have stayed");
     }
     None
@@ -225,12 +234,7 @@ pub struct Difference {
 }
 
 /// Compares one call of a case; also returns our number.
-pub fn compare(
-    call: Call,
-    theirs: &dyn Calls,
-    inputs: &Inputs,
-    sizes: Sizes,
-) -> (Outcome, Option<Difference>) {
+pub fn compare(call: Call, theirs: &dyn Calls, inputs: &Inputs, sizes: Sizes) -> (Outcome, Option<Difference>) {
     let ours = run(call, &Second, inputs, sizes);
     let before = inputs.clone();
     let other = run(call, theirs, inputs, sizes);
@@ -242,10 +246,6 @@ pub fn compare(
         return (ours, None);
     }
     let note = complaint.map_or(String::new(), |(who, what)| format!(" ({who}{what})"));
-    let difference = Difference {
-        call: format!("{}{note}", call.name()),
-        ours: format!("{ours:?}"),
-        theirs: format!("{other:?}"),
-    };
+    let difference = Difference { call: format!("{}{note}", call.name()), ours: ours.told(), theirs: other.told() };
     (ours, Some(difference))
 }

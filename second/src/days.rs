@@ -25,9 +25,7 @@ fn parts(date: u32) -> (u32, u32, u32) {
 
 pub fn is_day(date: u32) -> bool {
     let (year, month, day) = parts(date);
-    (FIRST_YEAR..=LAST_YEAR).contains(&year)
-        && (1..=12).contains(&month)
-        && (1..=days_of_month(year, month)).contains(&day)
+    (FIRST_YEAR..=LAST_YEAR).contains(&year) && (1..=12).contains(&month) && (1..=days_of_month(year, month)).contains(&day)
 }
 
 /// The day after a day; `None` after the very last one, and for what is no day.

@@ -10,21 +10,12 @@ pub struct Fraction {
 
 impl Fraction {
     pub fn whole(number: i128) -> Self {
-        Fraction {
-            numerator: number,
-            denominator: 1,
-        }
+        Fraction { numerator: number, denominator: 1 }
     }
 
     pub fn over(numerator: i128, denominator: i128) -> Self {
-        assert!(
-            denominator > 0,
-            "the denominators here are fixed or checked"
-        );
-        Fraction {
-            numerator,
-            denominator,
-        }
+        assert!(denominator > 0, "the denominators here are fixed or checked");
+        Fraction { numerator, denominator }
     }
 
     pub fn plus(self, other: Fraction) -> Self {
@@ -65,9 +56,6 @@ mod tests {
         let more = Fraction::over(-3, 2);
         assert_eq!((more.floor(), more.ceiling(), more.nearest()), (-2, -1, -1));
         let whole = Fraction::whole(-7);
-        assert_eq!(
-            (whole.floor(), whole.ceiling(), whole.nearest()),
-            (-7, -7, -7)
-        );
+        assert_eq!((whole.floor(), whole.ceiling(), whole.nearest()), (-7, -7, -7));
     }
 }

@@ -10,6 +10,7 @@ pub mod calendar;
 pub mod calls;
 pub mod cases;
 pub mod compare;
+pub mod counts;
 pub mod days;
 pub mod fraction;
 pub mod make;

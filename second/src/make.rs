@@ -93,9 +93,7 @@ pub struct TextRecord {
 
 /// The bytes of a text all of whose characters are in Latin-1.
 pub fn latin1(text: &str) -> Vec<u8> {
-    text.chars()
-        .map(|c| u8::try_from(u32::from(c)).expect("a character outside Latin-1"))
-        .collect()
+    text.chars().map(|c| u8::try_from(u32::from(c)).expect("a character outside Latin-1")).collect()
 }
 
 /// A length byte and the bytes.
@@ -206,12 +204,7 @@ impl Record {
                 put_name(&mut body, &scheme.id);
                 put_name(&mut body, &scheme.number_separator);
                 put_name(&mut body, &scheme.value_separator);
-                body.extend([
-                    scheme.visibility,
-                    scheme.hidden,
-                    scheme.unselected,
-                    scheme.trim,
-                ]);
+                body.extend([scheme.visibility, scheme.hidden, scheme.unselected, scheme.trim]);
             }
             Record::Raw(bytes) => body.extend(bytes),
         }
@@ -221,10 +214,7 @@ impl Record {
 
 impl Article {
     pub fn new(number: &str, scheme: &str) -> Self {
-        Article {
-            number: latin1(number),
-            scheme: latin1(scheme),
-        }
+        Article { number: latin1(number), scheme: latin1(scheme) }
     }
 }
 
@@ -294,13 +284,7 @@ impl Price {
 
 impl Rounding {
     pub fn new(number: u16, way: u8, step: u32) -> Self {
-        Rounding {
-            number,
-            way,
-            step,
-            add_before: 0,
-            add_after: 0,
-        }
+        Rounding { number, way, step, add_before: 0, add_after: 0 }
     }
 
     pub fn adds(mut self, before: i32, after: i32) -> Self {
@@ -411,11 +395,7 @@ impl Question {
     }
 
     pub fn property(mut self, width: u8, state: u8, value: &str) -> Self {
-        self.properties.push(Property {
-            width,
-            state,
-            value: latin1(value),
-        });
+        self.properties.push(Property { width, state, value: latin1(value) });
         self
     }
 
@@ -426,10 +406,7 @@ impl Question {
 
 impl TextRecord {
     pub fn new(number: u32, text: &[u8]) -> Self {
-        TextRecord {
-            number,
-            text: text.to_vec(),
-        }
+        TextRecord { number, text: text.to_vec() }
     }
 }
 

@@ -25,11 +25,7 @@ fn final_number_of(book: &[u8], question: &[u8]) -> Result<Vec<u8>, u8> {
 }
 
 fn joined(scheme: &Scheme, question: &Question) -> Vec<u8> {
-    let values: Vec<Vec<u8>> = question
-        .properties
-        .iter()
-        .filter_map(|property| written_value(scheme, property))
-        .collect();
+    let values: Vec<Vec<u8>> = question.properties.iter().filter_map(|property| written_value(scheme, property)).collect();
     let mut number = question.article.clone();
     if !values.is_empty() {
         if scheme.number_separator.is_empty() {

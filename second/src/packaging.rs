@@ -40,21 +40,12 @@ fn try_packaging(book: &[u8], question: &[u8]) -> Result<PackagingAnswer, u8> {
         }
     }
 
-    let gross = if [TARE, NET, ITEMS].iter().all(|&bit| has_bit(present, bit)) {
-        values[TARE] + values[NET] * values[ITEMS]
-    } else {
-        0
-    };
+    let gross =
+        if [TARE, NET, ITEMS].iter().all(|&bit| has_bit(present, bit)) { values[TARE] + values[NET] * values[ITEMS] } else { 0 };
     if gross < 0 || values.iter().any(|&value| value < 0) {
         return Err(BAD_PACKAGING);
     }
-    let mut answer = PackagingAnswer {
-        gross,
-        values,
-        number: DONE,
-        present,
-        units: [0; 9],
-    };
+    let mut answer = PackagingAnswer { gross, values, number: DONE, present, units: [0; 9] };
     for (place, unit) in answer.units.chunks_exact_mut(3).zip(units) {
         place.copy_from_slice(&unit.unwrap_or([0; 3]));
     }

@@ -5,10 +5,7 @@ use crate::book::{Book, PriceRow, Rounding, Rule, Value, Way};
 use crate::days::is_day;
 use crate::fraction::Fraction;
 use crate::question::Question;
-use crate::refusal::{
-    BAD_BOOK, BAD_QUESTION, DONE, NO_ARTICLE, NO_BASE_LINE, OTHER_CURRENCY, TOO_LITTLE_ROOM,
-    TOTAL_OUT_OF_RANGE,
-};
+use crate::refusal::{BAD_BOOK, BAD_QUESTION, DONE, NO_ARTICLE, NO_BASE_LINE, OTHER_CURRENCY, TOO_LITTLE_ROOM, TOTAL_OUT_OF_RANGE};
 
 pub const LINE_LENGTH: usize = 14;
 
@@ -91,18 +88,13 @@ impl Line {
 /// have the article.
 pub fn price_on(book: &Book, question: &Question, date: u32) -> Result<Priced, u8> {
     let listing = listing(book, question, date);
-    let first_base = listing
-        .iter()
-        .find(|chosen| chosen.row.level == b'B')
-        .ok_or(NO_BASE_LINE)?;
+    let first_base = listing.iter().find(|chosen| chosen.row.level == b'B').ok_or(NO_BASE_LINE)?;
     let currency = first_base.row.currency;
 
     // Currencies are looked at over the whole listing before any amount is worked out: the
     // refusal for a foreign line comes before the one for a total out of range, and totals that
     // left their range would soon be too great to calculate with.
-    let foreign = |chosen: &Chosen| {
-        matches!(chosen.row.value, Value::Fixed(_)) && chosen.row.currency != currency
-    };
+    let foreign = |chosen: &Chosen| matches!(chosen.row.value, Value::Fixed(_)) && chosen.row.currency != currency;
     if listing.iter().any(foreign) {
         return Err(OTHER_CURRENCY);
     }
@@ -110,29 +102,16 @@ pub fn price_on(book: &Book, question: &Question, date: u32) -> Result<Priced, u
     let mut lines: Vec<Line> = Vec::new();
     let mut running: i128 = 0;
     for chosen in &listing {
-        let base_sum: i128 = lines
-            .iter()
-            .filter(|line| line.level == b'B')
-            .map(|line| i128::from(line.amount))
-            .sum();
+        let base_sum: i128 = lines.iter().filter(|line| line.level == b'B').map(|line| i128::from(line.amount)).sum();
         let exact = exact_amount(chosen.row, base_sum, running);
         let amount = round(exact, rounding_of(book, chosen.row));
         running += amount;
         if !(-GREATEST_TOTAL..=GREATEST_TOTAL).contains(&running) {
             return Err(TOTAL_OUT_OF_RANGE);
         }
-        lines.push(Line {
-            text: chosen.row.text,
-            level: chosen.row.level,
-            place: chosen.place,
-            amount: amount as i64,
-        });
+        lines.push(Line { text: chosen.row.text, level: chosen.row.level, place: chosen.place, amount: amount as i64 });
     }
-    Ok(Priced {
-        lines,
-        unit: running as i64,
-        currency,
-    })
+    Ok(Priced { lines, unit: running as i64, currency })
 }
 
 /// The chosen rows in the order of the listing.
@@ -154,13 +133,7 @@ fn listing<'a>(book: &'a Book, question: &Question, date: u32) -> Vec<Chosen<'a>
 }
 
 /// The row of one component that is chosen on a day.
-fn choose<'a>(
-    book: &'a Book,
-    question: &Question,
-    date: u32,
-    level: u8,
-    condition: &[u8],
-) -> Option<&'a PriceRow> {
+fn choose<'a>(book: &'a Book, question: &Question, date: u32, level: u8, condition: &[u8]) -> Option<&'a PriceRow> {
     let mut rows: Vec<&PriceRow> = book
         .prices
         .iter()
@@ -221,22 +194,14 @@ fn exact_amount(row: &PriceRow, base_sum: i128, running: i128) -> Fraction {
 }
 
 fn rounding_of(book: &Book, row: &PriceRow) -> Rounding {
-    let plain = Rounding {
-        number: 0,
-        way: Way::Commercial,
-        step: 1,
-        add_before: 0,
-        add_after: 0,
-    };
+    let plain = Rounding { number: 0, way: Way::Commercial, step: 1, add_before: 0, add_after: 0 };
     // Number 0 is in no book, so it finds nothing either.
     book.rounding(row.rounding).copied().unwrap_or(plain)
 }
 
 fn round(exact: Fraction, rounding: Rounding) -> i128 {
     let step = i128::from(rounding.step);
-    let steps = exact
-        .plus(Fraction::whole(i128::from(rounding.add_before)))
-        .divided_by(step);
+    let steps = exact.plus(Fraction::whole(i128::from(rounding.add_before))).divided_by(step);
     let whole_steps = match rounding.way {
         Way::Down => steps.floor(),
         Way::Up => steps.ceiling(),

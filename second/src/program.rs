@@ -32,15 +32,9 @@ fn print_stretches(input: &[u8]) -> Result<Vec<u8>, u8> {
 
     let mut printed = Vec::new();
     for stretch in stretches(book, question, u32::from_be_bytes(end))? {
-        let currency = if stretch.currency == [0; 3] {
-            "---".to_string()
-        } else {
-            stretch.currency.map(char::from).iter().collect()
-        };
-        let line = format!(
-            "{} {} {} {} {}\n",
-            stretch.first, stretch.last, stretch.refusal, currency, stretch.unit
-        );
+        let currency =
+            if stretch.currency == [0; 3] { "---".to_string() } else { stretch.currency.map(char::from).iter().collect() };
+        let line = format!("{} {} {} {} {}\n", stretch.first, stretch.last, stretch.refusal, currency, stretch.unit);
         printed.extend(line.into_bytes());
     }
     Ok(printed)

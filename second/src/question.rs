@@ -59,15 +59,7 @@ impl Question {
         }
         let granted = read_list(&mut reader, |reader| reader.name(1, 20))?;
         let properties = read_list(&mut reader, read_property)?;
-        reader.at_end().then_some(Question {
-            article,
-            sort,
-            currency,
-            date,
-            quantity,
-            granted,
-            properties,
-        })
+        reader.at_end().then_some(Question { article, sort, currency, date, quantity, granted, properties })
     }
 
     /// The granted names in order, each at its first place only.
@@ -85,10 +77,7 @@ impl Question {
 }
 
 /// A count of at most 32 and as many entries.
-fn read_list<T>(
-    reader: &mut Reader,
-    read_entry: impl Fn(&mut Reader) -> Option<T>,
-) -> Option<Vec<T>> {
+fn read_list<T>(reader: &mut Reader, read_entry: impl Fn(&mut Reader) -> Option<T>) -> Option<Vec<T>> {
     let count = reader.byte()?;
     if count > 32 {
         return None;

@@ -58,9 +58,7 @@ impl<'a> Reader<'a> {
             return None;
         }
         let name = self.take(length)?;
-        name.iter()
-            .all(|&byte| is_name_byte(byte))
-            .then(|| name.to_vec())
+        name.iter().all(|&byte| is_name_byte(byte)).then(|| name.to_vec())
     }
 
     /// A byte that is one of those given.

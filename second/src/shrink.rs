@@ -17,12 +17,7 @@ pub fn shrunk(case: &Case, still: &dyn Fn(&Case) -> bool) -> Case {
         smaller |= drop_parts(&mut best, |case| &mut case.damages, still, &late);
         smaller |= drop_parts(&mut best, |case| &mut case.book, still, &late);
         smaller |= drop_parts(&mut best, |case| &mut case.question.granted, still, &late);
-        smaller |= drop_parts(
-            &mut best,
-            |case| &mut case.question.properties,
-            still,
-            &late,
-        );
+        smaller |= drop_parts(&mut best, |case| &mut case.question.properties, still, &late);
         smaller |= drop_parts(&mut best, |case| &mut case.asked, still, &late);
         smaller |= drop_parts(&mut best, |case| &mut case.fallback, still, &late);
         if best.end != best.question.date {

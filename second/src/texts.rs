@@ -24,11 +24,7 @@ pub fn read_text_book(bytes: &[u8]) -> Option<Vec<TextRecord>> {
         let length = usize::from(reader.u16()?);
         let place = reader.place();
         reader.take(length)?;
-        records.push(TextRecord {
-            number,
-            place,
-            length,
-        });
+        records.push(TextRecord { number, place, length });
     }
     Some(records)
 }
@@ -45,12 +41,7 @@ pub fn text(asked: &[u8], fallback: &[u8], number: u32) -> TextAnswer {
     };
     for (book, records) in [(1, asked), (2, fallback)] {
         if let Some(record) = records.iter().find(|record| record.number == number) {
-            return TextAnswer {
-                place: record.place as u64,
-                length: record.length as u64,
-                number: DONE,
-                book,
-            };
+            return TextAnswer { place: record.place as u64, length: record.length as u64, number: DONE, book };
         }
     }
     TextAnswer::refused(NO_TEXT)

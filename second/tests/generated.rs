@@ -1,8 +1,13 @@
-//! What the comparison relies on: cases that repeat, and cases of every sort.
+//! What the comparison relies on: cases that repeat, cases of every sort, and a difference that is
+//! noticed and made small.
 
+mod broken;
+
+use broken::Broken;
 use second::calls::Second;
 use second::cases::{plain_case, Case};
-use second::compare::{compare, run, Plan, ALL_CALLS};
+use second::compare::{compare, run, Call, Plan, ALL_CALLS};
+use second::counts::Counts;
 use second::shrink::shrunk;
 
 #[test]
@@ -43,11 +48,7 @@ fn every_number_comes_up() {
         for (number, count) in (0u8..).zip(counts) {
             let possible = call.possible().contains(&number);
             assert_eq!(possible, count > 0, "{} {number}", call.name());
-            assert!(
-                !possible || count >= 15,
-                "{} {number}: {count}",
-                call.name()
-            );
+            assert!(!possible || count >= 15, "{} {number}: {count}", call.name());
         }
     }
 }
@@ -65,4 +66,54 @@ fn shrinking_keeps_only_what_matters() {
     assert!(small.question.granted.is_empty() && small.question.properties.is_empty());
     assert!(small.asked.is_empty() && small.fallback.is_empty());
     assert_eq!(small.end, small.question.date);
+}
+
+/// The first of many cases on which a broken price call is noticed, made small.
+fn noticed(broken: &Broken) -> Case {
+    let differs = |case: &Case| {
+        let inputs = case.inputs();
+        let sizes = Plan::of(case, &inputs).sizes;
+        compare(Call::Price, broken, &inputs, sizes).1.is_some()
+    };
+    let case = (0..2_000).map(|index| Case::generate_small(9, index)).find(differs).expect("what is broken is noticed");
+    shrunk(&case, &differs)
+}
+
+#[test]
+fn a_wrong_count_is_noticed() {
+    let small = noticed(&Broken(|answer, _| answer.unused_count -= u8::from(answer.unused_count > 1)));
+    assert_eq!(small.book.len(), 2);
+    assert_eq!(small.question.granted.len(), 2);
+}
+
+#[test]
+fn a_byte_behind_the_output_is_noticed() {
+    let small = noticed(&Broken(|answer, out| {
+        if let (0, Some(behind)) = (answer.number, out.get_mut(answer.lines as usize * 14)) {
+            *behind ^= 1;
+        }
+    }));
+    assert_eq!(small.book.len(), 2);
+}
+
+#[test]
+fn a_field_beside_a_refusal_is_noticed() {
+    let small = noticed(&Broken(|answer, _| answer.unused |= u32::from(answer.number == 4)));
+    assert_eq!(small.book.len(), 1);
+    assert!(small.question.granted.is_empty());
+}
+
+#[test]
+fn numbers_that_did_not_come_up_are_complained_of() {
+    let mut counts = Counts::default();
+    for call in ALL_CALLS {
+        for number in call.possible() {
+            counts.call(call, *number);
+        }
+    }
+    let complaints = counts.complaints();
+    assert!(complaints.contains(&"program: number 9 has not come up".to_string()));
+    assert!(!complaints.iter().any(|complaint| complaint.starts_with("price")));
+    counts.call(Call::Calendar, 10);
+    assert!(counts.complaints().contains(&"calendar: number 10 should never come up".to_string()));
 }

@@ -1,11 +1,9 @@
 //! The sums worked by hand, the traps, and the edges of the layouts.
 
-use second::make::{
-    self, latin1, Article, Packaging, Price, Question, Record, Rounding, Scheme, TextRecord,
-};
+use second::make::{self, latin1, Article, Packaging, Price, Question, Record, Rounding, Scheme, TextRecord};
 use second::{
-    book_ok, calendar, calendar_list, final_number, packaging, price, program, question_ok, text,
-    text_book_ok, PackagingAnswer, PriceAnswer, Stretch, TextAnswer, Written,
+    book_ok, calendar, calendar_list, final_number, packaging, price, program, question_ok, text, text_book_ok, PackagingAnswer,
+    PriceAnswer, Stretch, TextAnswer, Written,
 };
 
 const PATTERN: u8 = 0xA5;
@@ -71,10 +69,7 @@ fn unit(book: &[u8], question: &Question) -> Result<i64, u8> {
 }
 
 fn refused(number: u8) -> PriceAnswer {
-    PriceAnswer {
-        number,
-        ..PriceAnswer::default()
-    }
+    PriceAnswer { number, ..PriceAnswer::default() }
 }
 
 fn book_k() -> Vec<u8> {
@@ -82,10 +77,7 @@ fn book_k() -> Vec<u8> {
         article("A1"),
         base(10000).dates(20240101, 20240630).text(11).into(),
         base(10500).dates(20240701, 20241231).text(12).into(),
-        Price::percent("A1", b'X', 1, 1250)
-            .condition("OAK")
-            .text(13)
-            .into(),
+        Price::percent("A1", b'X', 1, 1250).condition("OAK").text(13).into(),
         Price::percent("A1", b'D', 2, -333).text(14).into(),
     ])
 }
@@ -96,27 +88,13 @@ fn book_k() -> Vec<u8> {
 fn p1_to_p4_book_k() {
     let k = book_k();
     let (answer, lines) = lines_of(&k, &ask(20240630).granted(&["oak"]).quantity(3));
-    assert_eq!(
-        lines,
-        [(11, 'B', 0, 10000), (13, 'X', 1, 1250), (14, 'D', 0, -375)]
-    );
+    assert_eq!(lines, [(11, 'B', 0, 10000), (13, 'X', 1, 1250), (14, 'D', 0, -375)]);
     assert_eq!(
         answer,
-        PriceAnswer {
-            unit: 10875,
-            total: 32625,
-            lines: 3,
-            unused: 0,
-            unused_count: 0,
-            number: 0,
-            currency: *b"EUR",
-        }
+        PriceAnswer { unit: 10875, total: 32625, lines: 3, unused: 0, unused_count: 0, number: 0, currency: *b"EUR" }
     );
     let (answer, lines) = lines_of(&k, &ask(20240701).granted(&["oak"]));
-    assert_eq!(
-        lines,
-        [(12, 'B', 0, 10500), (13, 'X', 1, 1313), (14, 'D', 0, -393)]
-    );
+    assert_eq!(lines, [(12, 'B', 0, 10500), (13, 'X', 1, 1313), (14, 'D', 0, -393)]);
     assert_eq!(answer.unit, 11420);
     let (answer, lines) = lines_of(&k, &ask(20240630));
     assert_eq!(lines, [(11, 'B', 0, 10000), (14, 'D', 0, -333)]);
@@ -127,11 +105,7 @@ fn p1_to_p4_book_k() {
 
 #[test]
 fn p5_half_a_cent_of_discount() {
-    let b = book([
-        article("A1"),
-        base(50).into(),
-        Price::percent("A1", b'D', 2, -100).into(),
-    ]);
+    let b = book([article("A1"), base(50).into(), Price::percent("A1", b'D', 2, -100).into()]);
     assert_eq!(amounts(&b, &ask(DAY)), [50, 0]);
     assert_eq!(unit(&b, &ask(DAY)), Ok(50));
 }
@@ -151,26 +125,16 @@ fn p6_steps() {
 
 #[test]
 fn p7_up_to_quantity() {
-    let b = book([
-        article("A1"),
-        base(1).up_to(9).into(),
-        base(2).up_to(0).into(),
-    ]);
+    let b = book([article("A1"), base(1).up_to(9).into(), base(2).up_to(0).into()]);
     assert_eq!(unit(&b, &ask(DAY).quantity(9)), Ok(1));
     assert_eq!(unit(&b, &ask(DAY).quantity(10)), Ok(2));
 }
 
 #[test]
 fn p8_final_number() {
-    let question = Question::new("T100", DAY)
-        .valued(4, "OAK")
-        .hidden(2)
-        .unselected(3);
+    let question = Question::new("T100", DAY).valued(4, "OAK").hidden(2).unselected(3);
     let scheme = Scheme::new("LIST", "", "_");
-    let plain = [
-        Article::new("T100", "LIST").into(),
-        scheme.clone().trim(0).into(),
-    ];
+    let plain = [Article::new("T100", "LIST").into(), scheme.clone().trim(0).into()];
     assert_eq!(number(&make::book(&plain), &question), "T100 OAK _--_XXX");
     let trimmed = [Article::new("T100", "LIST").into(), scheme.trim(1).into()];
     assert_eq!(number(&make::book(&trimmed), &question), "T100 OAK_--_XXX");
@@ -178,10 +142,7 @@ fn p8_final_number() {
 
 #[test]
 fn p9_gross() {
-    let own = Packaging::new("A1", "")
-        .value(4, 2000)
-        .value(5, 15000)
-        .value(6, 2);
+    let own = Packaging::new("A1", "").value(4, 2000).value(5, 15000).value(6, 2);
     let star = Packaging::new("*", "OAK").value(5, 3000);
     let b = book([article("A1"), own.into(), star.into()]);
     let answer = packaging(&b, &ask(DAY).bytes());
@@ -215,35 +176,11 @@ fn calendar_of_k() {
     assert_eq!(String::from_utf8(program(&input)).unwrap(), CALENDAR_OF_K);
 
     let stretches = [
-        Stretch {
-            first: 20240629,
-            last: 20240630,
-            unit: 10875,
-            refusal: 0,
-            currency: *b"EUR",
-        },
-        Stretch {
-            first: 20240701,
-            last: 20241231,
-            unit: 11420,
-            refusal: 0,
-            currency: *b"EUR",
-        },
-        Stretch {
-            first: 20250101,
-            last: 20250102,
-            unit: 0,
-            refusal: 4,
-            currency: [0; 3],
-        },
+        Stretch { first: 20240629, last: 20240630, unit: 10875, refusal: 0, currency: *b"EUR" },
+        Stretch { first: 20240701, last: 20241231, unit: 11420, refusal: 0, currency: *b"EUR" },
+        Stretch { first: 20250101, last: 20250102, unit: 0, refusal: 4, currency: [0; 3] },
     ];
-    let filled = Stretch {
-        first: 1,
-        last: 2,
-        unit: 3,
-        refusal: 4,
-        currency: *b"abc",
-    };
+    let filled = Stretch { first: 1, last: 2, unit: 3, refusal: 4, currency: *b"abc" };
     let mut list = [filled; 5];
     let written = calendar_list(&book_k(), &question.bytes(), 20250102, &mut list);
     assert_eq!((written.length, written.number), (3, 0));
@@ -284,11 +221,7 @@ fn a_row_still_holds_on_its_to_date() {
 
 #[test]
 fn currency_is_decided_before_quantity() {
-    let b = book([
-        article("A1"),
-        base(100).up_to(5).into(),
-        base(200).currency(b"USD").into(),
-    ]);
+    let b = book([article("A1"), base(100).up_to(5).into(), base(200).currency(b"USD").into()]);
     assert_eq!(unit(&b, &ask(DAY).quantity(6)), Err(4));
     assert_eq!(unit(&b, &ask(DAY).quantity(5)), Ok(100));
     assert_eq!(unit(&b, &ask(DAY).quantity(6).currency(b"USD")), Ok(200));
@@ -299,11 +232,7 @@ fn currency_is_decided_before_quantity() {
 
 #[test]
 fn a_percentage_base_row_decides_nothing() {
-    let b = book([
-        article("A1"),
-        Price::percent("A1", b'B', 1, 100).into(),
-        base(200).currency(b"USD").into(),
-    ]);
+    let b = book([article("A1"), Price::percent("A1", b'B', 1, 100).into(), base(200).currency(b"USD").into()]);
     let (answer, lines) = lines_of(&b, &ask(DAY));
     assert_eq!((answer.unit, answer.currency), (200, *b"USD"));
     assert_eq!(lines.len(), 1);
@@ -322,12 +251,8 @@ fn rows_of_other_days_do_not_decide_the_currency() {
 
 #[test]
 fn percentages_decide_the_currency_of_their_component() {
-    let b = book([
-        article("A1"),
-        base(100).into(),
-        Price::percent("A1", b'X', 1, 5000).currency(b"USD").into(),
-        surcharge(7).into(),
-    ]);
+    let b =
+        book([article("A1"), base(100).into(), Price::percent("A1", b'X', 1, 5000).currency(b"USD").into(), surcharge(7).into()]);
     assert_eq!(amounts(&b, &ask(DAY)), [100, 7]);
     // With dollars asked the base stays in euros and the percentage is taken all the same.
     assert_eq!(amounts(&b, &ask(DAY).currency(b"USD")), [100, 50]);
@@ -335,11 +260,7 @@ fn percentages_decide_the_currency_of_their_component() {
 
 #[test]
 fn equal_prices_around_a_refused_day_stay_apart() {
-    let b = book([
-        article("A1"),
-        base(5).dates(20240228, 20240228).into(),
-        base(5).dates(20240301, 20240302).into(),
-    ]);
+    let b = book([article("A1"), base(5).dates(20240228, 20240228).into(), base(5).dates(20240301, 20240302).into()]);
     assert_eq!(
         String::from_utf8(program(&input(&b, &ask(20240228), 20240303))).unwrap(),
         "20240228 20240228 0 EUR 5\n20240229 20240229 4 --- 0\n\
@@ -352,13 +273,8 @@ fn refused_days_are_told_apart_by_their_number() {
     let b = book([
         article("A1"),
         base(100_000_000).dates(20240101, 20240103).into(),
-        Price::percent("A1", b'X', 2, 100_000)
-            .dates(20240102, 20240102)
-            .into(),
-        surcharge(1)
-            .currency(b"USD")
-            .dates(20240103, 20240103)
-            .into(),
+        Price::percent("A1", b'X', 2, 100_000).dates(20240102, 20240102).into(),
+        surcharge(1).currency(b"USD").dates(20240103, 20240103).into(),
     ]);
     assert_eq!(
         String::from_utf8(program(&input(&b, &ask(20240101), 20240104))).unwrap(),
@@ -378,10 +294,7 @@ fn rule_1_is_of_the_base_lines_only() {
         Price::percent("A1", b'D', 1, -1000).into(),
         Price::percent("A1", b'D', 2, -1000).condition("OAK").into(),
     ]);
-    assert_eq!(
-        amounts(&b, &ask(DAY).granted(&["OAK"])),
-        [1000, 500, 9000, 150, -150, -1050]
-    );
+    assert_eq!(amounts(&b, &ask(DAY).granted(&["OAK"])), [1000, 500, 9000, 150, -150, -1050]);
 }
 
 #[test]
@@ -401,10 +314,7 @@ fn rule_1_takes_the_base_amounts_as_rounded() {
 fn ties_between_rows() {
     let rows = |first: Price, second: Price| book([article("A1"), first.into(), second.into()]);
     // The lesser quantity beats the later start.
-    let b = rows(
-        base(1).up_to(10).dates(20240101, 20241231),
-        base(2).up_to(11).dates(20240201, 20241231),
-    );
+    let b = rows(base(1).up_to(10).dates(20240101, 20241231), base(2).up_to(11).dates(20240201, 20241231));
     assert_eq!(unit(&b, &ask(DAY)), Ok(1));
     // Zero is beaten even by the greatest quantity.
     let b = rows(base(1), base(2).up_to(u32::MAX));
@@ -457,11 +367,7 @@ fn rounding_below_zero() {
             Price::percent("A1", b'D', 1, value).rounding(9).into(),
             Rounding::new(9, way, step).into(),
         ]);
-        assert_eq!(
-            amounts(&b, &ask(DAY)),
-            [100, expected],
-            "{way} {step} {value}"
-        );
+        assert_eq!(amounts(&b, &ask(DAY)), [100, expected], "{way} {step} {value}");
     }
 }
 
@@ -489,20 +395,9 @@ fn granted_names_are_raised_and_counted_once() {
         surcharge(5).condition("\u{c4}").into(),
         surcharge(0).condition("NIL").into(),
     ]);
-    let names = [
-        "elm", "oak", "OAK", "Oak", "Ash", "elm", "\u{e4}", "\u{c4}", "nil",
-    ];
+    let names = ["elm", "oak", "OAK", "Oak", "Ash", "elm", "\u{e4}", "\u{c4}", "nil"];
     let (answer, lines) = lines_of(&b, &ask(DAY).granted(&names));
-    assert_eq!(
-        lines,
-        [
-            (0, 'B', 0, 100),
-            (0, 'X', 2, 1),
-            (0, 'X', 5, 3),
-            (0, 'X', 8, 5),
-            (0, 'X', 9, 0),
-        ]
-    );
+    assert_eq!(lines, [(0, 'B', 0, 100), (0, 'X', 2, 1), (0, 'X', 5, 3), (0, 'X', 8, 5), (0, 'X', 9, 0),]);
     // The small umlaut is not raised, so it stays a name of its own without a line.
     assert_eq!(answer.unused, 0b0_0100_0001);
     assert_eq!(answer.unused_count, 2);
@@ -519,18 +414,10 @@ fn all_32_places_can_be_unused() {
 
 #[test]
 fn a_conditioned_base_line_can_be_the_first() {
-    let b = book([
-        article("A1"),
-        base(100).condition("OAK").currency(b"USD").into(),
-        surcharge(10).into(),
-    ]);
+    let b = book([article("A1"), base(100).condition("OAK").currency(b"USD").into(), surcharge(10).into()]);
     assert_eq!(unit(&b, &ask(DAY)), Err(4));
     assert_eq!(unit(&b, &ask(DAY).granted(&["oak"])), Err(5));
-    let b = book([
-        article("A1"),
-        base(100).condition("OAK").currency(b"USD").into(),
-        Price::percent("A1", b'X', 1, 1000).into(),
-    ]);
+    let b = book([article("A1"), base(100).condition("OAK").currency(b"USD").into(), Price::percent("A1", b'X', 1, 1000).into()]);
     assert_eq!(unit(&b, &ask(DAY).granted(&["oak"])), Ok(110));
 }
 
@@ -550,20 +437,12 @@ fn a_foreign_line_beats_a_total_out_of_range() {
 fn totals_at_the_bound() {
     for sign in [1, -1] {
         let b = |last: Price| {
-            book([
-                article("A1"),
-                base(sign * 100_000_000).into(),
-                Price::percent("A1", b'X', 1, 90_000).into(),
-                last.into(),
-            ])
+            book([article("A1"), base(sign * 100_000_000).into(), Price::percent("A1", b'X', 1, 90_000).into(), last.into()])
         };
         let total = i64::from(sign) * 1_000_000_000;
         let zero = b(Price::fixed("A1", b'D', 0));
         assert_eq!(unit(&zero, &ask(DAY)), Ok(total));
-        assert_eq!(
-            lines_of(&zero, &ask(DAY).quantity(100_000)).0.total,
-            total * 100_000
-        );
+        assert_eq!(lines_of(&zero, &ask(DAY).quantity(100_000)).0.total, total * 100_000);
         let back = b(Price::fixed("A1", b'D', -sign));
         assert_eq!(unit(&back, &ask(DAY)), Ok(total - i64::from(sign)));
         let over = b(Price::fixed("A1", b'D', sign));
@@ -595,9 +474,7 @@ fn many_percentages_do_not_overflow() {
     let names: Vec<&str> = names.iter().map(String::as_str).collect();
     let question = ask(DAY).granted(&names).currency(&[0; 3]);
     assert_eq!(unit(&make::book(&records), &question), Err(6));
-    let foreign = Price::fixed("A1", b'D', 1)
-        .condition("N31")
-        .currency(b"USD");
+    let foreign = Price::fixed("A1", b'D', 1).condition("N31").currency(b"USD");
     records.insert(1, foreign.into());
     assert_eq!(unit(&make::book(&records), &question), Err(5));
 }
@@ -730,10 +607,7 @@ fn a_change_of_currency_splits_and_a_change_of_lines_does_not() {
 #[test]
 fn early_days_print_without_zeros_in_front() {
     let b = book([article("A1"), base(-5).dates(10102, 10102).into()]);
-    assert_eq!(
-        String::from_utf8(program(&input(&b, &ask(10101), 10102))).unwrap(),
-        "10101 10101 4 --- 0\n10102 10102 0 EUR -5\n"
-    );
+    assert_eq!(String::from_utf8(program(&input(&b, &ask(10101), 10102))).unwrap(), "10101 10101 4 --- 0\n10102 10102 0 EUR -5\n");
 }
 
 #[test]
@@ -755,10 +629,7 @@ fn cut_program_input() {
     let longer = [&whole[..], &[0]].concat();
     assert_eq!(program(&longer), b"refusal 9\n");
     assert_eq!(program(&input(&k, &question, 20250229)), b"refusal 9\n");
-    assert_eq!(
-        program(&input(&k, &Question::new("A2", DAY), DAY)),
-        b"refusal 3\n"
-    );
+    assert_eq!(program(&input(&k, &Question::new("A2", DAY), DAY)), b"refusal 3\n");
 
     // A broken part is told before a later one that is cut.
     let mut broken = whole.clone();
@@ -831,22 +702,13 @@ fn hidden_and_unselected_values() {
     let question = ask(DAY).hidden(2).valued(3, "V").hidden(1).unselected(2);
     let scheme = Scheme::new("S", "::", "; ");
     assert_eq!(number(&b(scheme.clone()), &question), "A1::--; V  ; -; XX");
-    assert_eq!(
-        number(&b(scheme.clone().visibility(0)), &question),
-        "A1::V  ; XX"
-    );
-    assert_eq!(
-        number(&b(scheme.clone().characters(b'#', 0xff).trim(1)), &question),
-        "A1::##; V; #; \u{ff}\u{ff}"
-    );
+    assert_eq!(number(&b(scheme.clone().visibility(0)), &question), "A1::V  ; XX");
+    assert_eq!(number(&b(scheme.clone().characters(b'#', 0xff).trim(1)), &question), "A1::##; V; #; \u{ff}\u{ff}");
     let hidden = ask(DAY).hidden(2).hidden(30);
     assert_eq!(number(&b(scheme.clone().visibility(0)), &hidden), "A1");
     assert_eq!(number(&b(scheme.clone()), &ask(DAY)), "A1");
     // Without a separator the values stand close together.
-    assert_eq!(
-        number(&b(Scheme::new("S", "", "")), &question),
-        "A1 --V  -XX"
-    );
+    assert_eq!(number(&b(Scheme::new("S", "", "")), &question), "A1 --V  -XX");
 }
 
 #[test]
@@ -882,16 +744,8 @@ fn own_packaging_before_that_of_the_star() {
 
 #[test]
 fn no_packaging() {
-    let b = book([
-        article("A1"),
-        article("*"),
-        Packaging::new("*", "OAK").into(),
-        Packaging::new("A1", "OAK").into(),
-    ]);
-    let none = PackagingAnswer {
-        number: 8,
-        ..PackagingAnswer::default()
-    };
+    let b = book([article("A1"), article("*"), Packaging::new("*", "OAK").into(), Packaging::new("A1", "OAK").into()]);
+    let none = PackagingAnswer { number: 8, ..PackagingAnswer::default() };
     assert_eq!(packaging(&b, &ask(DAY).granted(&["oak"]).bytes()), none);
     assert_eq!(packaging(&b, &Question::new("*", DAY).bytes()), none);
 }
@@ -900,32 +754,15 @@ fn no_packaging() {
 fn packaging_units() {
     let none = [0; 3];
     let b = |first: [[u8; 3]; 3], second: [[u8; 3]; 3]| {
-        let units = |units: [[u8; 3]; 3]| Packaging {
-            units,
-            ..Packaging::new("A1", "")
-        };
-        book([
-            article("A1"),
-            units(first).into(),
-            Packaging {
-                condition: latin1("OAK"),
-                ..units(second)
-            }
-            .into(),
-        ])
+        let units = |units: [[u8; 3]; 3]| Packaging { units, ..Packaging::new("A1", "") };
+        book([article("A1"), units(first).into(), Packaging { condition: latin1("OAK"), ..units(second) }.into()])
     };
     let answer = |book: &[u8]| packaging(book, &ask(DAY).granted(&["oak"]).bytes());
     let given = answer(&b([none, none, *b"KGM"], [*b"MMT", none, none]));
     assert_eq!((given.number, given.units), (0, *b"MMT\0\0\0KGM"));
     // A unit counts though no value of it is there.
     let clash = answer(&b([none, none, *b"KGM"], [none, none, *b"LBR"]));
-    assert_eq!(
-        clash,
-        PackagingAnswer {
-            number: 11,
-            ..PackagingAnswer::default()
-        }
-    );
+    assert_eq!(clash, PackagingAnswer { number: 11, ..PackagingAnswer::default() });
 }
 
 #[test]
@@ -950,31 +787,16 @@ fn packaging_signs() {
 
 #[test]
 fn texts() {
-    let asked = make::text_book(&[
-        TextRecord::new(7, b"seven"),
-        TextRecord::new(7, b"again"),
-        TextRecord::new(0, b""),
-    ]);
-    let fallback = make::text_book(&[
-        TextRecord::new(9, &[0, 255, 10]),
-        TextRecord::new(7, b"other"),
-        TextRecord::new(u32::MAX, b"m"),
-    ]);
-    let found = |place, length, book| TextAnswer {
-        place,
-        length,
-        number: 0,
-        book,
-    };
+    let asked = make::text_book(&[TextRecord::new(7, b"seven"), TextRecord::new(7, b"again"), TextRecord::new(0, b"")]);
+    let fallback =
+        make::text_book(&[TextRecord::new(9, &[0, 255, 10]), TextRecord::new(7, b"other"), TextRecord::new(u32::MAX, b"m")]);
+    let found = |place, length, book| TextAnswer { place, length, number: 0, book };
     assert_eq!(text(&asked, &fallback, 7), found(11, 5, 1));
     assert_eq!(text(&asked, &fallback, 0), found(33, 0, 1));
     assert_eq!(text(&asked, &fallback, 9), found(11, 3, 2));
     assert_eq!(text(&asked, &fallback, u32::MAX), found(31, 1, 2));
     assert_eq!(text(&fallback, &asked, 7), found(20, 5, 1));
-    let refused = |number| TextAnswer {
-        number,
-        ..TextAnswer::default()
-    };
+    let refused = |number| TextAnswer { number, ..TextAnswer::default() };
     assert_eq!(text(&asked, &fallback, 8), refused(12));
     assert_eq!(text(&asked, &fallback[1..], 7), refused(1));
     assert_eq!(text(&[], &fallback, 7), refused(1));
@@ -1045,24 +867,15 @@ fn name_lengths() {
         let name = of(length);
         assert_eq!(good(Article::new(&name, "")), (1..=40).contains(&length));
         assert_eq!(good(Article::new("A", &name)), length <= 20);
-        assert_eq!(
-            good(Price::fixed(&name, b'B', 1)),
-            (1..=40).contains(&length)
-        );
+        assert_eq!(good(Price::fixed(&name, b'B', 1)), (1..=40).contains(&length));
         assert_eq!(good(base(1).condition(&name)), length <= 20);
         assert_eq!(good(Packaging::new(&name, "")), (1..=40).contains(&length));
         assert_eq!(good(Packaging::new("A", &name)), length <= 20);
         assert_eq!(good(Scheme::new(&name, "", "")), (1..=20).contains(&length));
         assert_eq!(good(Scheme::new("S", &name, "")), length <= 8);
         assert_eq!(good(Scheme::new("S", "", &name)), length <= 8);
-        assert_eq!(
-            question_ok(&Question::new(&name, DAY).bytes()),
-            (1..=40).contains(&length)
-        );
-        assert_eq!(
-            question_ok(&ask(DAY).granted(&[&name]).bytes()),
-            (1..=20).contains(&length)
-        );
+        assert_eq!(question_ok(&Question::new(&name, DAY).bytes()), (1..=40).contains(&length));
+        assert_eq!(question_ok(&ask(DAY).granted(&[&name]).bytes()), (1..=20).contains(&length));
     }
 }
 
@@ -1105,22 +918,10 @@ fn rounding_records() {
     for (way, expected) in [(0, true), (1, true), (2, true), (3, false), (255, false)] {
         assert_eq!(good(Rounding::new(1, way, 1)), expected);
     }
-    for (step, expected) in [
-        (0, false),
-        (1, true),
-        (1_000_000, true),
-        (1_000_001, false),
-        (u32::MAX, false),
-    ] {
+    for (step, expected) in [(0, false), (1, true), (1_000_000, true), (1_000_001, false), (u32::MAX, false)] {
         assert_eq!(good(Rounding::new(1, 2, step)), expected);
     }
-    for (add, expected) in [
-        (-1_000_000, true),
-        (1_000_000, true),
-        (-1_000_001, false),
-        (1_000_001, false),
-        (i32::MIN, false),
-    ] {
+    for (add, expected) in [(-1_000_000, true), (1_000_000, true), (-1_000_001, false), (1_000_001, false), (i32::MIN, false)] {
         assert_eq!(good(Rounding::new(1, 2, 1).adds(add, 0)), expected);
         assert_eq!(good(Rounding::new(1, 2, 1).adds(0, add)), expected);
     }
@@ -1143,19 +944,7 @@ fn packaging_records() {
     }
     let none = [0; 3];
     // Which unit each value needs; items and packs need none.
-    for (place, unit) in [
-        Some(0),
-        Some(0),
-        Some(0),
-        Some(1),
-        Some(2),
-        Some(2),
-        None,
-        None,
-    ]
-    .into_iter()
-    .enumerate()
-    {
+    for (place, unit) in [Some(0), Some(0), Some(0), Some(1), Some(2), Some(2), None, None].into_iter().enumerate() {
         for left_out in 0..3 {
             let mut record = plain().value(place, 0);
             record.units[left_out] = none;
@@ -1163,11 +952,8 @@ fn packaging_records() {
         }
     }
     assert!(good(plain().units(&none, &none, &none)));
-    let groups: [&[&[u8; 3]]; 3] = [
-        &[b"CMT", b"FOT", b"INH", b"MMT", b"MTR"],
-        &[b"INQ", b"LTR", b"MTQ"],
-        &[b"KGM", b"LBR", b"MGM"],
-    ];
+    let groups: [&[&[u8; 3]]; 3] =
+        [&[b"CMT", b"FOT", b"INH", b"MMT", b"MTR"], &[b"INQ", b"LTR", b"MTQ"], &[b"KGM", b"LBR", b"MGM"]];
     for place in 0..3 {
         for (group, units) in groups.iter().enumerate() {
             for unit in *units {
@@ -1215,9 +1001,7 @@ fn scheme_records() {
         ("XX", 0, 0, true),
     ] {
         for visibility in [0, 1] {
-            let scheme = Scheme::new("S", "", separator)
-                .visibility(visibility)
-                .characters(hidden, unselected);
+            let scheme = Scheme::new("S", "", separator).visibility(visibility).characters(hidden, unselected);
             assert!(good(scheme.clone().trim(0)));
             assert_eq!(good(scheme.trim(1)), expected, "{separator}");
         }
@@ -1256,15 +1040,10 @@ fn a_question_byte_by_byte() {
     ];
     good[11..15].copy_from_slice(&20240229u32.to_be_bytes());
     assert!(question_ok(&good));
-    let question = Question {
-        article: latin1("A"),
-        currency: [0; 3],
-        quantity: 100_000,
-        ..ask(20240229)
-    }
-    .granted(&["o"])
-    .hidden(30)
-    .valued(2, "Vw");
+    let question = Question { article: latin1("A"), currency: [0; 3], quantity: 100_000, ..ask(20240229) }
+        .granted(&["o"])
+        .hidden(30)
+        .valued(2, "Vw");
     assert_eq!(question.bytes(), good);
     for length in 0..good.len() {
         assert!(!question_ok(&good[..length]));
@@ -1318,22 +1097,14 @@ fn question_fields() {
     }
     for (count, expected) in [(32, true), (33, false), (255, false)] {
         assert_eq!(with(&|q| q.granted = vec![latin1("N"); count]), expected);
-        let property = make::Property {
-            width: 1,
-            state: 1,
-            value: Vec::new(),
-        };
-        assert_eq!(
-            with(&|q| q.properties = vec![property.clone(); count]),
-            expected
-        );
+        let property = make::Property { width: 1, state: 1, value: Vec::new() };
+        assert_eq!(with(&|q| q.properties = vec![property.clone(); count]), expected);
     }
 }
 
 #[test]
 fn question_properties() {
-    let good =
-        |width, state, value: &str| question_ok(&ask(DAY).property(width, state, value).bytes());
+    let good = |width, state, value: &str| question_ok(&ask(DAY).property(width, state, value).bytes());
     for (width, expected) in [(0, false), (1, true), (30, true), (31, false)] {
         assert_eq!(good(width, 0, "V"), expected);
         assert_eq!(good(width, 1, ""), expected);
@@ -1357,10 +1128,7 @@ fn question_properties() {
 fn book_size_limit() {
     const LIMIT: usize = 4_194_304;
     let texts = |lengths: &[usize]| {
-        let records: Vec<TextRecord> = lengths
-            .iter()
-            .map(|&length| TextRecord::new(1, &vec![0; length]))
-            .collect();
+        let records: Vec<TextRecord> = lengths.iter().map(|&length| TextRecord::new(1, &vec![0; length])).collect();
         make::text_book(&records)
     };
     let mut lengths = vec![65_535; 63];

@@ -24,7 +24,7 @@ pub fn put_digits(out: &mut [u8], at: usize, k: usize, n: u64) -> usize
 }
 
 // How far a number is from zero. The least of all has no counterpart above zero, so one is added behind.
-fn distance(z: i64) -> u64
+pub fn distance(z: i64) -> u64
     ensures { λ r. ⌜ r ≡ natAbs z ⌝ }
 {
     if 0 <= z {

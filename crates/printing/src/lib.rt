@@ -1,5 +1,5 @@
 // What the calendar program prints for the bytes that it reads.
-mod decimal;
+pub mod decimal;
 pub mod input;
 pub mod lines;
 pub mod output;

@@ -1,23 +1,27 @@
 //! Holds another implementation against this one.
 //!
-//! `held SEED CASES [PROGRAM [EVERY]]`
+//! `held [--seed N] [--cases N | --seconds N] [--threads N] [--program PATH [--every N]]`
 //!
-//! Changes every byte of a small case to every value, then makes cases from the seed, runs every
-//! call of each case through both implementations, and compares answers and lent memory. Built with the feature `archive` the other implementation is
-//! the linked archive, otherwise this library itself. If the path of a calendar program is given,
-//! its output is compared as well, in every 20th case or as often as the last argument says.
+//! Changes every byte of a small case to every value; then makes cases from the seed, which is a
+//! new one each time if none is given, runs every call of each case through both implementations,
+//! and compares answers and lent memory. Built with the feature `archive` the other implementation
+//! is the linked archive, otherwise this library itself. If the path of a calendar program is
+//! given, its output is compared as well, in every 100th case or as often as asked for.
 //!
-//! At the first difference the case is made smaller and written out, and the exit code is 1. The
-//! exit code is 1 as well if some number that a call can give has not come up.
+//! At the first difference the case is made smaller and its inputs are printed, and the exit code
+//! is 1. It is 1 as well if a number that a call can give has not come up.
 
 use std::io::{Read, Write};
 use std::path::PathBuf;
 use std::process::{Command, ExitCode, Stdio};
-use std::time::Instant;
+use std::sync::atomic::{AtomicBool, AtomicU64, Ordering::Relaxed};
+use std::thread;
+use std::time::{Duration, Instant, SystemTime, UNIX_EPOCH};
 
 use second::calls::Calls;
 use second::cases::{sweep, Case, Inputs};
-use second::compare::{compare, Call, Difference, Plan, ALL_CALLS};
+use second::compare::{compare, hex, Call, Difference, Plan, ALL_CALLS};
+use second::counts::Counts;
 use second::program;
 use second::shrink::shrunk;
 
@@ -26,97 +30,62 @@ const THEIRS: second::calls::Archive = second::calls::Archive;
 #[cfg(not(feature = "archive"))]
 const THEIRS: second::calls::Second = second::calls::Second;
 
-/// Numbers the program can print; 0 stands for a printed calendar.
-const PROGRAM_NUMBERS: [u8; 5] = [0, 1, 2, 3, 9];
-
-/// Numbers a stretch can carry.
-const STRETCH_NUMBERS: [u8; 4] = [0, 4, 5, 6];
+const USAGE: &str = "usage: held [--seed N] [--cases N | --seconds N] [--threads N] [--program PATH [--every N]]";
 
 struct Arguments {
     seed: u64,
     cases: u64,
+    longest: Duration,
+    threads: u64,
     program: Option<PathBuf>,
     every: u64,
 }
 
 fn arguments() -> Option<Arguments> {
-    let mut given = std::env::args().skip(1);
-    let arguments = Arguments {
-        seed: given.next()?.parse().ok()?,
-        cases: given.next()?.parse().ok()?,
-        program: given.next().map(PathBuf::from),
-        every: match given.next() {
-            Some(every) => every.parse().ok().filter(|&every| every > 0)?,
-            None => 20,
-        },
+    let mut arguments = Arguments {
+        seed: fresh_seed(),
+        cases: u64::MAX,
+        longest: Duration::MAX,
+        threads: thread::available_parallelism().map_or(1, |count| count.get() as u64),
+        program: None,
+        every: 100,
     };
-    given.next().is_none().then_some(arguments)
-}
-
-/// How often each number came up, per call.
-#[derive(Default)]
-struct Counts {
-    calls: [[u64; 13]; ALL_CALLS.len()],
-    program: [u64; 13],
-    stretches: [u64; 13],
-}
-
-impl Counts {
-    /// Prints the table and says whether every possible number was seen.
-    fn report(&self) -> bool {
-        print!("{:<14}", "");
-        for number in 0..13 {
-            print!("{number:>9}");
-        }
-        println!();
-        let mut complete = true;
-        for (call, counts) in ALL_CALLS.iter().zip(&self.calls) {
-            complete &= print_counts(call.name(), counts, call.possible());
-        }
-        complete &= print_counts("program", &self.program, &PROGRAM_NUMBERS);
-        complete &= print_counts("stretches", &self.stretches, &STRETCH_NUMBERS);
-        complete
-    }
-}
-
-fn print_counts(name: &str, counts: &[u64; 13], possible: &[u8]) -> bool {
-    print!("{name:<14}");
-    for (number, count) in (0u8..).zip(counts) {
-        if possible.contains(&number) || *count > 0 {
-            print!("{count:>9}");
-        } else {
-            print!("{:>9}", "-");
+    let mut words = std::env::args().skip(1);
+    while let Some(word) = words.next() {
+        let value = words.next()?;
+        let number = value.parse();
+        match word.as_str() {
+            "--seed" => arguments.seed = number.ok()?,
+            "--cases" => arguments.cases = number.ok()?,
+            "--seconds" => arguments.longest = Duration::from_secs(number.ok()?),
+            "--threads" => arguments.threads = number.ok().filter(|&count| count > 0)?,
+            "--program" => arguments.program = Some(PathBuf::from(value)),
+            "--every" => arguments.every = number.ok().filter(|&every| every > 0)?,
+            _ => return None,
         }
     }
-    println!();
-    let mut complete = true;
-    for &number in possible {
-        if counts[usize::from(number)] == 0 {
-            println!("{name}: number {number} has not come up");
-            complete = false;
-        }
-    }
-    complete
+    let ends = arguments.cases != u64::MAX || arguments.longest != Duration::MAX;
+    ends.then_some(arguments)
 }
+
+fn fresh_seed() -> u64 {
+    SystemTime::now().duration_since(UNIX_EPOCH).map_or(0, |since| since.as_nanos() as u64)
+}
+
+// One case.
 
 /// The number at the end of `refusal n`, or 0 for a printed calendar.
 fn printed_number(printed: &[u8]) -> u8 {
-    String::from_utf8_lossy(printed)
-        .strip_prefix("refusal ")
-        .and_then(|rest| rest.trim_end().parse().ok())
-        .unwrap_or(0)
+    String::from_utf8_lossy(printed).strip_prefix("refusal ").and_then(|rest| rest.trim_end().parse().ok()).unwrap_or(0)
 }
 
 /// Runs the other program on an input.
 fn run_program(path: &PathBuf, input: &[u8]) -> std::io::Result<Vec<u8>> {
-    let mut child = Command::new(path)
-        .stdin(Stdio::piped())
-        .stdout(Stdio::piped())
-        .spawn()?;
+    let mut child = Command::new(path).stdin(Stdio::piped()).stdout(Stdio::piped()).spawn()?;
     let mut stdin = child.stdin.take().expect("stdin was asked for");
     let input = input.to_vec();
     // The program may stop reading early, so a failed write says nothing.
-    let feeder = std::thread::spawn(move || {
+    let feeder = thread::spawn(move || {
         let _ = stdin.write_all(&input);
     });
     let mut printed = Vec::new();
@@ -130,17 +99,10 @@ fn run_program(path: &PathBuf, input: &[u8]) -> std::io::Result<Vec<u8>> {
 fn compare_program(path: &PathBuf, inputs: &Inputs) -> Option<Difference> {
     let ours = program(&inputs.program);
     let (printed, same) = match run_program(path, &inputs.program) {
-        Ok(printed) => (
-            String::from_utf8_lossy(&printed).into_owned(),
-            printed == ours,
-        ),
+        Ok(printed) => (String::from_utf8_lossy(&printed).into_owned(), printed == ours),
         Err(error) => (format!("cannot be run: {error}"), false),
     };
-    (!same).then(|| Difference {
-        call: "program".to_string(),
-        ours: String::from_utf8_lossy(&ours).into_owned(),
-        theirs: printed,
-    })
+    (!same).then(|| Difference { call: "program".to_string(), ours: String::from_utf8_lossy(&ours).into_owned(), theirs: printed })
 }
 
 fn compare_call(call: Call, theirs: &dyn Calls, case: &Case) -> Option<Difference> {
@@ -148,111 +110,166 @@ fn compare_call(call: Call, theirs: &dyn Calls, case: &Case) -> Option<Differenc
     compare(call, theirs, &inputs, Plan::of(case, &inputs).sizes).1
 }
 
-/// The beginning of a text; the files have the whole.
-fn clipped(text: &str) -> String {
-    const LONGEST: usize = 20_000;
-    match text.char_indices().nth(LONGEST) {
-        Some((end, _)) => format!("{} ...", &text[..end]),
-        None => text.to_string(),
-    }
-}
-
-/// Shrinks and prints a case on which the implementations differ, and writes its inputs out.
-fn show(name: &str, case: &Case, differ: &dyn Fn(&Case) -> Option<Difference>) {
-    let small = shrunk(case, &|case| differ(case).is_some());
-    let Some(difference) = differ(&small) else {
-        println!("case {name}: a difference was seen once and not again");
-        return;
-    };
-    println!("case {name} differs");
-    println!("call:   {}", difference.call);
-    println!("ours:   {}", clipped(&difference.ours));
-    println!("theirs: {}", clipped(&difference.theirs));
-    println!("{}", clipped(&format!("{small:#?}")));
-    let inputs = small.inputs();
-    let directory = PathBuf::from(format!("difference-{name}"));
-    let end = inputs.end.to_be_bytes();
-    let number = inputs.text_number.to_be_bytes();
-    let description = format!("{difference:#?}\n{small:#?}\n");
-    let files: [(&str, &[u8]); 8] = [
-        ("book", &inputs.book),
-        ("question", &inputs.question),
-        ("end", &end),
-        ("asked", &inputs.asked),
-        ("fallback", &inputs.fallback),
-        ("text_number", &number),
-        ("program_input", &inputs.program),
-        ("description", description.as_bytes()),
-    ];
-    let written = std::fs::create_dir_all(&directory).and_then(|()| {
-        files
-            .iter()
-            .try_for_each(|(name, bytes)| std::fs::write(directory.join(name), bytes))
-    });
-    match written {
-        Ok(()) => println!("inputs written to {}", directory.display()),
-        Err(error) => println!("inputs not written: {error}"),
-    }
-}
-
-/// Runs all calls of one case, and the other program if one is given, and counts the numbers;
-/// false if the implementations differ.
-fn holds(name: &str, case: &Case, other_program: Option<&PathBuf>, counts: &mut Counts) -> bool {
+/// Compares all calls of one case, and the other program if one is given, and counts the numbers.
+/// At a difference gives how to see it, also in a smaller case.
+fn held(case: &Case, other_program: Option<&PathBuf>, counts: &mut Counts) -> Result<(), Box<dyn Fn(&Case) -> Option<Difference>>> {
     let inputs = case.inputs();
     let plan = Plan::of(case, &inputs);
-    for (place, call) in ALL_CALLS.into_iter().enumerate() {
+    for call in ALL_CALLS {
         let (outcome, difference) = compare(call, &THEIRS, &inputs, plan.sizes);
         if difference.is_some() {
-            show(name, case, &|case| compare_call(call, &THEIRS, case));
-            return false;
+            return Err(Box::new(move |case| compare_call(call, &THEIRS, case)));
         }
-        counts.calls[place][usize::from(outcome.answer.number())] += 1;
+        counts.call(call, outcome.answer.number());
     }
     for stretch in plan.stretches {
-        counts.stretches[usize::from(stretch.refusal)] += 1;
+        counts.stretch(stretch.refusal);
     }
-    counts.program[usize::from(printed_number(&program(&inputs.program)))] += 1;
+    counts.program(printed_number(&program(&inputs.program)));
     if let Some(path) = other_program {
         if compare_program(path, &inputs).is_some() {
-            show(name, case, &|case| compare_program(path, &case.inputs()));
+            let path = path.clone();
+            return Err(Box::new(move |case| compare_program(&path, &case.inputs())));
+        }
+    }
+    Ok(())
+}
+
+/// Prints the beginning of a text; the seed and the number of the case give the whole.
+fn print_clipped(label: &str, text: &str) {
+    const LONGEST: usize = 20_000;
+    match text.char_indices().nth(LONGEST) {
+        Some((end, _)) => println!("{label:<9} {} ...", &text[..end]),
+        None => println!("{label:<9} {text}"),
+    }
+}
+
+/// Makes a case on which the implementations differ smaller, and prints it with its inputs.
+fn show(name: &str, case: &Case, differ: &dyn Fn(&Case) -> Option<Difference>) {
+    println!("{name} differs; as small as it was made:");
+    let small = shrunk(case, &|case| differ(case).is_some());
+    let Some(difference) = differ(&small) else {
+        println!("the difference was seen once and not again");
+        return;
+    };
+    print_clipped("call", &difference.call);
+    print_clipped("ours", &difference.ours);
+    print_clipped("theirs", &difference.theirs);
+    let inputs = small.inputs();
+    if difference.call == "program" {
+        print_clipped("input", &hex(&inputs.program));
+    } else if difference.call.starts_with(Call::Text.name()) {
+        print_clipped("asked", &hex(&inputs.asked));
+        print_clipped("fallback", &hex(&inputs.fallback));
+        println!("{:<9} {}", "number", inputs.text_number);
+    } else {
+        print_clipped("book", &hex(&inputs.book));
+        print_clipped("question", &hex(&inputs.question));
+        println!("{:<9} {}", "end", inputs.end);
+    }
+    print_clipped("made of", &format!("{small:?}"));
+}
+
+// All cases.
+
+/// What the threads of a run share.
+struct Run {
+    next: AtomicU64,
+    done: AtomicU64,
+    differs: AtomicBool,
+    started: Instant,
+}
+
+impl Run {
+    fn new() -> Self {
+        Run { next: AtomicU64::new(0), done: AtomicU64::new(0), differs: AtomicBool::new(false), started: Instant::now() }
+    }
+
+    /// Compares a case; only the first thread that meets a difference shows it.
+    fn one(&self, name: &str, case: &Case, program: Option<&PathBuf>, counts: &mut Counts) {
+        match held(case, program, counts) {
+            Ok(()) => _ = self.done.fetch_add(1, Relaxed),
+            Err(differ) if !self.differs.swap(true, Relaxed) => show(name, case, &*differ),
+            Err(_) => {}
+        }
+    }
+
+    /// The cases that this thread takes, one after the other, until there is none or the time is up.
+    fn take_cases(&self, arguments: &Arguments) -> Counts {
+        let mut counts = Counts::default();
+        while !self.differs.load(Relaxed) && self.started.elapsed() < arguments.longest {
+            let index = self.next.fetch_add(1, Relaxed);
+            if index >= arguments.cases {
+                break;
+            }
+            let case = Case::generate(arguments.seed, index);
+            let in_turn = index % arguments.every == 0;
+            let other_program = arguments.program.as_ref().filter(|_| in_turn);
+            let name = format!("case {index} of seed {}", arguments.seed);
+            self.one(&name, &case, other_program, &mut counts);
+        }
+        counts
+    }
+
+    /// A line a minute, until the threads have ended.
+    fn watch(&self, ended: impl Fn() -> bool) {
+        let mut minutes = 0;
+        while !ended() {
+            thread::sleep(Duration::from_millis(100));
+            if self.started.elapsed().as_secs() / 60 > minutes {
+                minutes += 1;
+                println!("{minutes} min: {} cases agree", self.done.load(Relaxed));
+            }
+        }
+    }
+}
+
+/// Every value of every byte of a small case.
+fn sweep_agrees() -> bool {
+    let run = Run::new();
+    for (index, case) in sweep().enumerate() {
+        run.one(&format!("case {index} of the sweep"), &case, None, &mut Counts::default());
+        if run.differs.load(Relaxed) {
             return false;
         }
     }
+    println!("every value of every byte of a small case agrees");
     true
+}
+
+fn random_cases_agree(arguments: &Arguments) -> bool {
+    let run = Run::new();
+    let mut counts = Counts::default();
+    thread::scope(|scope| {
+        let threads: Vec<_> = (0..arguments.threads).map(|_| scope.spawn(|| run.take_cases(arguments))).collect();
+        run.watch(|| threads.iter().all(|thread| thread.is_finished()));
+        for thread in threads {
+            counts.add(&thread.join().expect("a thread that compares does not panic"));
+        }
+    });
+    let seconds = run.started.elapsed().as_secs();
+    let done = run.done.into_inner();
+    println!("{done} cases of seed {} agree; {seconds} s", arguments.seed);
+    if run.differs.into_inner() {
+        return false;
+    }
+    for line in counts.table() {
+        println!("{line}");
+    }
+    let complaints = counts.complaints();
+    for complaint in &complaints {
+        println!("{complaint}");
+    }
+    complaints.is_empty()
 }
 
 fn main() -> ExitCode {
     let Some(arguments) = arguments() else {
-        eprintln!("usage: held SEED CASES [PROGRAM [EVERY]]");
+        eprintln!("{USAGE}");
         return ExitCode::from(2);
     };
-    let mut swept = Counts::default();
-    for (index, case) in sweep().enumerate() {
-        if !holds(&format!("sweep-{index}"), &case, None, &mut swept) {
-            return ExitCode::FAILURE;
-        }
-    }
-    println!("every value of every byte of a small case agrees");
-
-    let started = Instant::now();
-    let mut counts = Counts::default();
-    for index in 0..arguments.cases {
-        let case = Case::generate(arguments.seed, index);
-        let name = format!("{}-{index}", arguments.seed);
-        let in_turn = index % arguments.every == 0;
-        let other_program = arguments.program.as_ref().filter(|_| in_turn);
-        if !holds(&name, &case, other_program, &mut counts) {
-            return ExitCode::FAILURE;
-        }
-    }
-    let seconds = started.elapsed().as_secs_f64();
-    println!(
-        "{} cases of seed {} agree; {:.0} cases a second",
-        arguments.cases,
-        arguments.seed,
-        arguments.cases as f64 / seconds.max(0.001)
-    );
-    if counts.report() {
+    println!("seed {}", arguments.seed);
+    if sweep_agrees() && random_cases_agree(&arguments) {
         ExitCode::SUCCESS
     } else {
         ExitCode::FAILURE

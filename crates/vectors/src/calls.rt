@@ -1,0 +1,110 @@
+// One vector through its call. What a call may write is lent filled, and is printed whole afterwards, with some bytes behind it.
+use crate::fields::bytes;
+use crate::fields::number;
+use crate::fields::signed;
+use crate::fields::three;
+use rules::PriceAnswer;
+use rules::Written;
+ghost use Prim.Native.Nat.{_≤_};
+
+// The byte that stands where nothing was written.
+const FILL: u8 = 165;
+
+// At most 2,000 bytes are lent.
+fn least(n: usize, most: usize) -> usize
+    ensures { λ r. ⌜ r ≤ most ⌝ }
+{
+    if n < most { n } else { most }
+}
+
+pub fn run(call: u8, n: u32, room: usize, a: &[u8], b: &[u8]) {
+    let lent = least(room, 2000);
+    match call {
+        1 => price(a, b, lent),
+        2 => calendar(a, b, n, lent),
+        3 => final_number(a, b, lent),
+        4 => packaging(a, b),
+        _ => text(a, b, n),
+    }
+    io::write_all(1, b"\n");
+}
+
+fn price(book: &[u8], question: &[u8], room: usize)
+    requires { ⌜ room ≤ 2000 ⌝ }
+{
+    let mut out = [FILL; 2048];
+    let answer = plugin::rafttwine_price(book, question, &mut out[..room]);
+    io::write_all(1, b"price");
+    priced(answer);
+    bytes(&out, room + 8);
+}
+
+fn priced(answer: PriceAnswer) {
+    number(answer.number as u64);
+    signed(answer.unit);
+    signed(answer.total);
+    number(answer.lines);
+    number(answer.unused as u64);
+    number(answer.unused_count as u64);
+    let currency = answer.currency;
+    three(currency[0], currency[1], currency[2]);
+}
+
+fn calendar(book: &[u8], question: &[u8], end: u32, room: usize)
+    requires { ⌜ room ≤ 2000 ⌝ }
+{
+    let mut out = [FILL; 2048];
+    let answer = plugin::rafttwine_calendar(book, question, end, &mut out[..room]);
+    io::write_all(1, b"calendar");
+    written(answer);
+    bytes(&out, room + 8);
+}
+
+fn final_number(book: &[u8], question: &[u8], room: usize)
+    requires { ⌜ room ≤ 2000 ⌝ }
+{
+    let mut out = [FILL; 2048];
+    let answer = plugin::rafttwine_final_number(book, question, &mut out[..room]);
+    io::write_all(1, b"final_number");
+    written(answer);
+    bytes(&out, room + 8);
+}
+
+fn written(answer: Written) {
+    number(answer.number as u64);
+    number(answer.length);
+}
+
+fn packaging(book: &[u8], question: &[u8]) {
+    let answer = plugin::rafttwine_packaging(book, question);
+    io::write_all(1, b"packaging");
+    number(answer.number as u64);
+    signed(answer.gross);
+    number(answer.present as u64);
+    let eight = answer.values;
+    values(eight);
+    let units = answer.units;
+    three(units[0], units[1], units[2]);
+    three(units[3], units[4], units[5]);
+    three(units[6], units[7], units[8]);
+}
+
+fn values(of: [i64; 8]) {
+    signed(of[0]);
+    signed(of[1]);
+    signed(of[2]);
+    signed(of[3]);
+    signed(of[4]);
+    signed(of[5]);
+    signed(of[6]);
+    signed(of[7]);
+}
+
+fn text(asked: &[u8], fallback: &[u8], n: u32) {
+    let answer = plugin::rafttwine_text(asked, fallback, n);
+    io::write_all(1, b"text");
+    number(answer.number as u64);
+    number(answer.book as u64);
+    number(answer.place);
+    number(answer.length);
+}

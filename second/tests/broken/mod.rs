@@ -1,0 +1,35 @@
+//! An implementation whose price call is spoilt, to see that the comparison notices it.
+
+use second::calls::{Calls, Second};
+use second::{PackagingAnswer, PriceAnswer, Stretch, TextAnswer, Written};
+
+/// What is done to the answer and to the lent bytes.
+pub struct Broken(pub fn(&mut PriceAnswer, &mut [u8]));
+
+impl Calls for Broken {
+    fn price(&self, book: &[u8], question: &[u8], out: &mut [u8]) -> PriceAnswer {
+        let mut answer = Second.price(book, question, out);
+        self.0(&mut answer, out);
+        answer
+    }
+
+    fn calendar(&self, book: &[u8], question: &[u8], end: u32, out: &mut [u8]) -> Written {
+        Second.calendar(book, question, end, out)
+    }
+
+    fn calendar_list(&self, book: &[u8], question: &[u8], end: u32, out: &mut [Stretch]) -> Written {
+        Second.calendar_list(book, question, end, out)
+    }
+
+    fn final_number(&self, book: &[u8], question: &[u8], out: &mut [u8]) -> Written {
+        Second.final_number(book, question, out)
+    }
+
+    fn packaging(&self, book: &[u8], question: &[u8]) -> PackagingAnswer {
+        Second.packaging(book, question)
+    }
+
+    fn text(&self, asked: &[u8], fallback: &[u8], number: u32) -> TextAnswer {
+        Second.text(asked, fallback, number)
+    }
+}
