@@ -2,21 +2,22 @@
 
 use crate::books::{self, Book, ALL_KINDS, LONG, MOST_BYTES, PRICES, SHORT};
 use crate::dice::Dice;
-use crate::timing::{self, Subject};
+use crate::timing::{self, Row, Subject};
 use crate::{library, reference};
+use std::time::Duration;
 
 const DAMAGED: usize = 20_000;
 const DAMAGED_LARGE: usize = 40;
 const ROUNDS: usize = 200;
 
-pub fn measure(dice: &mut Dice) {
+pub fn measure(dice: &mut Dice) -> Vec<Row> {
     let books = [
         ("price rows, long names", books::book(dice, PRICES, LONG, usize::MAX, MOST_BYTES)),
         ("price rows, short names", books::book(dice, PRICES, SHORT, usize::MAX, MOST_BYTES)),
         ("all five kinds mixed", books::book(dice, ALL_KINDS, books::ANY, usize::MAX, MOST_BYTES)),
     ];
     agree(dice, &books);
-    time(&books);
+    time(&books)
 }
 
 /// Both accept the large books, and both say the same of damaged ones, small and large.
@@ -39,7 +40,7 @@ fn agree(dice: &mut Dice, books: &[(&str, Book)]) {
             tried += 1;
         }
     }
-    println!("{tried} large books with one bit turned: no difference, {accepted} accepted\n");
+    println!("{tried} large books with one bit turned: no difference, {accepted} accepted");
 }
 
 fn same(bytes: &[u8]) -> bool {
@@ -51,20 +52,24 @@ fn same(bytes: &[u8]) -> bool {
     by_library
 }
 
-fn time(books: &[(&str, Book)]) {
+fn time(books: &[(&str, Book)]) -> Vec<Row> {
     let subjects = [
         Subject::new(1, |book| book.iter().map(|&byte| u64::from(byte)).sum()),
         Subject::new(1, |book| reference::book_ok(book).into()),
         Subject::new(1, |book| library::book_ok(book).into()),
     ];
-    println!("Acceptance of a book, best of {ROUNDS}:\n");
-    timing::heading(&["book", "bytes", "records", "a: byte sum", "b: plain Rust", "c: library", "time c/a", "time c/b"]);
-    for (what, book) in books {
-        let size = book.bytes.len();
-        let times = timing::best_times(&subjects, &book.bytes, ROUNDS);
-        let mut cells = vec![what.to_string(), size.to_string(), book.records.to_string()];
-        cells.extend(times.iter().map(|&time| timing::speed(size, time)));
-        cells.extend([timing::ratio(times[2], times[0]), timing::ratio(times[2], times[1])]);
-        timing::row(&cells);
+    books.iter().map(|(what, book)| row(what, book, &timing::best_times(&subjects, &book.bytes, ROUNDS))).collect()
+}
+
+fn row(what: &str, book: &Book, times: &[Duration]) -> Row {
+    let bytes = book.bytes.len();
+    let times = [times[0], times[1], times[2]];
+    let speeds = times.map(|time| timing::speed(bytes, time)).join(", ");
+    Row {
+        call: "acceptance",
+        input: what.to_string(),
+        size: format!("bytes {bytes}, records {}", book.records),
+        times,
+        beside: format!("{speeds} MB/s"),
     }
 }

@@ -3,7 +3,7 @@
 use crate::catalog::{self, Catalog, Manner};
 use crate::dice::Dice;
 use crate::library;
-use crate::timing::{self, Subject};
+use crate::timing::{self, Row, Subject};
 use second::book::Book;
 use second::days::{next_day, period};
 use std::collections::BTreeSet;
@@ -20,19 +20,19 @@ const FEW_ROUNDS: usize = 3;
 const STRETCH: usize = 20;
 const MOST_BYTES: usize = 1_096 * STRETCH;
 
-pub fn measure(dice: &mut Dice) {
+pub fn measure(dice: &mut Dice) -> Vec<Row> {
     let lists = catalog::catalog(dice, ROWS, &Manner::price_lists());
     let own_days = catalog::catalog(dice, ROWS, &beginning_within(1_096));
     let alone = catalog::book(dice, &[ROWS], &beginning_within(1_001));
-    start_table();
+    let mut rows = Vec::new();
     for end in ENDS {
-        time("50 rows, price lists", &lists, lists.near_end(), end, ROUNDS);
+        rows.push(time("50 rows, price lists", &lists, lists.near_end(), end, ROUNDS));
     }
     for end in ENDS {
-        time("50 rows, days of their own", &own_days, own_days.near_end(), end, ROUNDS);
+        rows.push(time("50 rows, days of their own", &own_days, own_days.near_end(), end, ROUNDS));
     }
-    time("all rows of one article", &alone, &alone.articles[0], ENDS[2], FEW_ROUNDS);
-    println!();
+    rows.push(time("all rows of one article", &alone, &alone.articles[0], ENDS[2], FEW_ROUNDS));
+    rows
 }
 
 /// Rows that begin on one of the first so many days of the longest period, and last.
@@ -42,23 +42,7 @@ fn beginning_within(days: usize) -> Manner {
     Manner { from, to: vec![20_291_231], ..Manner::price_lists() }
 }
 
-fn start_table() {
-    println!("Price calendar of an article in {ROWS} price rows, {GRANTED} granted names,");
-    println!("best of {ROUNDS}, or of {FEW_ROUNDS} where all rows are of one article (b: one run):\n");
-    timing::heading(&[
-        "article",
-        "days",
-        "change days",
-        "stretches",
-        "a: acceptance alone",
-        "b: second implementation",
-        "c: calendar",
-        "time c/a (aim: at most 1.4 for 50 rows)",
-        "time c/b (aim: below 1)",
-    ]);
-}
-
-fn time(what: &str, book: &Catalog, article: &str, end: u32, rounds: usize) {
+fn time(what: &str, book: &Catalog, article: &str, end: u32, rounds: usize) -> Row {
     let mut question = catalog::question(article, GRANTED);
     question.date = START;
     let question = question.bytes();
@@ -69,17 +53,13 @@ fn time(what: &str, book: &Catalog, article: &str, end: u32, rounds: usize) {
     ];
     let times = timing::best_times(&subjects, &book.bytes, rounds);
     let days = period(START, end).expect("a period that is timed is one").len();
-    timing::row(&[
-        what.to_string(),
-        days.to_string(),
-        change_days(&book.bytes, article, end).to_string(),
-        stretches.to_string(),
-        timing::milliseconds(times[0]),
-        timing::milliseconds(by_second),
-        timing::milliseconds(times[1]),
-        timing::ratio(times[1], times[0]),
-        timing::ratio(times[1], by_second),
-    ]);
+    Row {
+        call: "calendar",
+        input: what.to_string(),
+        size: format!("days {days}, change days {}, stretches {stretches}", change_days(&book.bytes, article, end)),
+        times: [times[0], by_second, times[1]],
+        beside: String::new(),
+    }
 }
 
 /// Both give the same answer and leave the same bytes. How many stretches there are, and how long the second implementation took.

@@ -1,4 +1,4 @@
-//! The benchmark. First the library and a plain Rust program must agree, then they are timed; what is printed can be pasted into
+//! The benchmark. First the library and a plain Rust program must agree, then they are timed; the table at the end can be pasted into
 //! docs/BENCHMARKS.md. It asserts no time: machines differ, and a reader compares the columns of one run.
 
 mod acceptance;
@@ -16,8 +16,9 @@ const SEED: u64 = 20_240_630;
 
 fn main() {
     let mut dice = dice::Dice::new(SEED);
-    acceptance::measure(&mut dice);
-    price::measure(&mut dice);
+    let mut rows = acceptance::measure(&mut dice);
+    rows.extend(price::measure(&mut dice));
     #[cfg(calendar)]
-    calendar::measure(&mut dice);
+    rows.extend(calendar::measure(&mut dice));
+    timing::print_table(&rows);
 }

@@ -3,7 +3,7 @@
 use crate::catalog::{self, Catalog, Manner};
 use crate::dice::Dice;
 use crate::library;
-use crate::timing::{self, Subject};
+use crate::timing::{self, Row, Subject};
 use second::PriceAnswer;
 use std::time::Duration;
 
@@ -16,7 +16,7 @@ const LAPS: usize = 10;
 const ROUNDS: usize = 20;
 const MOST_LINES: usize = 99 * 14;
 
-pub fn measure(dice: &mut Dice) {
+pub fn measure(dice: &mut Dice) -> Vec<Row> {
     let plain = ROWS.map(|rows| catalog::catalog(dice, rows, &Manner::price_lists()));
     let others = [
         ("conditions in any order", Manner { own_order: true, ..Manner::price_lists() }),
@@ -34,9 +34,7 @@ pub fn measure(dice: &mut Dice) {
     for _ in 0..LAPS {
         cases.iter_mut().for_each(Case::lap);
     }
-    start_table();
-    cases.iter().for_each(Case::show);
-    println!();
+    cases.iter().flat_map(Case::rows).collect()
 }
 
 /// Both give the same answer and leave the same bytes, for thrown questions.
@@ -49,7 +47,7 @@ fn agree(dice: &mut Dice, book: &Catalog) {
         let quantity = dice.one_of(&[1, 9, 10]);
         priced += usize::from(same(&book.bytes, &question.quantity(quantity).bytes()).number == 0);
     }
-    println!("\n{THROWN} questions to a book of {} price rows: no difference, {priced} have a price\n", ROWS[0]);
+    println!("{THROWN} questions to a book of {} price rows: no difference, {priced} have a price", ROWS[0]);
 }
 
 fn same(book: &[u8], question: &[u8]) -> PriceAnswer {
@@ -60,28 +58,11 @@ fn same(book: &[u8], question: &[u8]) -> PriceAnswer {
     answer
 }
 
-fn start_table() {
-    println!("Price of an article, best of {} (b: best of {LAPS}):\n", LAPS * ROUNDS);
-    timing::heading(&[
-        "book and article",
-        "price rows",
-        "granted names",
-        "lines",
-        "a: acceptance alone",
-        "b: second implementation",
-        "c: price",
-        "c for each row (aim: the same for all sizes)",
-        "time c/a (aim: at most 1.2)",
-        "time c/b (aim: below 1)",
-        "c over c with no names (aim: at most 1.1)",
-    ]);
-}
-
 /// An article of a book, with a question for each number of granted names. The times are of acceptance, then for each question
 /// of the second implementation and of the library.
 struct Case<'a> {
     what: &'a str,
-    rows: usize,
+    price_rows: usize,
     book: &'a [u8],
     questions: [Vec<u8>; 3],
     lines: [u64; 3],
@@ -89,11 +70,11 @@ struct Case<'a> {
 }
 
 impl<'a> Case<'a> {
-    fn new(what: &'a str, rows: usize, book: &'a Catalog, article: &str) -> Case<'a> {
+    fn new(what: &'a str, price_rows: usize, book: &'a Catalog, article: &str) -> Case<'a> {
         let questions = GRANTED.map(|granted| catalog::question(article, granted).bytes());
         let lines = questions.each_ref().map(|question| same(&book.bytes, question).lines);
         assert!(!lines.contains(&0), "a question that is timed has no price");
-        Case { what, rows, book: &book.bytes, questions, lines, best: [Duration::MAX; 7] }
+        Case { what, price_rows, book: &book.bytes, questions, lines, best: [Duration::MAX; 7] }
     }
 
     fn lap(&mut self) {
@@ -107,23 +88,19 @@ impl<'a> Case<'a> {
         }
     }
 
-    fn show(&self) {
-        let accepted = self.best[0];
-        for (index, pair) in self.best[1..].chunks(2).enumerate() {
-            let (by_second, by_library) = (pair[0], pair[1]);
-            timing::row(&[
-                self.what.to_string(),
-                self.rows.to_string(),
-                GRANTED[index].to_string(),
-                self.lines[index].to_string(),
-                timing::milliseconds(accepted),
-                timing::milliseconds(by_second),
-                timing::milliseconds(by_library),
-                format!("{:.1} ns", by_library.as_secs_f64() * 1e9 / self.rows as f64),
-                timing::ratio(by_library, accepted),
-                timing::ratio(by_library, by_second),
-                timing::ratio(by_library, self.best[2]),
-            ]);
+    fn rows(&self) -> Vec<Row> {
+        self.best[1..].chunks(2).enumerate().map(|(index, pair)| self.row(index, pair[0], pair[1])).collect()
+    }
+
+    fn row(&self, index: usize, by_second: Duration, by_library: Duration) -> Row {
+        let no_names = self.best[2];
+        let each = by_library.as_secs_f64() * 1e9 / self.price_rows as f64;
+        Row {
+            call: "price",
+            input: self.what.to_string(),
+            size: format!("price rows {}, names {}, lines {}", self.price_rows, GRANTED[index], self.lines[index]),
+            times: [self.best[0], by_second, by_library],
+            beside: format!("{each:.1} ns a row, {} of no names", timing::ratio(by_library, no_names)),
         }
     }
 }

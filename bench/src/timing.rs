@@ -1,4 +1,4 @@
-//! Best times of several functions on one input, and the tables that show them. No time is judged here.
+//! Best times of several functions on one input, and the table that shows them. No time is judged here.
 
 use std::hint::black_box;
 use std::time::{Duration, Instant};
@@ -32,22 +32,34 @@ pub fn best_times(subjects: &[Subject], input: &[u8], rounds: usize) -> Vec<Dura
     best
 }
 
-/// The heading of a table in Markdown.
-pub fn heading(columns: &[&str]) {
-    println!("| {} |", columns.join(" | "));
-    println!("|---{}|", "|---:".repeat(columns.len() - 1));
+/// A row of the table of figures: what was timed on what, the times of a, b and c, and what else is to be said.
+pub struct Row {
+    pub call: &'static str,
+    pub input: String,
+    pub size: String,
+    pub times: [Duration; 3],
+    pub beside: String,
 }
 
-pub fn row(cells: &[String]) {
-    println!("| {} |", cells.join(" | "));
+/// The table of all figures, in Markdown.
+pub fn print_table(rows: &[Row]) {
+    println!("\n| call | input | size | a | b | c | c/a | c/b | beside |");
+    println!("|---|---|---|---:|---:|---:|---:|---:|---|");
+    for row in rows {
+        let [a, b, c] = row.times;
+        let times = row.times.map(milliseconds).join(" | ");
+        let (by_a, by_b) = (ratio(c, a), ratio(c, b));
+        println!("| {} | {} | {} | {times} | {by_a} | {by_b} | {} |", row.call, row.input, row.size, row.beside);
+    }
 }
 
-pub fn milliseconds(time: Duration) -> String {
+fn milliseconds(time: Duration) -> String {
     format!("{:.2} ms", time.as_secs_f64() * 1e3)
 }
 
+/// Megabytes in a second.
 pub fn speed(bytes: usize, time: Duration) -> String {
-    format!("{:.0} MB/s, {}", bytes as f64 / time.as_secs_f64() / 1e6, milliseconds(time))
+    format!("{:.0}", bytes as f64 / time.as_secs_f64() / 1e6)
 }
 
 /// The first time as a multiple of the second.

@@ -1,0 +1,91 @@
+"""The document of the formats: its examples have the sizes that it says, are what the package packs, and get the answers that it shows."""
+from __future__ import annotations
+
+import pathlib
+import re
+import unittest
+from ctypes import c_uint8
+from datetime import date
+
+from rafttwine import (Article, Cents, Level, PackagingRow, PriceRow, Property, Rounding, Scheme, Way, book, packaging, question,
+                       text, text_book)
+from rafttwine.library import call
+
+DOCUMENT = pathlib.Path("docs/FORMAT.md")
+RECORDS = ("Article, kind 1", "Price row, kind 2", "Rounding, kind 3", "Packaging, kind 4", "Scheme, kind 5")
+EXAMPLE, NEXT = 3, 4
+
+BOOK = book(
+    Article("T1", "S"),
+    PriceRow("T1", Level.BASE, Cents(12_345), first=date(2026, 1, 1), last=date(2026, 6, 30), rounding=1, text=7),
+    Rounding(1, Way.COMMERCIAL, 10, after=-1),
+    PackagingRow("T1", tare=500, net=2000, items=2, weight_unit="KGM"),
+    Scheme("S", between_values="/", trim=True),
+)
+QUESTION = question("T1", date(2026, 6, 29), 2, ["oak"], [Property(4, "ASH")], currency="EUR")
+TEXTS = text_book({7: b"Table"})
+CALENDAR_END = 20260701
+
+
+def tables() -> dict[str, list[list[str]]]:
+    """The rows of the table of fields below each heading: field, size, meaning, and the examples without their ticks."""
+    found: dict[str, list[list[str]]] = {}
+    rows: list[list[str]] = []
+    for line in DOCUMENT.read_text().splitlines():
+        if line.startswith("#"):
+            rows = found.setdefault(line.lstrip("# "), [])
+        elif line.startswith("| ") and not line.startswith(("| Field |", "| Word |")):
+            cells = [cell.strip() for cell in line.strip("|").split("|")]
+            rows.append(cells[:EXAMPLE] + [cell.strip("`") for cell in cells[EXAMPLE:]])
+    return {heading: rows for heading, rows in found.items() if rows and len(rows[0]) > EXAMPLE}
+
+
+TABLES = tables()
+
+
+def example(*headings: str, column: int = EXAMPLE) -> bytes:
+    return b"".join(bytes.fromhex(row[column]) for heading in headings for row in TABLES[heading])
+
+
+def written(name: str, size: int, *words: object) -> bytes:
+    """What a call writes, read from the lent output up to the size that is due, and one byte behind it that must have stayed."""
+    out = (c_uint8 * (size + 1))(*[0xEE] * (size + 1))
+    answer = call(name, BOOK, QUESTION, *words, out)
+    assert (answer.number, out[size]) == (0, 0xEE), f"{name}: refused, or wrote too much"
+    return bytes(out)[:size]
+
+
+class FormatTest(unittest.TestCase):
+    def test_each_example_has_the_size_of_its_row(self) -> None:
+        self.assertEqual(len(TABLES), 11)
+        for heading, rows in TABLES.items():
+            for field, size, _, *examples in rows:
+                for one in map(bytes.fromhex, examples):
+                    with self.subTest(heading, field=field):
+                        self.fits(size, one)
+
+    def fits(self, size: str, one: bytes) -> None:
+        fixed, named = re.fullmatch(r"(\d+)(, signed)?", size), re.fullmatch(r"name, (\d+) to (\d+)", size)
+        if fixed:
+            self.assertEqual(len(one), int(fixed[1]))
+        elif named:
+            self.assertEqual(len(one), 1 + one[0])
+            self.assertTrue(int(named[1]) <= one[0] <= int(named[2]))
+        else:
+            self.assertIn(size, ("the rest", "as said"))
+
+    def test_the_package_packs_the_examples(self) -> None:
+        self.assertEqual(example("Price book", *RECORDS), BOOK)
+        self.assertEqual(example("Question"), QUESTION)
+        self.assertEqual(example("Text book"), TEXTS)
+
+    def test_the_library_writes_the_examples(self) -> None:
+        self.assertEqual(written("price", 14), example("Line of a price"))
+        stretches = example("Stretch of a calendar") + example("Stretch of a calendar", column=NEXT)
+        self.assertEqual(written("calendar", 40, CALENDAR_END), stretches)
+        number = example("Final number")
+        self.assertEqual(written("final_number", len(number)), number)
+
+    def test_the_library_accepts_the_cartons_and_the_text(self) -> None:
+        self.assertEqual(packaging(BOOK, QUESTION).gross, 500 + 2 * 2000)
+        self.assertEqual(bytes(text(TEXTS, TEXTS, 7).part), b"Table")
