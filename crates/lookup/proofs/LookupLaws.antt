@@ -1,13 +1,16 @@
--- A lookup by places meets the definition's: each turn, the hit, and the end.
-use Prim.Native.Nat.{ℕ, zero, suc, _+_, _≤_, _<_, _-_}
-use mathlib.Core.Path.{_≡_, refl, sym, _∙_, ap}
-use mathlib.Core.Bool.{Bool, true, false}
+-- The lookup of roundings by places meets the definition's: what is looked for, each turn of the walk, and its end.
+use Prim.Native.Nat.{ℕ, zero, suc, _+_, _-_, _%_, _≤_, _<_}
+use mathlib.Core.Path.{_≡_, refl, sym, _∙_, ap, subst}
+use mathlib.Core.Bool.{Bool, true, false, _&&_, _||_, not, cond, or-true, false≢true}
 use mathlib.Core.List.{List, [], _∷_}
 use mathlib.Core.Option.{Option, some, none, Option·none-ne-some, Option·some-injective}
 use native.Mathlib.Omega.{arith}
-use lib.ListN.{length, drop}
-use borrow.Author.Tests.{ne-eqb}
-use Rattle.rules.specs.Lists.{consSome}
+use native.Mathlib.Decide.{decLt, ℕ-discrete}
+use lib.Dec.{eqb}
+use lib.ListN.{length, drop, getD, set, replicate, length-set, length-replicate, getD-replicate}
+use lib.Seq.{getD-set-same, getD-set-other}
+use borrow.Author.Tests.{eqb-true, eq-eqb, ne-eqb, not-true}
+use Rattle.rules.specs.Lists.{isSome, consSome}
 use Rattle.rules.specs.Layout.{Layout, _>>=_, give, bytes, toEnd, whole, back}
 use Rattle.rules.specs.Bytes.{number}
 use Rattle.rules.specs.Book.{Record, ArticleRecord, PriceRecord, RoundingRecord, PackagingRecord, SchemeRecord, roundings, roundingFor, plain}
@@ -16,31 +19,33 @@ use Rattle.rules.specs.declared.Rounding.{Rounding}
 use Rattle.rules.proofs.ListLaws.{All}
 use Rattle.rules.proofs.GivesLaws.{Gives, gives-field, gives-any, gives-value, whole-gives}
 use Rattle.layout.specs.Reads.{part}
-use Rattle.layout.specs.Ensures.{Says}
-use Rattle.book.specs.Records.{recordsFrom, listed, recordsLeft}
+use Rattle.layout.specs.Ensures.{Number}
+use Rattle.book.specs.Records.{recordsFrom, recordStop, listed, recordsLeft}
 use Rattle.book.specs.Ensures.{Between, RecordHere, StopIs}
+use Rattle.book.proofs.BookLaws.{from-end}
 use Rattle.book.proofs.WalkLaws.{pass-end, pass-here, pass-less, pass-next, pass-record}
-use Rattle.records.specs.Asks.{OfKind}
+use Rattle.records.specs.Asks.{Accepted, OfKind}
 use Rattle.records.specs.Ensures.{Bounded, RoundingIs}
-use Rattle.records.specs.Tests.{roundingOf}
+use Rattle.records.specs.Tests.{roundingNumber}
 use Rattle.records.proofs.BoundLaws.{in-bounds}
-use Rattle.records.proofs.RoundingLaws.{rounding-kind}
-use Rattle.lookup.specs.Ensures.{RoundingUsed, Looking}
+use Rattle.records.proofs.RoundingLaws.{number-kind}
+use Rattle.lookup.specs.declared.roundings.Open.{Open}
+use Rattle.lookup.specs.Roundings.{RoundingUsed, roundingHeld, placedOr, RoundingHere, PlaceHeld, RoundingAt, Found, PlacesFound, Sought, Placing, Wants, OpenAre, NextOpen, PlaceAfter, PlacesAfter}
 
 -- a record that has not the number
-passed : (n : ℕ) (o : Option Record) (rs : List Record) → roundingOf n o ≡ false → roundingFor n (roundings (consSome o rs)) ≡ roundingFor n (roundings rs)
-unfolding roundingOf roundingFor
-passed n none rs e = refl
-passed n (some (ArticleRecord a)) rs e = refl
-passed n (some (PriceRecord r)) rs e = refl
-passed n (some (RoundingRecord r)) rs e = rw e
-passed n (some (PackagingRecord p)) rs e = refl
-passed n (some (SchemeRecord s)) rs e = refl
+passed : (n : ℕ) (o : Option Record) (rs : List Record) → (roundingNumber o ≡ n → ⊥) → roundingFor n (roundings (consSome o rs)) ≡ roundingFor n (roundings rs)
+unfolding roundingNumber roundingFor
+passed n none rs d = refl
+passed n (some (ArticleRecord a)) rs d = refl
+passed n (some (PriceRecord r)) rs d = refl
+passed n (some (RoundingRecord r)) rs d = rw (ne-eqb (r .number) n d)
+passed n (some (PackagingRecord p)) rs d = refl
+passed n (some (SchemeRecord s)) rs d = refl
 
 -- the first that has it
-hit : (n : ℕ) (r : Rounding) (rs : List Record) → roundingOf n (some (RoundingRecord r)) ≡ true → roundingFor n (roundings (RoundingRecord r ∷ rs)) ≡ r
-unfolding roundingOf roundingFor
-hit n r rs e = rw e
+hit : (n : ℕ) (r : Rounding) (rs : List Record) → r .number ≡ n → roundingFor n (roundings (RoundingRecord r ∷ rs)) ≡ r
+unfolding roundingFor
+hit n r rs e = rw (eq-eqb (r .number) n e)
 
 -- ---- no record has number 0
 
@@ -88,57 +93,307 @@ none-zero (RoundingRecord r ∷ rs) h = rw (ne-eqb (r .number) 0 (λ e. omega (a
 none-zero (PackagingRecord p ∷ rs) h = none-zero rs (h .1)
 none-zero (SchemeRecord s ∷ rs) h = none-zero rs (h .1)
 
--- ---- the lookup
+pub zero-plain : (b : List ℕ) (at : ℕ) → roundingFor 0 (roundings (recordsLeft b at)) ≡ plain
+zero-plain b at = none-zero (recordsLeft b at) (all-records in-bounds b at)
 
-module _ {b : List ℕ} {from : ℕ} (number : ℕ) where
-  plain-used : {r : Rounding} → r ≡ plain → plain ≡ roundingFor number (roundings (recordsLeft b from)) → RoundingUsed b from number r
-  plain-used e p =
+-- ---- which numbers are looked for
+
+-- of the numbers before i
+pub record Opening (numbers places : List ℕ) (low : List Bool) (any : Bool) (i : ℕ) : Type 0 where
+  pub long : length low ≡ 256
+  pub each : (j : ℕ) → j < i → (getD numbers j 0 ≡ 0 → ⊥) → getD places j 0 ≡ 0 → Wants (record { low = low; any = any }) (getD numbers j 0)
+
+module _ (numbers places : List ℕ) where
+  pub opening-start : Opening numbers places (replicate 256 false) false 0
+  opening-start = record { long = length-replicate 256 false; each = λ j l. absurd (omega arith) }
+
+  -- the test of number i
+  abbrev isOpen : ℕ → Bool
+  isOpen i = not (eqb (getD numbers i 0) 0) && eqb (getD places i 0) 0
+
+  module _ {low : List Bool} {any : Bool} {i : ℕ} (inv : Opening numbers places low any i) where
+    abbrev byte : ℕ
+    byte = getD numbers i 0 % 256
+
+    abbrev lowAfter : List Bool
+    lowAfter = set low byte (getD low byte false || isOpen i)
+
+    inside : byte < length low
+    inside = omega (arith, inv .long)
+
+    -- what was looked for still is
+    still : {k : ℕ} → Wants (record { low = low; any = any }) k → Wants (record { low = lowAfter; any = any || isOpen i }) k
+    still {k} w = record { some = w .some; any = rw (w .any); low = go (ℕ-discrete (k % 256) byte) }
+      where
+        go : Dec (k % 256 ≡ byte) → getD lowAfter (k % 256) false ≡ true
+        go (yes e) =
+            let f : getD low byte false ≡ true = subst (λ (j : ℕ). getD low j false ≡ true) e (w .low) in
+            ap (λ (j : ℕ). getD lowAfter j false) e ∙ getD-set-same low byte (getD low byte false || isOpen i) false inside ∙ ap (λ (t : Bool). t || isOpen i) f
+        go (no n) = getD-set-other low byte (k % 256) (getD low byte false || isOpen i) false n ∙ w .low
+
+    newly : (getD numbers i 0 ≡ 0 → ⊥) → getD places i 0 ≡ 0 → Wants (record { low = lowAfter; any = any || isOpen i }) (getD numbers i 0)
+    newly n z =
+        let t : isOpen i ≡ true = rw (ne-eqb (getD numbers i 0) 0 n, z) in
+        record {
+          some = n;
+          any = ap (λ (x : Bool). any || x) t ∙ or-true any;
+          low = getD-set-same low byte (getD low byte false || isOpen i) false inside ∙ ap (λ (x : Bool). getD low byte false || x) t ∙ or-true (getD low byte false);
+        }
+
+    pub opening-again : Opening numbers places (set low (getD numbers i 0 % 256) (getD low (getD numbers i 0 % 256) false || (not (eqb (getD numbers i 0) 0) && eqb (getD places i 0) 0))) (any || (not (eqb (getD numbers i 0) 0) && eqb (getD places i 0) 0)) (i + 1)
+    opening-again = record { long = length-set low byte (getD low byte false || isOpen i) ∙ inv .long; each = λ j l n z. go j n z (decLt j i) l }
+      where
+        go : (j : ℕ) → (getD numbers j 0 ≡ 0 → ⊥) → getD places j 0 ≡ 0 → Dec (j < i) → j < i + 1 → Wants (record { low = lowAfter; any = any || isOpen i }) (getD numbers j 0)
+        go j n z (yes h) l = still (inv .each j h n z)
+        go j n z (no h) l =
+            let e : i ≡ j = omega arith in
+            subst (λ (m : ℕ). (getD numbers m 0 ≡ 0 → ⊥) → getD places m 0 ≡ 0 → Wants (record { low = lowAfter; any = any || isOpen i }) (getD numbers m 0)) e newly n z
+
+    pub opening-end : {n : ℕ} → n ≤ i → OpenAre numbers places n (record { low = low; any = any })
+    opening-end h = record { each = λ j l. inv .each j (omega arith) }
+
+-- ---- a record of the book
+
+module _ {b : List ℕ} {at : ℕ} (w : Between b at) (h : at < length b) {e : ℕ} (s : StopIs b at e) where
+  left-passed : (k : ℕ) → (roundingNumber (whole kinded (part b (at + 2) e)) ≡ k → ⊥) → roundingFor k (roundings (recordsLeft b e)) ≡ roundingFor k (roundings (recordsLeft b at))
+  left-passed k n = sym (ap (λ (rs : List Record). roundingFor k (roundings rs)) (pass-record w h s) ∙ passed k (whole kinded (part b (at + 2) e)) (recordsLeft b e) n)
+
+  left-hit : {x : Rounding} → RoundingIs (part b (at + 2) e) x → roundingFor (x .number) (roundings (recordsLeft b at)) ≡ x
+  left-hit {x} r =
+      ap (λ (rs : List Record). roundingFor (x .number) (roundings rs)) (pass-record w h s)
+      ∙ ap (λ (o : Option Record). roundingFor (x .number) (roundings (consSome o (recordsLeft b e)))) (r .is)
+      ∙ hit (x .number) x (recordsLeft b e) refl
+
+module _ {b : List ℕ} {at e : ℕ} (s : StopIs b at e) where
+  there-rounding : OfKind 3 (part b (at + 2) e) → RoundingHere b at
+  there-rounding k = record { fits = subst (λ (x : ℕ). x ≤ length b) (s .is) (s .fits); kind = subst (λ (x : ℕ). OfKind 3 (part b (at + 2) x)) (s .is) k }
+
+  pub here-kind : RoundingHere b at → OfKind 3 (part b (at + 2) e)
+  here-kind h = subst (λ (x : ℕ). OfKind 3 (part b (at + 2) x)) (sym (s .is)) (h .kind)
+
+pub here-record : {b : List ℕ} {at : ℕ} → RoundingHere b at → RecordHere b at
+here-record h = record { fits = h .fits; ok = h .kind .ok }
+
+-- ---- the next that is looked for
+
+-- none of the records passed has a number with one of these low bytes
+pub record Passing (b : List ℕ) (from : ℕ) (low : List Bool) (at : ℕ) : Type 0 where
+  pub onward : from ≤ at
+  pub between : Between b at
+  pub rest : (k : ℕ) → (k ≡ 0 → ⊥) → getD low (k % 256) false ≡ true → roundingFor k (roundings (recordsLeft b at)) ≡ roundingFor k (roundings (recordsLeft b from))
+
+module _ {b : List ℕ} {from : ℕ} (o : Open) where
+  pub next-none : Between b from → not (o .any) ≡ true → NextOpen b from o (length b)
+  next-none w t = record {
+    onward = w .fits;
+    between = record { low = omega (arith, w .low, w .fits); fits = omega arith; ok = ap isSome (from-end b (length b) (omega arith)) };
+    here = λ l. absurd (omega arith);
+    rest = λ k a. absurd (false≢true (sym (not-true (o .any) t) ∙ a .any));
+  }
+
+  pub next-start : Between b from → Passing b from (o .low) from
+  next-start w = record { onward = omega arith; between = w; rest = λ k n l. refl }
+
+  module _ {at : ℕ} (inv : Passing b from (o .low) at) where
+    pub next-end : length b ≤ at → NextOpen b from o at
+    next-end h = record { onward = inv .onward; between = inv .between; here = λ l. absurd (omega arith); rest = λ k a. inv .rest k (a .some) (a .low) }
+
+    module _ (h : at < length b) where
+      pub next-here : RecordHere b at
+      next-here = pass-here (inv .between) h
+
+      module _ {e : ℕ} (s : StopIs b at e) where
+        pub next-accepted : Accepted (part b (at + 2) e)
+        next-accepted = record { ok = s .ok }
+
+        pub next-less : length b - e < length b - at
+        next-less = pass-less (inv .between) h s
+
+        module _ {x : ℕ} (is : Number (roundingNumber (whole kinded (part b (at + 2) e))) 65536 x) where
+          pub next-found : (not (eqb x 0) && getD (o .low) (x % 256) false) ≡ true → NextOpen b from o at
+          next-found t = record {
+            onward = inv .onward;
+            between = inv .between;
+            here = λ l. there-rounding s (number-kind next-accepted is (λ z. false≢true (sym (rw z) ∙ t)));
+            rest = λ k a. inv .rest k (a .some) (a .low);
+          }
+
+          pub next-again : (not (eqb x 0) && getD (o .low) (x % 256) false) ≡ false → Passing b from (o .low) e
+          next-again t = record { onward = omega (arith, inv .onward, s .low); between = pass-next (inv .between) h s; rest = λ k n l. left-passed (inv .between) h s k (λ d. other k n l (is .is ∙ d)) ∙ inv .rest k n l }
+            where
+              other : (k : ℕ) → (k ≡ 0 → ⊥) → getD (o .low) (k % 256) false ≡ true → x ≡ k → ⊥
+              other k n l d =
+                  let y : (not (eqb k 0) && getD (o .low) (k % 256) false) ≡ true = rw (ne-eqb k 0 n) l in
+                  false≢true (sym t ∙ ap (λ (m : ℕ). not (eqb m 0) && getD (o .low) (m % 256) false) d ∙ y)
+
+-- ---- a number's place
+
+module _ {place : ℕ} {here : Bool} {at : ℕ} where
+  pub place-here : (eqb place 0 && here) ≡ true → PlaceAfter place here at at
+  place-here t = record { is = rw t }
+
+  pub place-kept : (eqb place 0 && here) ≡ false → PlaceAfter place here at place
+  place-kept t = record { is = rw t }
+
+-- those of the numbers before i are as they are after the record, the others as before
+pub record Replacing (places numbers : List ℕ) (number at : ℕ) (after : List ℕ) (i : ℕ) : Type 0 where
+  pub long : length after ≡ 99
+  pub done : (j : ℕ) → j < i → getD after j 0 ≡ cond (eqb (getD places j 0) 0 && eqb (getD numbers j 0) number) at (getD places j 0)
+  pub rest : (j : ℕ) → i ≤ j → getD after j 0 ≡ getD places j 0
+
+module _ (places numbers : List ℕ) (number at : ℕ) where
+  pub replace-start : length places ≡ 99 → Replacing places numbers number at places 0
+  replace-start l = record { long = l; done = λ j k. absurd (omega arith); rest = λ j k. refl }
+
+  module _ {after : List ℕ} {i : ℕ} (inv : Replacing places numbers number at after i) where
+    pub replace-end : {n : ℕ} → n ≤ i → PlacesAfter places numbers n number at after
+    replace-end h = record { each = λ j l. inv .done j (omega arith) }
+
+    pub replace-again : {n : ℕ} → i < n → n ≤ 99 → {r : ℕ} → PlaceAfter (getD after i 0) (eqb (getD numbers i 0) number) at r → Replacing places numbers number at (set after i r) (i + 1)
+    replace-again h l {r} p = record {
+      long = length-set after i r ∙ inv .long;
+      done = λ j k. go j k (decLt j i);
+      rest = λ j k. getD-set-other after i j r 0 (λ e. omega arith) ∙ inv .rest j (omega arith);
+    }
+      where
+        now : r ≡ cond (eqb (getD places i 0) 0 && eqb (getD numbers i 0) number) at (getD places i 0)
+        now = p .is ∙ ap (λ (k : ℕ). cond (eqb k 0 && eqb (getD numbers i 0) number) at k) (inv .rest i (omega arith))
+
+        go : (j : ℕ) → j < i + 1 → Dec (j < i) → getD (set after i r) j 0 ≡ cond (eqb (getD places j 0) 0 && eqb (getD numbers j 0) number) at (getD places j 0)
+        go j m (yes k) = getD-set-other after i j r 0 (λ e. omega arith) ∙ inv .done j k
+        go j m (no k) =
+            let e : i ≡ j = omega arith in
+            let m : i < length after = omega (arith, inv .long) in
+            subst (λ (x : ℕ). getD (set after i r) x 0 ≡ cond (eqb (getD places x 0) 0 && eqb (getD numbers x 0) number) at (getD places x 0)) e (getD-set-same after i r 0 m ∙ now)
+
+-- ---- the walk
+
+module _ (b : List ℕ) (p : ℕ) (x : Rounding) where
+  at-none : p ≡ 0 → placedOr b p x ≡ x
+  unfolding placedOr
+  at-none z = rw z
+
+  at-some : (p ≡ 0 → ⊥) → placedOr b p x ≡ roundingHeld (whole kinded (part b (p + 2) (recordStop b p)))
+  unfolding placedOr
+  at-some n = rw (ne-eqb p 0 n)
+
+-- what stands where a rounding was read
+at-read : {b : List ℕ} {at e : ℕ} → StopIs b at e → {x : Rounding} → RoundingIs (part b (at + 2) e) x → (at ≡ 0 → ⊥) → (y : Rounding) → placedOr b at y ≡ x
+unfolding roundingHeld
+at-read {b} {at} {e} s {x} r n y = at-some b at y n ∙ ap (λ (k : ℕ). roundingHeld (whole kinded (part b (at + 2) k))) (sym (s .is)) ∙ ap roundingHeld (r .is)
+
+number-of : {t : List ℕ} {x : Rounding} → RoundingIs t x → roundingNumber (whole kinded t) ≡ x .number
+unfolding roundingNumber
+number-of r = ap roundingNumber (r .is)
+
+module _ {b : List ℕ} {from : ℕ} where
+  -- a rounding that goes by
+  sought-after : {at : ℕ} → Between b at → at < length b → RoundingHere b at → {e : ℕ} → StopIs b at e → {x : Rounding} → RoundingIs (part b (at + 2) e) x
+      → {k p q : ℕ} → Sought b from k p at → q ≡ cond (eqb p 0 && eqb k (x .number)) at p → Sought b from k q e
+  sought-after {at} w h here {e} s {x} r {k} {p} {q} t i = go (ℕ-discrete p 0) (ℕ-discrete k (x .number))
+    where
+      keeps : p ≡ q → (placedOr b p (roundingFor k (roundings (recordsLeft b e))) ≡ placedOr b p (roundingFor k (roundings (recordsLeft b at)))) → Sought b from k q e
+      keeps d f = subst (λ (y : ℕ). Sought b from k y e) d (record { held = t .held; is = f ∙ t .is })
+
+      go : Dec (p ≡ 0) → Dec (k ≡ x .number) → Sought b from k q e
+      go (no n) d =
+          keeps (sym (i ∙ rw (ne-eqb p 0 n)))
+          (at-some b p (roundingFor k (roundings (recordsLeft b e))) n ∙ sym (at-some b p (roundingFor k (roundings (recordsLeft b at))) n))
+      go (yes z) (no d) =
+          keeps (sym (i ∙ rw (z, ne-eqb k (x .number) d)))
+          (ap (placedOr b p) (left-passed w h s k (λ f. d (sym f ∙ number-of r))))
+      go (yes z) (yes d) =
+          let a : at ≡ q = sym (i ∙ rw (z, eq-eqb k (x .number) d)) in
+          let n : at ≡ 0 → ⊥ = λ f. omega (arith, w .low) in
+          subst (λ (y : ℕ). Sought b from k y e) a
+          (record {
+            held = record { held = λ f. here };
+            is = at-read s r n (roundingFor k (roundings (recordsLeft b e))) ∙ sym (left-hit w h s r) ∙ ap (λ (y : ℕ). roundingFor y (roundings (recordsLeft b at))) (sym d)
+                ∙ sym (at-none b p (roundingFor k (roundings (recordsLeft b at))) z) ∙ t .is;
+          })
+
+  -- and the records up to the next that is looked for
+  sought-next : {numbers places : List ℕ} {n e : ℕ} {o : Open} → ((i : ℕ) → i < n → Sought b from (getD numbers i 0) (getD places i 0) e) → OpenAre numbers places n o
+      → {at : ℕ} → NextOpen b e o at → Placing b from numbers n places at
+  sought-next {numbers} {places} {n} {e} {o} each are {at} next = record {
+    between = next .between;
+    here = next .here;
+    each = λ i l. record { held = each i l .held; is = go i l (ℕ-discrete (getD places i 0) 0) (ℕ-discrete (getD numbers i 0) 0) ∙ each i l .is };
+  }
+    where
+      left : ℕ → ℕ → Rounding
+      left k x = roundingFor k (roundings (recordsLeft b x))
+
+      go : (i : ℕ) → i < n → Dec (getD places i 0 ≡ 0) → Dec (getD numbers i 0 ≡ 0) → placedOr b (getD places i 0) (left (getD numbers i 0) at) ≡ placedOr b (getD places i 0) (left (getD numbers i 0) e)
+      go i l (no z) d = at-some b (getD places i 0) (left (getD numbers i 0) at) z ∙ sym (at-some b (getD places i 0) (left (getD numbers i 0) e) z)
+      go i l (yes z) (yes d) = ap (placedOr b (getD places i 0)) (ap (λ (k : ℕ). left k at) d ∙ zero-plain b at ∙ sym (zero-plain b e) ∙ ap (λ (k : ℕ). left k e) (sym d))
+      go i l (yes z) (no d) = ap (placedOr b (getD places i 0)) (next .rest (getD numbers i 0) (are .each i l d z))
+
+module _ {b : List ℕ} {from : ℕ} {numbers : List ℕ} {n : ℕ} where
+  pub placing-start : n ≤ 99 → {o : Open} → OpenAre numbers (replicate 99 0) n o → {at : ℕ} → NextOpen b from o at → Placing b from numbers n (replicate 99 0) at
+  placing-start l are next = sought-next (λ i k. start (getD-replicate 99 i 0 0 (omega arith))) are next
+    where
+      start : {k p : ℕ} → p ≡ 0 → Sought b from k p from
+      start {k} {p} z = record { held = record { held = λ f. absurd (f z) }; is = at-none b p (roundingFor k (roundings (recordsLeft b from))) z }
+
+  module _ {places : List ℕ} {at : ℕ} (inv : Placing b from numbers n places at) where
+    pub placing-end : length b ≤ at → PlacesFound b from numbers n places
+    unfolding roundingFor
+    placing-end h = record {
+      each = λ i l. record {
+        held = inv .each i l .held;
+        is = ap (λ (rs : List Record). placedOr b (getD places i 0) (roundingFor (getD numbers i 0) (roundings rs))) (sym (pass-end (inv .between) h)) ∙ inv .each i l .is;
+      };
+    }
+
+    module _ (h : at < length b) where
+      pub placing-here : RecordHere b at
+      placing-here = here-record (inv .here h)
+
+      module _ {e : ℕ} (s : StopIs b at e) where
+        pub placing-kind : OfKind 3 (part b (at + 2) e)
+        placing-kind = here-kind s (inv .here h)
+
+        pub placing-between : Between b e
+        placing-between = pass-next (inv .between) h s
+
+        pub placing-less : {o : Open} {next : ℕ} → NextOpen b e o next → length b - next < length b - at
+        placing-less p = omega (arith, p .onward, s .low)
+
+        pub placing-again : {x : Rounding} → RoundingIs (part b (at + 2) e) x → {after : List ℕ} → PlacesAfter places numbers n (x .number) at after
+            → {o : Open} → OpenAre numbers after n o → {next : ℕ} → NextOpen b e o next → Placing b from numbers n after next
+        placing-again r p are next = sought-next (λ i l. sought-after (inv .between) h (inv .here h) s r (inv .each i l) (p .each i l)) are next
+
+-- ---- the rounding at a place
+
+module _ {b : List ℕ} {place : ℕ} where
+  pub plain-at : place ≡ 0 → {r : Rounding} → r ≡ plain → RoundingAt b place r
+  plain-at z e =
       record {
-        is = e ∙ p;
+        is = e ∙ sym (at-none b place plain z);
         step-low = rw e (omega arith);
         step-high = rw e (omega arith);
         before-in = rw e (omega arith);
         after-in = rw e (omega arith);
       }
 
-  pub look-zero : number ≡ 0 → {r : Rounding} → r ≡ plain → RoundingUsed b from number r
-  look-zero z e = plain-used e (sym (none-zero (recordsLeft b from) (all-records in-bounds b from)) ∙ ap (λ (n : ℕ). roundingFor n (roundings (recordsLeft b from))) (sym z))
+  module _ (w : PlaceHeld b place) (n : place ≡ 0 → ⊥) where
+    pub held-here : RecordHere b place
+    held-here = here-record (w .held n)
 
-  pub look-start : Between b from → Looking b from number from
-  look-start w = record { between = w; rest = refl }
+    module _ {e : ℕ} (s : StopIs b place e) where
+      pub held-kind : OfKind 3 (part b (place + 2) e)
+      held-kind = here-kind s (w .held n)
 
-  pub look-end : {at : ℕ} → Looking b from number at → length b ≤ at → {r : Rounding} → r ≡ plain → RoundingUsed b from number r
-  unfolding roundingFor
-  look-end {at} l h e =
-      let p : roundingFor number (roundings (recordsLeft b at)) ≡ plain = rw (pass-end (l .between) h) in
-      plain-used e (sym p ∙ l .rest)
+      pub rounding-at : {r : Rounding} → RoundingIs (part b (place + 2) e) r → RoundingAt b place r
+      rounding-at i = record {
+        is = sym (at-read s i n plain);
+        step-low = i .bounds .step-low;
+        step-high = i .bounds .step-high;
+        before-in = i .bounds .before-in;
+        after-in = i .bounds .after-in;
+      }
 
-  module _ {at : ℕ} (l : Looking b from number at) (h : at < length b) where
-    pub look-here : RecordHere b at
-    look-here = pass-here (l .between) h
-
-    module _ {e : ℕ} (s : StopIs b at e) where
-      pub look-less : length b - e < length b - at
-      look-less = pass-less (l .between) h s
-
-      module _ {r : Bool} (t : Says (roundingOf number (whole kinded (part b (at + 2) e))) r) where
-        pub look-next : r ≡ false → Looking b from number e
-        look-next f =
-            record {
-              between = pass-next (l .between) h s;
-              rest = sym (passed number (whole kinded (part b (at + 2) e)) (recordsLeft b e) (t .is ∙ f)) ∙ ap (λ (rs : List Record). roundingFor number (roundings rs)) (sym (pass-record (l .between) h s)) ∙ l .rest;
-            }
-
-        pub look-kind : r ≡ true → OfKind 3 (part b (at + 2) e)
-        look-kind f = rounding-kind number (record { ok = s .ok }) t f
-
-        pub look-found : r ≡ true → {x : Rounding} → RoundingIs (part b (at + 2) e) x → RoundingUsed b from number x
-        look-found f {x} p =
-            let q : roundingOf number (some (RoundingRecord x)) ≡ true = ap (roundingOf number) (sym (p .is)) ∙ t .is ∙ f in
-            record {
-              is = sym (hit number x (recordsLeft b e) q) ∙ ap (λ (o : Option Record). roundingFor number (roundings (consSome o (recordsLeft b e)))) (sym (p .is)) ∙ ap (λ (rs : List Record). roundingFor number (roundings rs)) (sym (pass-record (l .between) h s)) ∙ l .rest;
-              step-low = p .bounds .step-low;
-              step-high = p .bounds .step-high;
-              before-in = p .bounds .before-in;
-              after-in = p .bounds .after-in;
-            }
+-- a place that was found for a number has its rounding
+pub found-used : {b : List ℕ} {from number place : ℕ} → Found b from number place → {r : Rounding} → RoundingAt b place r → RoundingUsed b from number r
+found-used f r = record { is = r .is ∙ f .is; step-low = r .step-low; step-high = r .step-high; before-in = r .before-in; after-in = r .after-in }

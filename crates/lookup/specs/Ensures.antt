@@ -1,39 +1,20 @@
--- What a lookup ensures, and where it stands.
+-- What a lookup by a name ensures, and where it stands.
 use Prim.Native.Nat.{ℕ, _+_, _≤_, _<_}
 use mathlib.Core.Bool.{Bool}
 use mathlib.Core.Path.{_≡_}
 use mathlib.Core.List.{List}
 use mathlib.Core.Option.{Option, some, none}
-use lib.IntN.{natAbs}
 use lib.ListN.{length}
 use Rattle.rules.specs.Lists.{first, ifSome}
 use Rattle.rules.specs.Layout.{whole}
-use Rattle.rules.specs.Book.{Record, ArticleRecord, PriceRecord, RoundingRecord, PackagingRecord, SchemeRecord, Article, Scheme, roundings, roundingFor}
+use Rattle.rules.specs.Book.{Record, ArticleRecord, PriceRecord, RoundingRecord, PackagingRecord, SchemeRecord, Article, Scheme}
 use Rattle.rules.specs.BookLayout.{kinded}
 use Rattle.rules.specs.declared.Part.{Part}
-use Rattle.rules.specs.declared.Rounding.{Rounding}
 use Rattle.book.specs.Records.{recordsOf, recordsLeft}
 use Rattle.book.specs.Ensures.{Between}
 use Rattle.records.specs.Asks.{OfKind}
 use Rattle.records.specs.Ensures.{bytesIn}
 use Rattle.records.specs.Tests.{startsWith}
-
--- ---- a rounding by its number
-
--- `r` is the rounding that a row with this number takes, among the records from a place on; its numbers are in their bounds
-pub record RoundingUsed (b : List ℕ) (from number : ℕ) (r : Rounding) : Type 0 where
-  pub is : r ≡ roundingFor number (roundings (recordsLeft b from))
-  pub step-low : 1 ≤ r .step
-  pub step-high : r .step ≤ 1_000_000
-  pub before-in : natAbs (r .before .0) ≤ 1_000_000
-  pub after-in : natAbs (r .after .0) ≤ 1_000_000
-
--- none of the records passed has the number
-pub record Looking (b : List ℕ) (from number at : ℕ) : Type 0 where
-  pub between : Between b at
-  pub rest : roundingFor number (roundings (recordsLeft b at)) ≡ roundingFor number (roundings (recordsLeft b from))
-
--- ---- a record by the name that it starts with
 
 abbrev pub isNamed : ℕ → List ℕ → Record → Bool
 isNamed kind name r = startsWith kind name (some r)

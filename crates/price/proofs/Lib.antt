@@ -1,3 +1,4 @@
+pub mod NumberLaws
 pub mod PickLaws
 pub mod UnusedSetLaws
 pub mod CallLaws

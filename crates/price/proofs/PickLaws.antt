@@ -17,10 +17,12 @@ use Rattle.rules.proofs.ListLaws.{All}
 use Rattle.rules.specs.declared.PriceRow.{PriceRow}
 use Rattle.rules.specs.declared.Rounding.{Rounding}
 use Rattle.book.specs.Records.{recordsLeft}
+use Rattle.book.specs.Ensures.{Between}
 use Rattle.records.specs.Asks.{OfKind}
 use Rattle.records.specs.Ensures.{RowIs, rowIn}
-use Rattle.lookup.specs.Ensures.{RoundingUsed}
-use Rattle.choice.specs.Hands.{TakenIs}
+use Rattle.lookup.specs.Roundings.{RoundingUsed, PlaceHeld, RoundingAt, Found, PlacesFound}
+use Rattle.lookup.proofs.LookupLaws.{found-used}
+use Rattle.choice.specs.Hands.{TakenIs, takenOf}
 use Rattle.question.specs.declared.Ask.{Ask}
 use Rattle.question.specs.Asked.{askIn}
 use Rattle.choice.specs.Walk.{Asking, SlotsHold, unseen}
@@ -35,7 +37,10 @@ use Rattle.lines.specs.declared.Pick.{Pick}
 use Rattle.lines.specs.Views.{View, viewOf, viewIn, viewsIn}
 use Rattle.lines.specs.Contracts.{Sound}
 use Rattle.price.specs.declared.picks.Picks.{Picks}
-use Rattle.price.specs.Picks.{RoundingsIn, Held, HandHeld, RowPicked, HandPicked, Counted, viewsFrom, Picking, PicksSoFar, Filled, PickedAre, PicksFrom}
+use Rattle.price.specs.declared.numbers.Numbers.{Numbers}
+use Rattle.price.specs.Numbers.{Counted, SlotRows, filledBefore, NumbersIn}
+use Rattle.price.specs.Picks.{RoundingsIn, Held, RowFound, HandHeld, HandFound, RowPicked, HandPicked, viewsFrom, Picking, PicksSoFar, Filled, PickedAre, PicksFrom}
+use Rattle.price.proofs.NumberLaws.{rows-held, filled-next}
 
 pub held-kind : {b : List ℕ} {at end : ℕ} → Held b at end → OfKind 2 (take (end - at) (drop at b))
 held-kind h = there-kind (h .there)
@@ -48,18 +53,23 @@ module _ {b : List ℕ} {w : Window} (told : RoundingsIn b w) where
   rounding-used : {number : ℕ} {r : Rounding} → RoundingUsed (take (w .to) b) (w .from) number r → r ≡ roundingFor number (roundings (recordsLeft b 5))
   rounding-used {number} u = u .is ∙ ap (roundingFor number) (told .window .rounding-same)
 
-module _ {b : List ℕ} {w : Window} (told : RoundingsIn b w) {at end : ℕ} (held : Held b at end) {row : PriceRow} (is : RowIs (take (end - at) (drop at b)) row)
-    {rounding : Rounding} (used : RoundingUsed (take (w .to) b) (w .from) (row .rounding) rounding) where
-  pub row-picked : (place : ℕ) → RowPicked b at end place (record { place = place; level = row .level; rule = row .rule; text = row .text; value = row .value; currency = row .currency; rounding = rounding })
+module _ {b : List ℕ} {w : Window} {at end found : ℕ} (held : Held b at end) (row-found : RowFound b w at end found) where
+  pub found-held : PlaceHeld (take (w .to) b) found
+  found-held = row-found .is (held .row) (held .there) .held
+
+  pub row-picked : RoundingsIn b w → {row : PriceRow} → RowIs (take (end - at) (drop at b)) row → {rounding : Rounding} → RoundingAt (take (w .to) b) found rounding
+      → (place : ℕ) → RowPicked b at end place (record { place = place; level = row .level; rule = row .rule; text = row .text; value = row .value; currency = row .currency; rounding = rounding })
   unfolding rowIn
-  row-picked place =
+  row-picked told {row} is {rounding} stands place =
       record {
         is = λ r there.
             let e : rowIn (take (end - at) (drop at b)) row ≡ r = there-row there row is in
+            let used : rounding ≡ roundingFor (row .rounding) (roundings (recordsLeft b 5)) =
+            rounding-used told (found-used (row-found .is r there) stands) ∙ ap (λ (x : Row). roundingFor (x .rounding) (roundings (recordsLeft b 5))) (sym e) in
             subst (λ (x : Row). _≡_ {A = View} (record { place = place; level = row .level; rule = row .rule; text = row .text; value = row .value; currency = row .currency .0 ∷ row .currency .1 ∷ row .currency .2 ∷ []; rounding = rounding })
             (viewOf (roundings (recordsLeft b 5)) (record { place = place; row = x }))) e
-            (λ i. record { place = place; level = row .level; rule = row .rule; text = row .text; value = row .value; currency = row .currency .0 ∷ row .currency .1 ∷ row .currency .2 ∷ []; rounding = rounding-used told used i });
-        sound = record { value-in = is .value-in; rounding-in = record { step-low = used .step-low; step-high = used .step-high; before-in = used .before-in; after-in = used .after-in } };
+            (λ i. record { place = place; level = row .level; rule = row .rule; text = row .text; value = row .value; currency = row .currency .0 ∷ row .currency .1 ∷ row .currency .2 ∷ []; rounding = used i });
+        sound = record { value-in = is .value-in; rounding-in = record { step-low = stands .step-low; step-high = stands .step-high; before-in = stands .before-in; after-in = stands .after-in } };
       }
 
 module _ {b : List ℕ} {h : Hand} where
@@ -69,21 +79,13 @@ module _ {b : List ℕ} {h : Hand} where
   pub hand-held : HandHeld b h → (h .at ≡ 0 → ⊥) → Held b (h .at) (h .end)
   hand-held w n = w .held n
 
+  pub hand-found : {w : Window} {found : ℕ} → HandFound b w h found → (h .at ≡ 0 → ⊥) → RowFound b w (h .at) (h .end) found
+  hand-found f n = f .is n
+
   pub hand-picked : {place : ℕ} {p : Pick} → RowPicked b (h .at) (h .end) place p → HandPicked b h place p
   hand-picked r = record { picked = λ n. r }
 
-pub counts-none : {h : Hand} → h .at ≡ 0 → Counted h 0
-counts-none {h} e = record { is = rw e; most = omega arith }
-
-pub counts-one : {h : Hand} → (h .at ≡ 0 → ⊥) → Counted h 1
-counts-one {h} n = record { is = rw (ne-eqb (h .at) 0 n); most = omega arith }
-
 -- ---- slot after slot
-
-module _ {w : List ℕ} {q : Question} {slots : List Seen} {rs : List Row} (holds : SlotsHold w rs q slots) {i : ℕ} (l : i < 99) {hand : Hand} (t : TakenIs (getD slots i unseen) hand) where
-  -- a slot's row in hand stands in the book
-  pub slot-held : HandHeld w hand
-  slot-held = record { held = λ n. let x = slot-full holds l t n in record { row = x .0; there = x .1 } }
 
 all-append : {A : Type 0} (P : A → Type 0) (xs : List A) (y : A) → All P xs → P y → All P (xs ++ (y ∷ []))
 all-append P [] y h k = (k, tt)
@@ -174,12 +176,13 @@ pick-end {w} {q} g {picks} {n} {i} p h =
 -- ---- for every question that the slots were filled for
 
 pub so-far-start : (b : List ℕ) (slots : List Seen) (picks : List Pick) → length picks ≡ 99 → PicksSoFar b slots picks 0 0
-so-far-start b slots picks l = record { few = omega arith; long = l; each = λ q h. pick-start (recordsLeft b 5) q picks l }
+unfolding filledBefore
+so-far-start b slots picks l = record { few = omega arith; count = refl; long = l; each = λ q h. pick-start (recordsLeft b 5) q picks l }
 
 pub so-far-turn : {b : List ℕ} {slots : List Seen} {picks : List Pick} {n i : ℕ} → PicksSoFar b slots picks n i → i < 99 → {hand : Hand} → TakenIs (getD slots i unseen) hand
     → {pick : Pick} → HandPicked b hand (i % 33) pick → {c : ℕ} → Counted hand c → PicksSoFar b slots (set picks n pick) (n + c) (i + 1)
-so-far-turn {b} {slots} {picks} {n} {i} w l t {pick} h d =
-    record { few = omega (arith, w .few, d .most); long = length-set picks n pick ∙ w .long; each = λ q holds. pick-turn holds (w .each q holds) l t h d }
+so-far-turn {b} {slots} {picks} {n} {i} w l t {pick} h {c} d =
+    record { few = omega (arith, w .few, d .most); count = ap (λ (k : ℕ). k + c) (w .count) ∙ sym (filled-next slots i t d); long = length-set picks n pick ∙ w .long; each = λ q holds. pick-turn holds (w .each q holds) l t h d }
 
 pub so-far-end : {b : List ℕ} {slots : List Seen} (w : Window) (found : Bool) {picks : List Pick} {n i : ℕ} → PicksSoFar b slots picks n i → 99 ≤ i
     → PicksFrom b slots w found (record { rows = picks; n = n; found = found; window = w })
@@ -191,8 +194,33 @@ module _ {b : List ℕ} {slots : List Seen} {w : Window} (filled : Filled b slot
   pub filled-roundings : RoundingsIn b w
   filled-roundings = record { asked = filled .asked; window = filled .window }
 
+  pub filled-rows : SlotRows b slots
+  filled-rows = record { asked = filled .asked; holds = filled .holds }
+
   pub filled-held : {i : ℕ} → i < 99 → {hand : Hand} → TakenIs (getD slots i unseen) hand → HandHeld b hand
-  filled-held l t = slot-held (filled .holds) l t
+  filled-held l t = rows-held filled-rows l t
+
+  pub filled-between : Between (take (w .to) b) (w .from)
+  filled-between = filled .window .rounding-between
+
+  pub filled-long : length (take (w .to) b) ≡ w .to
+  filled-long = window-long filled-roundings
+
+pub numbers-few : {b : List ℕ} {slots : List Seen} {numbers : Numbers} → NumbersIn b slots numbers → numbers .n ≤ 99
+numbers-few m = m .few
+
+-- the place that was found for the number of a slot's row
+pub slot-found : {b : List ℕ} {slots : List Seen} {w : Window} {numbers : Numbers} → NumbersIn b slots numbers → {places : List ℕ} → PlacesFound (take (w .to) b) (w .from) (numbers .of) (numbers .n) places
+    → {picks : List Pick} {n i : ℕ} → PicksSoFar b slots picks n i → i < 99 → {hand : Hand} → TakenIs (getD slots i unseen) hand → HandFound b w hand (getD places n 0)
+slot-found {b} {slots} {w} {numbers} m {places} f {picks} {n} {i} s l {hand} t =
+    subst (λ (h : Hand). HandFound b w h (getD places n 0)) (sym (t .is))
+    (subst (λ (k : ℕ). HandFound b w (takenOf (getD slots i unseen)) (getD places k 0)) (sym (s .count))
+    (record {
+      is = λ full. record {
+        is = λ r there.
+            subst (λ (k : ℕ). Found (take (w .to) b) (w .from) k (getD places (filledBefore slots i) 0)) (m .each i l .is .number full .is r there) (f .each (filledBefore slots i) (m .each i l .below full));
+      };
+    }))
 
 -- ---- by a walk over a window of the book
 

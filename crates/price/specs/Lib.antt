@@ -1,3 +1,4 @@
+pub mod Numbers
 pub mod Picks
 pub mod Unused
 pub mod Call

@@ -2,15 +2,15 @@
 use Prim.Native.Nat.{ℕ, _+_, _-_, _/_, _%_, _≤_}
 use mathlib.Core.Path.{_≡_}
 use mathlib.Core.List.{List, _++_, map}
-use mathlib.Core.Bool.{Bool, cond}
-use lib.Dec.{eqb}
-use lib.ListN.{length}
+use mathlib.Core.Bool.{Bool}
+use lib.ListN.{length, take}
 use Rattle.rules.specs.Lists.{gather}
 use Rattle.rules.specs.Book.{Row, Record, rows, roundings}
 use Rattle.rules.specs.Question.{Question}
 use Rattle.rules.specs.Lines.{chosen}
 use Rattle.rules.proofs.ListLaws.{All}
 use Rattle.book.specs.Records.{recordsLeft}
+use Rattle.lookup.specs.Roundings.{Found}
 use Rattle.choice.specs.declared.hands.Hand.{Hand}
 use Rattle.choice.specs.declared.span.Window.{Window}
 use Rattle.choice.specs.Hands.{RowThere}
@@ -20,6 +20,7 @@ use Rattle.choice.specs.Walk.{SlotsHold}
 use Rattle.choice.proofs.SlotLaws.{Granted}
 use Rattle.choice.specs.declared.hands.Seen.{Seen}
 use Rattle.price.specs.declared.picks.Picks.{Picks}
+use Rattle.price.specs.Numbers.{filledBefore}
 use Rattle.lines.specs.declared.Pick.{Pick}
 use Rattle.lines.specs.Views.{View, viewOf, viewIn, viewsIn}
 use Rattle.lines.specs.Contracts.{Sound}
@@ -34,9 +35,16 @@ pub record Held (b : List ℕ) (at end : ℕ) : Type 0 where
   pub row : Row
   pub there : RowThere b at end row
 
+-- at `found` stands the rounding of that row, in the window of the roundings
+pub record RowFound (b : List ℕ) (w : Window) (at end found : ℕ) : Type 0 where
+  pub is : (r : Row) → RowThere b at end r → Found (take (w .to) b) (w .from) (r .rounding) found
+
 -- and where the hand holds one
 pub record HandHeld (b : List ℕ) (h : Hand) : Type 0 where
   pub held : (h .at ≡ 0 → ⊥) → Held b (h .at) (h .end)
+
+pub record HandFound (b : List ℕ) (w : Window) (h : Hand) (found : ℕ) : Type 0 where
+  pub is : (h .at ≡ 0 → ⊥) → RowFound b w (h .at) (h .end) found
 
 -- `p` is the row that stands there, brought by the granted name at `place`
 pub record RowPicked (b : List ℕ) (at end place : ℕ) (p : Pick) : Type 0 where
@@ -45,11 +53,6 @@ pub record RowPicked (b : List ℕ) (at end place : ℕ) (p : Pick) : Type 0 whe
 
 pub record HandPicked (b : List ℕ) (h : Hand) (place : ℕ) (p : Pick) : Type 0 where
   pub picked : (h .at ≡ 0 → ⊥) → RowPicked b (h .at) (h .end) place p
-
--- 1 where a row is in hand
-pub record Counted (h : Hand) (n : ℕ) : Type 0 where
-  pub is : n ≡ cond (eqb (h .at) 0) 0 1
-  pub most : n ≤ 1
 
 -- ---- slot after slot
 
@@ -68,6 +71,7 @@ pub record Picking (rs : List Record) (q : Question) (picks : List Pick) (n i : 
 -- so it is for every question that the slots were filled for
 pub record PicksSoFar (b : List ℕ) (slots : List Seen) (picks : List Pick) (n i : ℕ) : Type 0 where
   pub few : n ≤ i
+  pub count : n ≡ filledBefore slots i
   pub long : length picks ≡ 99
   pub each : (q : Question) → SlotsHold b (rows (recordsLeft b 5)) q slots → Picking (recordsLeft b 5) q picks n i
 

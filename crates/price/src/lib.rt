@@ -2,5 +2,6 @@
 pub mod answer;
 pub mod call;
 pub mod day;
+pub mod numbers;
 pub mod picks;
 pub mod unused;

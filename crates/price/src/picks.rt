@@ -1,10 +1,14 @@
-// The chosen rows of a price by value, slot after slot, with their roundings looked up.
+// The chosen rows of a price by value, slot after slot, with their roundings, which one walk has found.
+use crate::numbers::counted;
+use crate::numbers::numbers_in;
 use choice::hands::Hand;
 use choice::hands::Seen;
 use choice::hands::taken;
 use choice::span::Window;
 use choice::walk;
 use lines::Pick;
+use lookup::roundings::rounding_at;
+use lookup::roundings::rounding_places;
 use question::Ask;
 use rules::Cents;
 use rules::Currency;
@@ -14,7 +18,7 @@ use rules::Way;
 ghost use Rattle.question.specs.Asked.{askIn};
 ghost use Rattle.choice.specs.Span.{Windows};
 ghost use Rattle.choice.specs.Walk.{Asking};
-ghost use Rattle.price.specs.Picks.{RoundingsIn, Held, HandHeld, RowPicked, HandPicked, Counted, Filled, PicksFrom, PickedAre};
+ghost use Rattle.price.specs.Picks.{RoundingsIn, Held, RowFound, HandHeld, HandFound, RowPicked, HandPicked, Filled, PicksFrom, PickedAre};
 
 // The first n of the rows count. `found`, once the whole book was walked: it has a record of the article. `window`: where its rows and the
 // roundings stand.
@@ -41,15 +45,16 @@ const NONE: Pick = Pick {
     },
 };
 
-// The row that stands from `at` to `end`.
-fn row_pick(b: &[u8], window: Window, at: usize, end: usize, place: u8) -> Pick
+// The row that stands from `at` to `end`, with the rounding that was found at `found`.
+fn row_pick(b: &[u8], window: Window, at: usize, end: usize, place: u8, found: usize) -> Pick
     requires { ⌜ RoundingsIn (now b) window ⌝ }
     requires { ⌜ Held (now b) at end ⌝ }
+    requires { ⌜ RowFound (now b) window at end found ⌝ }
     ensures { λ r. ⌜ RowPicked (now (b .entry)) at end place r ⌝ }
 {
     let row = records::row_of(&b[at..end]);
     let to = window.to;
-    let rounding = lookup::rounding_for(&b[..to], window.from, row.rounding);
+    let rounding = rounding_at(&b[..to], found);
     let value = row.value;
     let currency = row.currency;
     Pick {
@@ -64,9 +69,10 @@ fn row_pick(b: &[u8], window: Window, at: usize, end: usize, place: u8) -> Pick
 }
 
 // A row in hand; with no row in hand a pick that does not count.
-fn hand_pick(b: &[u8], window: Window, hand: Hand, place: u8) -> Pick
+fn hand_pick(b: &[u8], window: Window, hand: Hand, place: u8, found: usize) -> Pick
     requires { ⌜ RoundingsIn (now b) window ⌝ }
     requires { ⌜ HandHeld (now b) hand ⌝ }
+    requires { ⌜ HandFound (now b) window hand found ⌝ }
     ensures { λ r. ⌜ HandPicked (now (b .entry)) hand place r ⌝ }
 {
     let at = hand.at;
@@ -74,13 +80,7 @@ fn hand_pick(b: &[u8], window: Window, hand: Hand, place: u8) -> Pick
     if at == 0 {
         return NONE;
     }
-    row_pick(b, window, at, end, place)
-}
-
-fn counted(hand: Hand) -> usize
-    ensures { λ r. ⌜ Counted hand r ⌝ }
-{
-    if hand.at == 0 { 0 } else { 1 }
+    row_pick(b, window, at, end, place, found)
 }
 
 // The filled slots, one after the other: those that hold a row count.
@@ -88,12 +88,16 @@ pub fn picks_from(b: &[u8], slots: [Seen; 100], window: Window, found: bool) -> 
     requires { ⌜ Filled (now b) slots window ⌝ }
     ensures { λ r. ⌜ PicksFrom (now (b .entry)) slots window found r ⌝ }
 {
+    let numbers = numbers_in(b, slots);
+    let to = window.to;
+    let of = numbers.of;
+    let places = rounding_places(&b[..to], window.from, of, numbers.n);
     let mut rows = [NONE; 99];
     let mut n = 0;
     let mut i = 0;
     while i < 99 {
         let hand = taken(slots[i]);
-        rows[n] = hand_pick(b, window, hand, (i % 33) as u8);
+        rows[n] = hand_pick(b, window, hand, (i % 33) as u8, places[n]);
         n = n + counted(hand);
         i += 1;
     }

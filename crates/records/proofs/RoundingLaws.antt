@@ -1,11 +1,11 @@
--- Rounding records: the way, the rounding, and whether it is that of a number.
+-- Rounding records: the way, the rounding, and its number alone.
 use Prim.Native.Nat.{ℕ, zero, suc, _≤_}
-use mathlib.Core.Path.{_≡_, refl, _∙_}
-use mathlib.Core.Bool.{Bool, true, false}
+use mathlib.Core.Path.{_≡_, refl, sym, _∙_}
 use mathlib.Core.List.{List}
-use mathlib.Core.Option.{some}
+use mathlib.Core.Option.{Option, some, none}
 use native.Mathlib.Omega.{arith}
-use lib.Dec.{T, eqb, leb, leb→le}
+use native.Mathlib.Decide.{ℕ-discrete}
+use lib.Dec.{T, leb, leb→le}
 use lib.ListN.{length, getD}
 use lib.IntN.{ℤ}
 use mir.Syntax.{w64}
@@ -15,14 +15,14 @@ use Rattle.rules.specs.Book.{Record, ArticleRecord, PriceRecord, RoundingRecord
 use Rattle.rules.specs.BookLayout.{kinded, roundingBody}
 use Rattle.rules.specs.declared.Way.{Way}
 use Rattle.rules.specs.declared.Way.the-variants.{Commercial}
-use Rattle.layout.specs.Ensures.{Number, SignedNumber, Says}
+use Rattle.layout.specs.Ensures.{Number, SignedNumber}
 use Rattle.book.specs.Records.{kindOf, numberAt, signedAt, roundingAt}
 use Rattle.book.specs.Ensures.{Stands}
 use Rattle.book.proofs.PartsLaws.{rounding-parts, record-is, body-ok}
 use Rattle.records.specs.Asks.{Accepted, OfKind}
-use Rattle.records.specs.Tests.{roundingOf}
+use Rattle.records.specs.Tests.{roundingNumber}
 use Rattle.records.specs.Ensures.{WayIs, RoundingIs}
-use Rattle.records.proofs.FieldLaws.{kept-is, other-kind, of-kind, told-kind}
+use Rattle.records.proofs.FieldLaws.{kept-is, kind-byte, of-kind}
 use Rattle.records.proofs.BoundLaws.{in-bounds}
 
 -- ---- the way
@@ -52,23 +52,28 @@ module _ {t : List ℕ} (p : OfKind 3 t) where
   rounding-is w b a n s =
       rw (kept-is b, kept-is a, w .is, n .is, s .is) (record { is = rounding-at; bounds = in-bounds t (RoundingRecord (roundingAt t 1)) rounding-at })
 
--- ---- whether it is that of a number
-module _ (t : List ℕ) (n : ℕ) (p : Accepted t) where
-  pub rounding-not : (getD t 0 0 ≡ 3 → ⊥) → Says (roundingOf n (whole kinded t)) false
-  unfolding roundingOf
-  rounding-not e = record { is = other-kind t 3 (roundingOf n) go p e }
+-- ---- its number
+module _ (t : List ℕ) (p : Accepted t) where
+  pub number-none : (getD t 0 0 ≡ 3 → ⊥) → Number (roundingNumber (whole kinded t)) 65536 0
+  unfolding roundingNumber
+  number-none e = record { is = go (whole kinded t) refl; below = omega arith }
     where
-      go : (r : Record) → (kindOf r ≡ 3 → ⊥) → roundingOf n (some r) ≡ false
-      go (ArticleRecord a) i = refl
-      go (PriceRecord r) i = refl
-      go (RoundingRecord r) i = absurd (i refl)
-      go (PackagingRecord p) i = refl
-      go (SchemeRecord s) i = refl
+      go : (o : Option Record) → whole kinded t ≡ o → 0 ≡ roundingNumber o
+      go none i = refl
+      go (some (ArticleRecord a)) i = refl
+      go (some (PriceRecord r)) i = refl
+      go (some (RoundingRecord r)) i = absurd (e (kind-byte t (RoundingRecord r) i))
+      go (some (PackagingRecord p)) i = refl
+      go (some (SchemeRecord s)) i = refl
 
-  pub rounding-of-says : {x : ℕ} → getD t 0 0 ≡ 3 → Number (numberAt 2 t 1) 65536 x → Says (roundingOf n (whole kinded t)) (eqb x n)
-  unfolding roundingOf roundingAt
-  rounding-of-says e q = record { is = rw (rounding-at (of-kind p e), q .is) }
+  pub number-is : {x : ℕ} → getD t 0 0 ≡ 3 → Number (numberAt 2 t 1) 65536 x → Number (roundingNumber (whole kinded t)) 65536 x
+  unfolding roundingNumber roundingAt
+  number-is e q = record { is = rw (rounding-at (of-kind p e)) (q .is); below = q .below }
 
--- where the test holds, the record is a rounding
-pub rounding-kind : {t : List ℕ} (n : ℕ) {r : Bool} → Accepted t → Says (roundingOf n (whole kinded t)) r → r ≡ true → OfKind 3 t
-rounding-kind {t} n p q e = told-kind t 3 p q e (rounding-not t n p)
+-- a record with a number is a rounding
+pub number-kind : {t : List ℕ} {top x : ℕ} → Accepted t → Number (roundingNumber (whole kinded t)) top x → (x ≡ 0 → ⊥) → OfKind 3 t
+number-kind {t} {top} {x} p q n = go (ℕ-discrete (getD t 0 0) 3)
+  where
+    go : Dec (getD t 0 0 ≡ 3) → OfKind 3 t
+    go (yes i) = of-kind p i
+    go (no i) = absurd (n (q .is ∙ sym (number-none t p i .is)))

@@ -28,11 +28,11 @@ articleOf number o = startsWith 1 number o
 abbrev pub rowOf : List ℕ → Option Record → Bool
 rowOf number o = startsWith 2 number o
 
--- the rounding of the number
-unfoldable pub roundingOf : ℕ → Option Record → Bool
-roundingOf n none = false
-roundingOf n (some (ArticleRecord a)) = false
-roundingOf n (some (PriceRecord r)) = false
-roundingOf n (some (RoundingRecord r)) = eqb (r .number) n
-roundingOf n (some (PackagingRecord p)) = false
-roundingOf n (some (SchemeRecord s)) = false
+-- the number of a rounding; any other record has 0
+unfoldable pub roundingNumber : Option Record → ℕ
+roundingNumber none = 0
+roundingNumber (some (ArticleRecord a)) = 0
+roundingNumber (some (PriceRecord r)) = 0
+roundingNumber (some (RoundingRecord r)) = r .number
+roundingNumber (some (PackagingRecord p)) = 0
+roundingNumber (some (SchemeRecord s)) = 0

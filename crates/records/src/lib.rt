@@ -15,7 +15,7 @@ pub use packagings::Packing;
 pub use packagings::packaging_of;
 pub use prices::is_row_of;
 pub use prices::row_of;
-pub use roundings::is_rounding;
+pub use roundings::rounding_number;
 pub use roundings::rounding_of;
 pub use schemes::SchemeParts;
 pub use schemes::scheme_of;

@@ -1,4 +1,4 @@
-// Rounding records: the rounding by value, and whether a record is the rounding of a number.
+// Rounding records: the rounding by value, and its number alone.
 use crate::fields::half;
 use crate::fields::word;
 use layout::numbers::signed_four_at;
@@ -7,9 +7,9 @@ use rules::Rounding;
 use rules::Way;
 ghost use Rattle.rules.specs.Layout.{whole};
 ghost use Rattle.rules.specs.BookLayout.{kinded};
-ghost use Rattle.layout.specs.Ensures.{Says};
+ghost use Rattle.layout.specs.Ensures.{Number};
 ghost use Rattle.records.specs.Asks.{Accepted, OfKind};
-ghost use Rattle.records.specs.Tests.{roundingOf};
+ghost use Rattle.records.specs.Tests.{roundingNumber};
 ghost use Rattle.records.specs.Ensures.{WayIs, RoundingIs};
 
 fn way_of(b: u8) -> Way
@@ -39,13 +39,13 @@ pub fn rounding_of(t: &[u8]) -> Rounding
     }
 }
 
-// Whether t is the rounding of this number.
-pub fn is_rounding(t: &[u8], number: u16) -> bool
+// The number of t where it is a rounding. No rounding has number 0: it says that t is of another kind.
+pub fn rounding_number(t: &[u8]) -> u16
     requires { ⌜ Accepted (now t) ⌝ }
-    ensures { λ r. ⌜ Says (roundingOf number (whole kinded (now (t .entry)))) r ⌝ }
+    ensures { λ r. ⌜ Number (roundingNumber (whole kinded (now (t .entry)))) 65536 r ⌝ }
 {
     if t[0] != 3 {
-        return false;
+        return 0;
     }
-    half(t, 1) == number
+    half(t, 1)
 }

@@ -1,10 +1,10 @@
 -- `price::picks::hand_pick` meets its contract: a row in hand, or none.
 use borrow.Author.Needs.{needs}
-use Rattle.price.proofs.PickLaws.{nothing-picked, hand-held, hand-picked}
+use Rattle.price.proofs.PickLaws.{nothing-picked, hand-held, hand-found, hand-picked}
 use Rattle.price.proofs.picks.hand_pick.Statement.{statement}
 use Rattle.price.proofs.picks.hand_pick.Tie as tie
 
-ruleset laws = (needs, nothing-picked, hand-held, hand-picked)
+ruleset laws = (needs, nothing-picked, hand-held, hand-found, hand-picked)
 
 pub hand-pick-spec : {M : Type 1} → statement M
 hand-pick-spec =

@@ -1,10 +1,10 @@
--- `price::picks::row_pick` meets its contract: the row is read, and its rounding looked up in the window, by the law `row-picked`.
+-- `price::picks::row_pick` meets its contract: the row is read, and its rounding where that was found, by the law `row-picked`.
 use borrow.Author.Needs.{needs}
-use Rattle.price.proofs.PickLaws.{held-kind, window-long, row-picked}
+use Rattle.price.proofs.PickLaws.{held-kind, window-long, found-held, row-picked}
 use Rattle.price.proofs.picks.row_pick.Statement.{statement}
 use Rattle.price.proofs.picks.row_pick.Tie as tie
 
-ruleset laws = (needs, held-kind, window-long, row-picked)
+ruleset laws = (needs, held-kind, window-long, found-held, row-picked)
 
 pub row-pick-spec : {M : Type 1} → statement M
 row-pick-spec =
@@ -14,6 +14,6 @@ row-pick-spec =
     (λ c. search needs)  -- part-row-of-start
     (λ c. search needs)  -- part-row-of-end
     (λ c κs. search laws)  -- row-of-requires
-    (λ c. search laws)  -- slice-aggregate-rounding-for
-    (λ c κs. search laws)  -- rounding-for-requires
+    (λ c. search laws)  -- slice-aggregate-rounding-at
+    (λ c κs. search laws)  -- rounding-at-requires
     (λ c. search laws))  -- returns
