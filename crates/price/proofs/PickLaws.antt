@@ -184,9 +184,8 @@ pub so-far-turn : {b : List ℕ} {slots : List Seen} {picks : List Pick} {n i : 
 so-far-turn {b} {slots} {picks} {n} {i} w l t {pick} h {c} d =
     record { few = omega (arith, w .few, d .most); count = ap (λ (k : ℕ). k + c) (w .count) ∙ sym (filled-next slots i t d); long = length-set picks n pick ∙ w .long; each = λ q holds. pick-turn holds (w .each q holds) l t h d }
 
-pub so-far-end : {b : List ℕ} {slots : List Seen} (w : Window) (found : Bool) {picks : List Pick} {n i : ℕ} → PicksSoFar b slots picks n i → 99 ≤ i
-    → PicksFrom b slots w found (record { rows = picks; n = n; found = found; window = w })
-so-far-end w found s h = record { each = λ q holds g. pick-end g (s .each q holds) h; told = refl; kept = refl }
+pub so-far-end : {b : List ℕ} {slots : List Seen} {picks : List Pick} {n i : ℕ} → PicksSoFar b slots picks n i → 99 ≤ i → PicksFrom b slots (record { rows = picks; n = n })
+so-far-end s h = record { each = λ q holds g. pick-end g (s .each q holds) h }
 
 -- ---- the slots that a walk has filled
 
@@ -230,7 +229,7 @@ within-filled {q = q} window holds = record { asked = q; holds = walk-within win
 
 pub within-picks : {b q : List ℕ} {ask : Ask} {w : Window} → Asking q ask → Windows b 5 (askIn q ask) w
     → {slots : List Seen} → SlotsHold (take (w .last) b) (rows (recordsLeft (take (w .last) b) (w .first))) (askIn q ask) slots
-    → {found : Bool} {r : Picks} → PicksFrom b slots w found r → PickedAre b (askIn q ask) (r .rows) (r .n)
+    → {r : Picks} → PicksFrom b slots r → PickedAre b (askIn q ask) (r .rows) (r .n)
 within-picks {q = q} {ask = ask} a window holds p = p .each (askIn q ask) (walk-within window holds) (asking-granted a)
 
 pub within-long : {b : List ℕ} {q : Question} {w : Window} → Windows b 5 q w → length (take (w .last) b) ≡ w .last

@@ -2,7 +2,6 @@
 use Prim.Native.Nat.{ℕ, _+_, _-_, _/_, _%_, _≤_}
 use mathlib.Core.Path.{_≡_}
 use mathlib.Core.List.{List, _++_, map}
-use mathlib.Core.Bool.{Bool}
 use lib.ListN.{length, take}
 use Rattle.rules.specs.Lists.{gather}
 use Rattle.rules.specs.Book.{Row, Record, rows, roundings}
@@ -88,8 +87,6 @@ pub record PickedAre (b : List ℕ) (q : Question) (picks : List Pick) (n : ℕ)
   pub is : viewsIn picks n ≡ map (viewOf (roundings (recordsLeft b 5))) (chosen (rows (recordsLeft b 5)) q)
   pub sound : All Sound (viewsIn picks n)
 
--- `r` has the rows of the slots, and what was told beside them
-pub record PicksFrom (b : List ℕ) (slots : List Seen) (w : Window) (found : Bool) (r : Picks) : Type 0 where
+-- `r` has the rows of the slots, for every question that they were filled for
+pub record PicksFrom (b : List ℕ) (slots : List Seen) (r : Picks) : Type 0 where
   pub each : (q : Question) → SlotsHold b (rows (recordsLeft b 5)) q slots → Granted (q .granted) → PickedAre b q (r .rows) (r .n)
-  pub told : r .found ≡ found
-  pub kept : r .window ≡ w

@@ -20,13 +20,10 @@ ghost use Rattle.choice.specs.Span.{Windows};
 ghost use Rattle.choice.specs.Walk.{Asking};
 ghost use Rattle.price.specs.Picks.{RoundingsIn, Held, RowFound, HandHeld, HandFound, RowPicked, HandPicked, Filled, PicksFrom, PickedAre};
 
-// The first n of the rows count. `found`, once the whole book was walked: it has a record of the article. `window`: where its rows and the
-// roundings stand.
+// The first n of the rows count.
 pub struct Picks {
     pub rows: [Pick; 99],
     pub n: usize,
-    pub found: bool,
-    pub window: Window,
 }
 
 const NONE: Pick = Pick {
@@ -84,9 +81,9 @@ fn hand_pick(b: &[u8], window: Window, hand: Hand, place: u8, found: usize) -> P
 }
 
 // The filled slots, one after the other: those that hold a row count.
-pub fn picks_from(b: &[u8], slots: [Seen; 100], window: Window, found: bool) -> Picks
+fn picks_from(b: &[u8], slots: [Seen; 100], window: Window) -> Picks
     requires { ⌜ Filled (now b) slots window ⌝ }
-    ensures { λ r. ⌜ PicksFrom (now (b .entry)) slots window found r ⌝ }
+    ensures { λ r. ⌜ PicksFrom (now (b .entry)) slots r ⌝ }
 {
     let numbers = numbers_in(b, slots);
     let to = window.to;
@@ -101,12 +98,7 @@ pub fn picks_from(b: &[u8], slots: [Seen; 100], window: Window, found: bool) -> 
         n = n + counted(hand);
         i += 1;
     }
-    Picks {
-        rows,
-        n,
-        found,
-        window,
-    }
+    Picks { rows, n }
 }
 
 // By a walk over the window of the question.
@@ -117,5 +109,5 @@ pub fn picks_within(b: &[u8], window: Window, q: &[u8], ask: Ask) -> Picks
 {
     let last = window.last;
     let slots = walk(&b[..last], window.first, q, ask);
-    picks_from(b, slots, window, false)
+    picks_from(b, slots, window)
 }

@@ -10,10 +10,10 @@ use Rattle.price.proofs.picks.picks_from.Tie as tie
 ruleset laws = (needs, filled-roundings, filled-rows, filled-held, filled-between, filled-long, slot-found, numbers-few, so-far-start, so-far-turn, so-far-end)
 
 abbrev Inv-loop : tie.InvT-loop
-Inv-loop b window found slots to places rows₀ n₀ i₀ rows n i = PicksSoFar b slots rows n i
+Inv-loop b window slots to places rows₀ n₀ i₀ rows n i = PicksSoFar b slots rows n i
 
 abbrev μ-loop : tie.MeasureT-loop
-μ-loop b window found slots to places rows₀ n₀ i₀ rows n i = 99 - i
+μ-loop b window slots to places rows₀ n₀ i₀ rows n i = 99 - i
 
 pub picks-from-spec : {M : Type 1} → statement M
 picks-from-spec =
