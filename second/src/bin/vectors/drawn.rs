@@ -4,7 +4,7 @@ use second::calls::Second;
 use second::cases::{Case, Inputs};
 use second::compare::{run, Call, Plan, Sizes, ALL_CALLS};
 
-use crate::vector::{byte_of, Vector, MOST_ROOM};
+use crate::vector::{most_room, Vector};
 
 /// Any will do, as long as it stays the same.
 const SEED: u64 = 2024;
@@ -28,8 +28,7 @@ fn longest(number: usize) -> usize {
 }
 
 pub fn vectors() -> Vec<Vector> {
-    let made = ALL_CALLS.into_iter().filter(|call| byte_of(*call).is_some());
-    made.flat_map(of_call).collect()
+    ALL_CALLS.into_iter().flat_map(of_call).collect()
 }
 
 fn of_call(call: Call) -> Vec<Vector> {
@@ -47,7 +46,7 @@ fn of_call(call: Call) -> Vec<Vector> {
         let number = usize::from(run(call, &Second, &inputs, sizes).answer.number());
         let vector = vector(call, inputs, sizes);
         let length = vector.first.len() + vector.second.len();
-        if missing[number] > 0 && length <= longest(number) && vector.room <= MOST_ROOM {
+        if missing[number] > 0 && length <= longest(number) && vector.room <= most_room(call) {
             missing[number] -= 1;
             vectors.push(vector);
         }

@@ -1,14 +1,21 @@
 //! One vector: its bytes, and the line that it has to give.
 
 use second::compare::{hex, Call};
-use second::{calendar, final_number, packaging, price, text, Written};
+use second::{calendar, calendar_list, final_number, packaging, price, text, Stretch, Written};
 
-/// What is lent is filled with this byte, and so are some bytes behind it.
+/// What is lent is filled with this byte, or each field of a record with this number, and so are
+/// some bytes or records behind it.
 const FILL: u8 = 165;
-const BEHIND: usize = 8;
+const BYTES_BEHIND: usize = 8;
+const RECORDS_BEHIND: usize = 2;
 
-/// The program lends no more.
-pub const MOST_ROOM: usize = 2_000;
+/// The program lends no more bytes, or records.
+pub fn most_room(call: Call) -> usize {
+    match call {
+        Call::CalendarList => 40,
+        _ => 2_000,
+    }
+}
 
 pub struct Vector {
     pub call: Call,
@@ -20,22 +27,21 @@ pub struct Vector {
 }
 
 /// The byte that stands for a call.
-pub fn byte_of(call: Call) -> Option<u8> {
+fn byte_of(call: Call) -> u8 {
     match call {
-        Call::Price => Some(1),
-        Call::Calendar => Some(2),
-        Call::CalendarList => None,
-        Call::FinalNumber => Some(3),
-        Call::Packaging => Some(4),
-        Call::Text => Some(5),
+        Call::Price => 1,
+        Call::Calendar => 2,
+        Call::FinalNumber => 3,
+        Call::Packaging => 4,
+        Call::Text => 5,
+        Call::CalendarList => 6,
     }
 }
 
 impl Vector {
     pub fn bytes(&self) -> Vec<u8> {
-        let byte = byte_of(self.call).expect("a call that the program makes");
         let numbers = [self.number, self.room as u32, self.first.len() as u32, self.second.len() as u32];
-        let mut bytes = vec![byte];
+        let mut bytes = vec![byte_of(self.call)];
         bytes.extend(numbers.iter().flat_map(|number| number.to_be_bytes()));
         bytes.extend(&self.first);
         bytes.extend(&self.second);
@@ -44,12 +50,12 @@ impl Vector {
 
     pub fn line(&self) -> String {
         let (first, second) = (&self.first, &self.second);
-        let mut out = vec![FILL; self.room + BEHIND];
+        let mut out = vec![FILL; self.room + BYTES_BEHIND];
         let lent = &mut out[..self.room];
         let answer = match self.call {
             Call::Price => priced(first, second, lent),
             Call::Calendar => written(calendar(first, second, self.number, lent)),
-            Call::CalendarList => unreachable!("the program does not make this call"),
+            Call::CalendarList => return format!("calendar_list {}", listed(first, second, self.number, self.room)),
             Call::FinalNumber => written(final_number(first, second, lent)),
             Call::Packaging => return format!("packaging {}", packed(first, second)),
             Call::Text => return format!("text {}", found(first, second, self.number)),
@@ -74,6 +80,18 @@ fn priced(book: &[u8], question: &[u8], lent: &mut [u8]) -> String {
 
 fn written(answer: Written) -> String {
     format!("{} {}", answer.number, answer.length)
+}
+
+fn listed(book: &[u8], question: &[u8], end: u32, room: usize) -> String {
+    let fill = Stretch { first: FILL.into(), last: FILL.into(), unit: FILL.into(), refusal: FILL, currency: [FILL; 3] };
+    let mut out = vec![fill; room + RECORDS_BEHIND];
+    let answer = calendar_list(book, question, end, &mut out[..room]);
+    let records: String = out.iter().map(stretch).collect();
+    format!("{}{records}", written(answer))
+}
+
+fn stretch(of: &Stretch) -> String {
+    format!(" {} {} {} {} {}", of.first, of.last, of.unit, of.refusal, hex(&of.currency))
 }
 
 fn packed(book: &[u8], question: &[u8]) -> String {
