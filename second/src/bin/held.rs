@@ -1,12 +1,14 @@
 //! Holds another implementation against this one.
 //!
-//! `held [--seed N] [--cases N | --seconds N] [--threads N] [--program PATH [--every N]]`
+//! `held [--seed N [--from N]] [--cases N | --seconds N] [--threads N] [--program PATH [--every N]]`
 //!
 //! Changes every byte of a small case to every value; then makes cases from the seed, which is a
 //! new one each time if none is given, runs every call of each case through both implementations,
 //! and compares answers and lent memory. Built with the feature `archive` the other implementation
 //! is the linked archive, otherwise this library itself. If the path of a calendar program is
 //! given, its output is compared as well, in every 100th case or as often as asked for.
+//!
+//! With `--from` the cases of the seed start at that one, so that one case can be run again alone.
 //!
 //! At the first difference the case is made smaller and its inputs are printed, and the exit code
 //! is 1. It is 1 as well if a number that a call can give has not come up.
@@ -30,10 +32,11 @@ const THEIRS: second::calls::Archive = second::calls::Archive;
 #[cfg(not(feature = "archive"))]
 const THEIRS: second::calls::Second = second::calls::Second;
 
-const USAGE: &str = "usage: held [--seed N] [--cases N | --seconds N] [--threads N] [--program PATH [--every N]]";
+const USAGE: &str = "usage: held [--seed N [--from N]] [--cases N | --seconds N] [--threads N] [--program PATH [--every N]]";
 
 struct Arguments {
     seed: u64,
+    from: u64,
     cases: u64,
     longest: Duration,
     threads: u64,
@@ -44,6 +47,7 @@ struct Arguments {
 fn arguments() -> Option<Arguments> {
     let mut arguments = Arguments {
         seed: fresh_seed(),
+        from: 0,
         cases: u64::MAX,
         longest: Duration::MAX,
         threads: thread::available_parallelism().map_or(1, |count| count.get() as u64),
@@ -56,6 +60,7 @@ fn arguments() -> Option<Arguments> {
         let number = value.parse();
         match word.as_str() {
             "--seed" => arguments.seed = number.ok()?,
+            "--from" => arguments.from = number.ok()?,
             "--cases" => arguments.cases = number.ok()?,
             "--seconds" => arguments.longest = Duration::from_secs(number.ok()?),
             "--threads" => arguments.threads = number.ok().filter(|&count| count > 0)?,
@@ -198,10 +203,11 @@ impl Run {
     fn take_cases(&self, arguments: &Arguments) -> Counts {
         let mut counts = Counts::default();
         while !self.differs.load(Relaxed) && self.started.elapsed() < arguments.longest {
-            let index = self.next.fetch_add(1, Relaxed);
-            if index >= arguments.cases {
+            let taken = self.next.fetch_add(1, Relaxed);
+            if taken >= arguments.cases {
                 break;
             }
+            let index = arguments.from + taken;
             let case = Case::generate(arguments.seed, index);
             let in_turn = index % arguments.every == 0;
             let other_program = arguments.program.as_ref().filter(|_| in_turn);
