@@ -74,3 +74,11 @@ pub extern "C" fn rafttwine_text(asked: &[u8], fallback: &[u8], number: u32) -> 
 {
     texts::text_answer(asked, fallback, number)
 }
+
+// The library's version: major times 10,000, minor times 100, patch. A program that loads the library can hold it against its header.
+#[no_mangle]
+pub extern "C" fn rafttwine_version() -> u32
+    ensures { λ r. ⌜ r ≡ 10100 ⌝ }
+{
+    10_100
+}
