@@ -6,23 +6,45 @@ A price in five lines, over a book made on the spot:
 >>> from rafttwine import Article, Cents, Level, Percent, PriceRow, book, price, question
 >>> oak = PriceRow("A1", Level.SURCHARGE, Percent("12.50"), condition="OAK")
 >>> table = book(Article("A1"), PriceRow("A1", Level.BASE, Cents(10_000)), oak)
->>> price(table, question("A1", date(2024, 6, 30), granted=["oak"])).unit
-11250
+>>> print(price(table, question("A1", date(2024, 6, 30), granted=["oak", "castor"])))
+base       no text       100.00 EUR
+surcharge  no text  oak   12.50 EUR
+-----------------------------------
+One piece                112.50 EUR
+No price line for castor
 
-Books, questions and text books are `bytes`; `book`, `question` and `text_book` make them of readable values, and a book that was
-packed elsewhere is read from its file. A call returns its answer, or raises `Refused` with the reason. Amounts are whole cents.
+Books, questions and text books are bytes; `book`, `question` and `text_book` make them of readable values, and `read_book`,
+`read_question` and `read_text_book` make readable values of them. A call takes `bytes`, or any contiguous buffer of bytes such as a
+mapped file, where it lies. Amounts are whole cents. `python3 -m rafttwine BOOK` lists the records of a book.
 
-The library is the file that the environment variable RAFTTWINE_LIBRARY names, or else the installed librafttwine.so.1.
+Two rows are right by the layout and do what hardly anybody wants, so making one warns (`RowWarning`):
+
+- a condition with a small letter is never granted: granted names are raised to capitals, those in rows stand as they are;
+- a discount with a positive value raises the price: values are added with their sign.
+
+Errors: a call that has no answer raises `Refused`, with the reason in `refusal`. A value of a wrong type is a TypeError and one that
+the layout does not allow a ValueError, both with a message of the form `PriceRow.article: 41 bytes, and at most 40 are allowed`. Bytes
+that cannot be read are `BrokenBytes`, a ValueError with record and byte. A library that is not there, or does not fit, is an OSError.
+
+The library is looked for when it is first needed: the file that the environment variable RAFTTWINE_LIBRARY names; else
+librafttwine.so.1 in the package's folder, or beside that; else in target/lib of the tree that the package stands in, where
+tools/shared-library makes it; else in the system.
 """
 from .answers import DayPrice, Line, Packaging, Price, Source, Stretch, Text
-from .books import Article, PackagingRow, PriceRow, Rounding, Scheme, book, text_book
-from .calls import calendar, calendar_list, final_number, packaging, price, text
-from .questions import Property, question
+from .books import book, read_book
+from .calls import calendar, calendar_list, final_number, packaging, price, text, version
+from .cartons import PackagingRow
+from .packing import BrokenBytes
+from .questions import Property, Question, question, read_question
+from .records import Article, PriceRow, Rounding, Scheme
 from .refusals import Refusal, Refused
-from .words import Cents, Level, Percent, Rule, Sort, Way
+from .release import __version__
+from .texts import TextRow, read_text_book, text_book
+from .words import Cents, Level, NoDay, Percent, RowWarning, Rule, Sort, Way
 
 __all__ = [
-    "Article", "Cents", "DayPrice", "Level", "Line", "Packaging", "PackagingRow", "Percent", "Price", "PriceRow", "Property",
-    "Refusal", "Refused", "Rounding", "Rule", "Scheme", "Sort", "Source", "Stretch", "Text", "Way", "book", "calendar",
-    "calendar_list", "final_number", "packaging", "price", "question", "text", "text_book",
+    "Article", "BrokenBytes", "Cents", "DayPrice", "Level", "Line", "NoDay", "Packaging", "PackagingRow", "Percent", "Price", "PriceRow",
+    "Property", "Question", "Refusal", "Refused", "Rounding", "RowWarning", "Rule", "Scheme", "Sort", "Source", "Stretch", "Text",
+    "TextRow", "Way", "__version__", "book", "calendar", "calendar_list", "final_number", "packaging", "price", "question", "read_book",
+    "read_question", "read_text_book", "text", "text_book", "version",
 ]

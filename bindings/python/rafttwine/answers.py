@@ -1,4 +1,4 @@
-"""What the calls answer. All amounts are in cents."""
+"""What the calls answer, and how it reads. All amounts are in cents."""
 from __future__ import annotations
 
 from dataclasses import dataclass
@@ -6,29 +6,44 @@ from datetime import date
 from enum import IntEnum
 from typing import Optional, Union
 
+from .lending import Lent
 from .refusals import Refusal
-from .words import Level
+from .words import Level, money
 
 
 @dataclass(frozen=True)
 class Line:
-    """A line of a price. `text` is the number of its text; `place` that of the granted condition that brought it, 0 for none."""
+    """A line of a price. `text` is the number of its text; `place` that of the granted condition that brought it, 0 for none, and
+    `granted` that condition's name as it was asked."""
 
     text: int
     level: Level
     place: int
     amount: int
+    granted: str = ""
 
 
 @dataclass(frozen=True)
 class Price:
-    """An itemised price, of one piece and of the quantity asked for. `unused` has the places of granted names without a line."""
+    """An itemised price, of one piece and of the quantity asked for. `unused` has the places of granted names without a line, from 1,
+    and `unused_names` those names. Printed, it is the table that a salesperson reads."""
 
     unit: int
     total: int
     currency: str
     lines: tuple[Line, ...]
     unused: tuple[int, ...]
+    quantity: int = 1
+    unused_names: tuple[str, ...] = ()
+
+    def __str__(self) -> str:
+        return self.table()
+
+    def table(self, asked: Optional[Lent] = None, fallback: Optional[Lent] = None, encoding: str = "latin-1") -> str:
+        """The lines with their texts from the asked text book, or else from the fallback, if there is one. A text that is in neither
+        shows as its number, and so do all if a text book is broken, which the last line then says."""
+        from .showing import price_table  # here, since it asks the library, whose calls make prices
+        return price_table(self, asked, fallback, encoding)
 
 
 @dataclass(frozen=True)
@@ -38,6 +53,9 @@ class DayPrice:
     unit: int
     currency: str
 
+    def __str__(self) -> str:
+        return f"{money(self.unit)} {self.currency}"
+
 
 @dataclass(frozen=True)
 class Stretch:
@@ -46,6 +64,10 @@ class Stretch:
     first: date
     last: date
     outcome: Union[DayPrice, Refusal]
+
+    def __str__(self) -> str:
+        days = str(self.first) if self.first == self.last else f"{self.first} to {self.last}"
+        return f"{days}: {self.outcome}"
 
 
 @dataclass(frozen=True)

@@ -1,4 +1,4 @@
-"""The calls: bytes in, an answer out, or `Refused` with the reason."""
+"""The calls: bytes in, an answer out, or `Refused` with the reason. What is lent may be any contiguous buffer of bytes."""
 from __future__ import annotations
 
 from ctypes import c_uint8
@@ -6,8 +6,12 @@ from datetime import date
 from struct import iter_unpack
 from typing import Any, Optional, Union
 
+from . import checks
 from .answers import DayPrice, Line, Packaging, Price, Source, Stretch, Text
-from .library import StretchRecord, call
+from .finding import version_of
+from .lending import Lent, part
+from .library import StretchRecord, call, library
+from .questions import asked_in
 from .refusals import Refusal, Refused
 from .words import Level, day_number, day_of
 
@@ -20,6 +24,12 @@ STRETCH_BYTES = 20
 MOST_STRETCHES = 1096
 MOST_NUMBER_BYTES = 1256
 
+# Room for each, to be written by the library.
+LinesRoom = c_uint8 * (MOST_LINES * LINE_BYTES)
+StretchesRoom = c_uint8 * (MOST_STRETCHES * STRETCH_BYTES)
+ListRoom = StretchRecord * MOST_STRETCHES
+NumberRoom = c_uint8 * MOST_NUMBER_BYTES
+
 
 def _accepted(answer: Any) -> Any:
     if answer.number != 0:
@@ -27,40 +37,42 @@ def _accepted(answer: Any) -> Any:
     return answer
 
 
-def price(book: bytes, question: bytes) -> Price:
+def price(book: Lent, question: Lent) -> Price:
     """The itemised price of the article asked for."""
-    lines = (c_uint8 * (MOST_LINES * LINE_BYTES))()
+    lines = LinesRoom()
     answer = _accepted(call("price", book, question, lines))
-    written = bytes(lines)[:answer.lines * LINE_BYTES]
+    quantity, names = asked_in(question)
+    unused = tuple(place for place in names if place and answer.unused >> place - 1 & 1)
     return Price(
         unit=answer.unit, total=answer.total, currency=_letters(answer.currency),
-        lines=tuple(Line(text, Level(level), place, amount) for text, level, place, amount in iter_unpack(LINE, written)),
-        unused=tuple(bit + 1 for bit in range(32) if answer.unused >> bit & 1),
+        lines=tuple(Line(text, Level(level), place, amount, names[place])
+                    for text, level, place, amount in iter_unpack(LINE, bytes(lines)[:answer.lines * LINE_BYTES])),
+        unused=unused, quantity=quantity, unused_names=tuple(names[place] for place in unused),
     )
 
 
-def calendar(book: bytes, question: bytes, end: date) -> tuple[Stretch, ...]:
+def calendar(book: Lent, question: Lent, end: date) -> tuple[Stretch, ...]:
     """The price calendar from the question's day to `end`: every longest stretch of days with one outcome, in the order of days."""
-    out = (c_uint8 * (MOST_STRETCHES * STRETCH_BYTES))()
-    answer = _accepted(call("calendar", book, question, day_number(end), out))
+    out = StretchesRoom()
+    answer = _accepted(call("calendar", book, question, _end("calendar", end), out))
     return tuple(_stretch(*fields) for fields in iter_unpack(STRETCH, bytes(out)[:answer.length]))
 
 
-def calendar_list(book: bytes, question: bytes, end: date) -> tuple[Stretch, ...]:
+def calendar_list(book: Lent, question: Lent, end: date) -> tuple[Stretch, ...]:
     """The same calendar, handed over by the library as a list of records and not as bytes."""
-    out = (StretchRecord * MOST_STRETCHES)()
-    answer = _accepted(call("calendar_list", book, question, day_number(end), out))
+    out = ListRoom()
+    answer = _accepted(call("calendar_list", book, question, _end("calendar_list", end), out))
     return tuple(_stretch(one.first, one.last, one.refusal, bytes(one.currency), one.unit) for one in out[:answer.length])
 
 
-def final_number(book: bytes, question: bytes) -> str:
+def final_number(book: Lent, question: Lent) -> str:
     """The final article number: the base number with the properties' values."""
-    out = (c_uint8 * MOST_NUMBER_BYTES)()
+    out = NumberRoom()
     answer = _accepted(call("final_number", book, question, out))
     return _letters(out[:answer.length])
 
 
-def packaging(book: bytes, question: bytes) -> Packaging:
+def packaging(book: Lent, question: Lent) -> Packaging:
     """The packaging data of the plain article, with what the granted conditions add."""
     answer = _accepted(call("packaging", book, question))
     values = [value if answer.present >> bit & 1 else None for bit, value in enumerate(answer.values)]
@@ -70,12 +82,22 @@ def packaging(book: bytes, question: bytes) -> Packaging:
     return Packaging(*(*values, gross, *units))
 
 
-def text(asked: bytes, fallback: bytes, number: int) -> Text:
+def text(asked: Lent, fallback: Lent, number: int) -> Text:
     """The text of a line, from the asked text book or else from the fallback."""
+    checks.whole_number("text.number", number, 0, checks.TOP_32)
     answer = _accepted(call("text", asked, fallback, number))
     source = Source(answer.book)
-    book = asked if source is Source.ASKED else fallback
-    return Text(source, answer.place, memoryview(book)[answer.place:answer.place + answer.length])
+    return Text(source, answer.place, part(asked if source is Source.ASKED else fallback, answer.place, answer.length))
+
+
+def version() -> str:
+    """The version of the library that is loaded, as 1.1.0. That of the package is `__version__`."""
+    return version_of(library())
+
+
+def _end(called: str, end: date) -> int:
+    checks.day(f"{called}.end", end)
+    return day_number(end)
 
 
 def _stretch(first: int, last: int, refusal: int, currency: bytes, unit: int) -> Stretch:

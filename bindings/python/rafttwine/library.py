@@ -1,12 +1,12 @@
 """The shared library by ctypes: its structs and calls as include/rafttwine.h has them."""
 from __future__ import annotations
 
-import os
-from ctypes import CDLL, POINTER, Array, Structure, c_char_p, c_int64, c_size_t, c_uint8, c_uint32, c_uint64
+from ctypes import CDLL, POINTER, Array, Structure, c_int64, c_size_t, c_uint8, c_uint32, c_uint64, c_void_p
 from functools import lru_cache
 from typing import Any
 
-INSTALLED = "librafttwine.so.1"
+from .finding import found
+from .lending import Buffer, borrow, give_back
 
 
 class PriceAnswer(Structure):
@@ -30,39 +30,53 @@ class TextAnswer(Structure):
     _fields_ = [("place", c_uint64), ("length", c_uint64), ("number", c_uint8), ("book", c_uint8)]
 
 
-INPUT = [c_char_p, c_size_t]
-OUTPUT = [POINTER(c_uint8), c_size_t]
+# What is lent for reading, a number, and what is lent for writing.
+READ = [c_void_p, c_size_t]
+END = NUMBER = [c_uint32]
+BYTES = [POINTER(c_uint8), c_size_t]
 LIST = [POINTER(StretchRecord), c_size_t]
 
-# What each call returns and takes.
-CALLS: dict[str, tuple[type, list[Any]]] = {
-    "price": (PriceAnswer, [*INPUT, *INPUT, *OUTPUT]),
-    "calendar": (Written, [*INPUT, *INPUT, c_uint32, *OUTPUT]),
-    "calendar_list": (Written, [*INPUT, *INPUT, c_uint32, *LIST]),
-    "final_number": (Written, [*INPUT, *INPUT, *OUTPUT]),
-    "packaging": (PackagingAnswer, [*INPUT, *INPUT]),
-    "text": (TextAnswer, [*INPUT, *INPUT, c_uint32]),
+# What each call returns, and what it takes, by name.
+CALLS: dict[str, tuple[Any, dict[str, list[Any]]]] = {
+    "price": (PriceAnswer, {"book": READ, "question": READ, "lines": BYTES}),
+    "calendar": (Written, {"book": READ, "question": READ, "end": END, "out": BYTES}),
+    "calendar_list": (Written, {"book": READ, "question": READ, "end": END, "out": LIST}),
+    "final_number": (Written, {"book": READ, "question": READ, "out": BYTES}),
+    "packaging": (PackagingAnswer, {"book": READ, "question": READ}),
+    "text": (TextAnswer, {"asked": READ, "fallback": READ, "number": NUMBER}),
+    "version": (c_uint32, {}),
 }
 
 
 @lru_cache(maxsize=None)
 def library() -> CDLL:
-    return CDLL(os.environ.get("RAFTTWINE_LIBRARY", INSTALLED))
+    """The library, which is looked for when it is first needed."""
+    return found(CALLS)
 
 
 @lru_cache(maxsize=None)
 def function(name: str) -> Any:
-    """A call of the library, which is looked for when it is first needed; it is an error if the library lacks it."""
-    found = getattr(library(), f"rafttwine_{name}")
-    found.restype, found.argtypes = CALLS[name]
-    return found
+    call = getattr(library(), f"rafttwine_{name}")
+    call.restype, taken = CALLS[name]
+    call.argtypes = [one for kind in taken.values() for one in kind]
+    return call
 
 
 def call(name: str, *words: Any) -> Any:
-    """Calls the library. Bytes to be read and arrays to be written are handed over with their length behind them."""
+    """Calls the library. What it reads and what it writes is handed over with its length behind it."""
     taken: list[Any] = []
-    for word in words:
-        taken.append(word)
-        if isinstance(word, (bytes, Array)):
-            taken.append(len(word))
-    return function(name)(*taken)
+    borrowed: list[Buffer] = []
+    try:
+        for (called, kind), word in zip(CALLS[name][1].items(), words):
+            if type(word) is bytes or isinstance(word, Array) and kind is not READ:
+                taken += (word, len(word))
+            elif kind is READ:
+                buffer = borrow(f"{name}.{called}", word)
+                borrowed.append(buffer)
+                taken += (buffer.address, buffer.length)
+            else:
+                taken.append(word)
+        return function(name)(*taken)
+    finally:
+        for buffer in borrowed:
+            give_back(buffer)

@@ -1,9 +1,7 @@
-"""How fields become bytes: big-endian numbers, names with their length in front, a whole with its length and version in front."""
+"""How fields become bytes, and how bytes are read field by field."""
 from __future__ import annotations
 
-from typing import Iterable
-
-VERSION = 1
+from typing import Any, Optional, Protocol
 
 
 def unsigned(value: int, width: int) -> bytes:
@@ -22,6 +20,66 @@ def name(text: str) -> bytes:
     return unsigned(len(text), 1) + latin_1(text)
 
 
-def whole(parts: Iterable[bytes]) -> bytes:
-    body = unsigned(VERSION, 1) + b"".join(parts)
-    return unsigned(4 + len(body), 4) + body
+class Field(Protocol):
+    """A kind of field: it checks a value, packs a checked one, and reads one back, which is then checked."""
+
+    def check(self, where: str, value: Any) -> None: ...
+
+    def packed(self, value: Any) -> bytes: ...
+
+    def read(self, where: str, cursor: Cursor) -> Any: ...
+
+
+class BrokenBytes(ValueError):
+    """Bytes that are no book, question or text book: in which record, from 1 (None: in none), at which byte, from 0, and what is wrong."""
+
+    def __init__(self, record: Optional[int], byte: int, wrong: str) -> None:
+        super().__init__(record, byte, wrong)
+        self.record, self.byte, self.wrong = record, byte, wrong
+
+    def __str__(self) -> str:
+        place = f"byte {self.byte}" if self.record is None else f"record {self.record}, byte {self.byte}"
+        return f"{place}, {self.wrong}"
+
+
+class Cursor:
+    """A place in bytes that are read field by field, up to an end: that of the bytes, or that of a record."""
+
+    def __init__(self, data: bytes) -> None:
+        self.data, self.at, self.end = data, 0, len(data)
+        self.record: Optional[int] = None
+
+    def take(self, count: int) -> bytes:
+        if count > self.end - self.at:
+            raise ValueError(f"{count:,} bytes should follow, and {self.end - self.at:,} are left")
+        self.at += count
+        return self.data[self.at - count:self.at]
+
+    def unsigned(self, width: int) -> int:
+        return int.from_bytes(self.take(width), "big")
+
+    def signed(self, width: int) -> int:
+        return int.from_bytes(self.take(width), "big", signed=True)
+
+    def field(self, where: str, field: Field) -> Any:
+        """The next field, read and checked."""
+        at = self.at
+        try:
+            value = field.read(where, self)
+        except BrokenBytes:
+            raise
+        except ValueError as error:
+            raise self.broken(at, f"{where}: {error}") from None
+        try:
+            field.check(where, value)
+        except ValueError as error:
+            raise self.broken(at, str(error)) from None
+        return value
+
+    def filled(self, where: str) -> None:
+        """It is an error if something is left."""
+        if self.at < self.end:
+            raise self.broken(self.at, f"{where}: {self.end - self.at:,} bytes are left over behind its last field")
+
+    def broken(self, at: int, wrong: str) -> BrokenBytes:
+        return BrokenBytes(self.record, at, wrong)

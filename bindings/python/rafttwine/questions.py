@@ -1,36 +1,179 @@
-"""Questions of readable values. As with books, the library judges what is a question and what is not."""
+"""Questions of readable values, and back."""
 from __future__ import annotations
 
+import re
 from dataclasses import dataclass
 from datetime import date
-from typing import Optional, Sequence
+from typing import Any, ClassVar, Optional, Sequence
 
-from .packing import latin_1, name, unsigned, whole
-from .words import Sort, day_number
+from . import packing
+from .checks import told, unfit
+from .fields import Day, Flag, Letters, Name, Number, Word
+from .laid import Clash, Laid
+from .lending import Lent, whole_bytes
+from .packing import Cursor, Field, unsigned
+from .records import ARTICLE, CURRENCY
+from .wholes import VERSION, opened, whole
+from .words import Sort
 
 VALUED, HIDDEN, UNSELECTED = 0, 1, 2
-ANY_CURRENCY = bytes(3)
+MOST_WIDTH = 30
+MOST_LISTED = 32
+# In a question's bytes: where its article stands, and how many bytes lie between that and the quantity.
+AT_ARTICLE, BEFORE_QUANTITY = 5, 8
+# What a name may hold and a value may not: both spaces, and the backslash.
+NOT_IN_VALUES = re.compile(r"[ \xa0\\]")
+
+
+class PropertyValue(Name):
+    """A value, or None, which is packed as an empty one."""
+
+    def check(self, where: str, value: object) -> None:
+        if value is not None:
+            super().check(where, value)
+
+    def packed(self, value: Optional[str]) -> bytes:
+        return packing.name(value or "")
 
 
 @dataclass(frozen=True)
-class Property:
-    """A property of the planned piece, `width` characters wide in the final article number. With no value nothing is selected."""
+class Property(Laid):
+    """A property of the planned piece, `width` characters wide in the final article number. Without a value, it is hidden or nothing is
+    selected. A value has no spaces and no backslashes, and is no longer than the width."""
 
     width: int
     value: Optional[str] = None
     hidden: bool = False
 
+    LAYOUT: ClassVar[tuple[tuple[str, Field], ...]] = (
+        ("width", Number(1, 1, MOST_WIDTH)), ("state", Number(1, VALUED, UNSELECTED)), ("value", PropertyValue(0, MOST_WIDTH)),
+    )
+
+    def __post_init__(self) -> None:
+        Flag().check("Property.hidden", self.hidden)
+        super().__post_init__()
+
+    @property
+    def state(self) -> int:
+        return HIDDEN if self.hidden else UNSELECTED if self.value is None else VALUED
+
+    def clash(self) -> Clash:
+        if self.value is None:
+            return None
+        if self.hidden:
+            return "value", f"a hidden property has none, and {told(self.value)} is given"
+        found = NOT_IN_VALUES.search(self.value)
+        if found:
+            return "value", f"character {found.start() + 1} is {found[0]!r}, and a value has no spaces and no backslashes"
+        if not 1 <= len(self.value) <= self.width:
+            return "value", f"{len(self.value)} bytes, and 1 to {self.width} are allowed, its width"
+        return None
+
+    @classmethod
+    def settle(cls, values: dict[str, Any]) -> Clash:
+        state = values.pop("state")
+        values["hidden"] = state == HIDDEN
+        if state != VALUED:
+            if values["value"]:
+                return "value", f"{told(values['value'])} stands there, and by its state the property has none"
+            values["value"] = None
+        return None
+
+
+class Part:
+    """A property as a field of a question."""
+
+    def check(self, where: str, value: object) -> None:
+        if not isinstance(value, Property):
+            raise unfit(where, "Property is wanted", value)
+
+    def packed(self, value: Property) -> bytes:
+        return value.body()
+
+    def read(self, where: str, cursor: Cursor) -> Property:
+        found: Property = Property.read(cursor)
+        return found
+
+
+class Several:
+    """At most 32 of a kind, with their count in a byte in front."""
+
+    def __init__(self, word: str, words: str, kind: Field) -> None:
+        self.word, self.words, self.kind = word, words, kind
+
+    def check(self, where: str, value: object) -> None:
+        if not isinstance(value, (list, tuple)):
+            raise unfit(where, f"a list of {self.words} is wanted", value)
+        if len(value) > MOST_LISTED:
+            raise ValueError(f"{where}: {len(value):,} {self.words}, and at most {MOST_LISTED} are allowed")
+        for place, one in enumerate(value, 1):
+            self.kind.check(f"{where}: {self.word} {place}", one)
+
+    def packed(self, value: Sequence[Any]) -> bytes:
+        return unsigned(len(value), 1) + b"".join(map(self.kind.packed, value))
+
+    def read(self, where: str, cursor: Cursor) -> tuple[Any, ...]:
+        return tuple(cursor.field(f"{where}: {self.word} {place}", self.kind) for place in range(1, cursor.unsigned(1) + 1))
+
+
+@dataclass(frozen=True)
+class Question(Laid):
+    """A question by its values: what `read_question` reads. A granted condition's place is its position in `granted`, from 1."""
+
+    article: str
+    day: date
+    quantity: int = 1
+    granted: Sequence[str] = ()
+    properties: Sequence[Property] = ()
+    sort: Sort = Sort.SALE
+    currency: Optional[str] = None
+
+    LAYOUT: ClassVar[tuple[tuple[str, Field], ...]] = (
+        ("article", ARTICLE), ("sort", Word(Sort)), ("currency", Letters(f"{CURRENCY}, or None for any")), ("day", Day()),
+        ("quantity", Number(4, 1, 100_000)), ("granted", Several("name", "names", Name(1, 20))),
+        ("properties", Several("property", "properties", Part())),
+    )
+
+    def __post_init__(self) -> None:
+        super().__post_init__()
+        object.__setattr__(self, "granted", tuple(self.granted))
+        object.__setattr__(self, "properties", tuple(self.properties))
+
+    @classmethod
+    def called(cls) -> str:
+        """By the function that makes most of them."""
+        return "question"
+
     def packed(self) -> bytes:
-        state = HIDDEN if self.hidden else UNSELECTED if self.value is None else VALUED
-        return unsigned(self.width, 1) + unsigned(state, 1) + name(self.value or "")
+        """The bytes that are lent to a call."""
+        return whole("question", (self.body(),))
 
 
 def question(article: str, day: date, quantity: int = 1, granted: Sequence[str] = (), properties: Sequence[Property] = (),
              sort: Sort = Sort.SALE, currency: Optional[str] = None) -> bytes:
-    """Asks about an article on a day. A granted condition's place is its position in `granted`, from 1."""
-    return whole((
-        name(article), sort.value, latin_1(currency) if currency else ANY_CURRENCY,
-        unsigned(day_number(day), 4), unsigned(quantity, 4),
-        unsigned(len(granted), 1), *(name(condition) for condition in granted),
-        unsigned(len(properties), 1), *(one.packed() for one in properties),
-    ))
+    """Asks about an article on a day. A granted condition's place is its position in `granted`, from 1; small letters count as
+    capitals."""
+    return Question(article, day, quantity, granted, properties, sort, currency).packed()
+
+
+def read_question(data: Lent) -> Question:
+    """A question by its values; its `packed` gives the same bytes again. What is no question is BrokenBytes."""
+    cursor = opened("question", whole_bytes("read_question.data", data), most=None)
+    found: Question = Question.read(cursor)
+    cursor.filled("question")
+    return found
+
+
+def asked_in(data: Lent) -> tuple[int, dict[int, str]]:
+    """The quantity and the granted names by their places, of a question that the library has accepted; the place 0 is no name.
+    Only what stands before them is passed over, so this is quick. In a question of a later version only places are known."""
+    data = whole_bytes("question", data)
+    at = AT_ARTICLE + 1 + data[AT_ARTICLE] + BEFORE_QUANTITY
+    quantity, names = int.from_bytes(data[at:at + 4], "big"), {0: ""}
+    if data[AT_ARTICLE - 1] != VERSION:
+        return quantity, {**names, **{place: f"place {place}" for place in range(1, MOST_LISTED + 1)}}
+    at += 5
+    for place in range(1, data[at - 1] + 1):
+        names[place] = data[at + 1:at + 1 + data[at]].decode("latin-1")
+        at += 1 + data[at]
+    return quantity, names

@@ -2,10 +2,14 @@
 from __future__ import annotations
 
 from enum import IntEnum
+from typing import Any, Optional, Union
+
+MOST_NUMBER = 255
 
 
 class Refusal(IntEnum):
-    """The numbers that a call refuses with."""
+    """The numbers that a call refuses with. A later library may have more of them: `Refusal(13)` is then a refusal too, with 13 as
+    its value, though it is not listed here and its reason is not known."""
 
     BROKEN_BOOK = 1
     BROKEN_QUESTION = 2
@@ -20,11 +24,35 @@ class Refusal(IntEnum):
     UNFIT_PACKAGING = 11
     NO_TEXT = 12
 
+    @classmethod
+    def _missing_(cls, value: object) -> Optional[Refusal]:
+        if isinstance(value, bool) or not isinstance(value, int) or not 1 <= value <= MOST_NUMBER:
+            return None
+        later = int.__new__(cls, value)
+        later._name_, later._value_ = f"REFUSAL_{value}", value
+        return _LATER.setdefault(value, later)
+
+    def __reduce_ex__(self, protocol: Any) -> Any:
+        """By its value in every version of Python; some would look for its name, which a later one does not have."""
+        return Refusal, (self.value,)
+
     @property
     def reason(self) -> str:
         """The refusal in words."""
-        return _REASONS[self]
+        return _REASONS.get(self, "this package does not know the reason, the library is a later one")
 
+    def __str__(self) -> str:
+        return f"no price: {self.reason}" if self in _NO_PRICE else self.reason
+
+    def __format__(self, form: str) -> str:
+        return format(str(self), form)
+
+
+# Refusals with a number that this package does not know, so that there is one of each.
+_LATER: dict[int, Refusal] = {}
+
+# What a day in a calendar can have in the place of a price.
+_NO_PRICE = (Refusal.NO_BASE_LINE, Refusal.MIXED_CURRENCIES, Refusal.TOTAL_OUT_OF_RANGE)
 
 _REASONS = {
     Refusal.BROKEN_BOOK: "the price book, or one of the text books, is not laid out as such a book",
@@ -45,6 +73,10 @@ _REASONS = {
 class Refused(Exception):
     """A call that was refused; `refusal` says why."""
 
-    def __init__(self, refusal: Refusal) -> None:
-        super().__init__(f"{refusal.reason} (refusal {refusal.value})")
-        self.refusal = refusal
+    def __init__(self, refusal: Union[Refusal, int]) -> None:
+        self.refusal = Refusal(refusal)
+        # The refusal and not the sentence, so that a copy, or one that comes from another process, is made of it again.
+        super().__init__(self.refusal)
+
+    def __str__(self) -> str:
+        return f"{self.refusal.reason} (refusal {self.refusal.value})"

@@ -22,14 +22,6 @@ class BuildingTest(unittest.TestCase):
                          b"\x03\x02\0\x01W\x03\x01\0\x04\x02\0")
         self.assertEqual(text_book({1: b"a\0"}), b"\0\0\0\x0d\x01\0\0\0\x01\0\x02a\0")
 
-    def test_what_does_not_fit_is_an_error(self) -> None:
-        with self.assertRaises(ValueError):
-            Percent("0.001").hundredths()
-        with self.assertRaises(OverflowError):
-            question("A1", date.max, quantity=1 << 32)
-        with self.assertRaises(UnicodeEncodeError):
-            book(Article("\N{EURO SIGN}"))
-
     def test_each_refusal_has_its_number_and_words(self) -> None:
         self.assertEqual([refusal.value for refusal in Refusal], list(range(1, 13)))
         for refusal in Refusal:

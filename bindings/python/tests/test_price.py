@@ -9,10 +9,11 @@ class PriceTest(CallTest):
         answer = price(BOOK, QUESTIONS["june_oak"])
         self.assertEqual(answer.lines, (
             Line(TABLE, Level.BASE, 0, 10_000),
-            Line(OAK, Level.SURCHARGE, 1, 1_250),
+            Line(OAK, Level.SURCHARGE, 1, 1_250, "oak"),
             Line(DISCOUNT, Level.DISCOUNT, 0, -375),
         ))
-        self.assertEqual((answer.unit, answer.total, answer.currency, answer.unused), (10_875, 3 * 10_875, "EUR", (2,)))
+        self.assertEqual((answer.unit, answer.total, answer.currency, answer.quantity), (10_875, 3 * 10_875, "EUR", 3))
+        self.assertEqual((answer.unused, answer.unused_names), ((2,), ("ash",)))
 
     def test_other_sums_worked_by_hand(self) -> None:
         for name, amounts in {
