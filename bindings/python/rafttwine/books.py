@@ -13,6 +13,7 @@ from .wholes import opened, whole
 
 Record = Union[Article, PriceRow, Rounding, PackagingRow, Scheme]
 KINDS = {kind.KIND: kind for kind in (Article, PriceRow, Rounding, PackagingRow, Scheme)}
+LENGTH, KIND = Number(2), Number(1, min(KINDS), max(KINDS))
 RECORD = f"{listed(kind.__name__ for kind in KINDS.values())} is wanted"
 
 
@@ -41,11 +42,12 @@ def read_records(where: str, data: Lent) -> Iterator[tuple[int, Record]]:
     while cursor.at < len(cursor.data):
         start, place = cursor.at, place + 1
         cursor.record, cursor.end = place, len(cursor.data)
-        length = cursor.field("record.length", Number(2))
-        if length > cursor.end - cursor.at:
-            raise cursor.broken(start, f"record.length: {length:,} bytes should follow, and {cursor.end - cursor.at:,} are left")
-        cursor.end = cursor.at + length
-        kind = KINDS[cursor.field("record.kind", Number(1, min(KINDS), max(KINDS)))]
+        length = cursor.field("record.length", LENGTH)
+        try:
+            cursor.end = cursor.end_of(length)
+        except ValueError as error:
+            raise cursor.broken(start, f"record.length: {error}") from None
+        kind = KINDS[cursor.field("record.kind", KIND)]
         record = kind.read(cursor)
         cursor.filled(kind.__name__)
         yield start, record

@@ -73,6 +73,10 @@ def without(where: str, value: str, refused: re.Pattern[str], allowed: str) -> N
         raise ValueError(f"{where}: character {found.start() + 1} is {found[0]!r} (U+{ord(found[0]):04X}), and {allowed}")
 
 
+def counted(count: int) -> str:
+    return f"{count:,} byte{'' if count == 1 else 's'}"
+
+
 def size(where: str, length: int, least: int, most: int) -> None:
     if length < least:
         raise ValueError(f"{where}: it is empty, and {least} to {most} bytes are allowed")

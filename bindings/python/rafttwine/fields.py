@@ -9,21 +9,20 @@ from typing import Optional, Sequence, Union
 
 from . import checks, packing
 from .packing import Cursor
-from .words import NoDay, day_number, day_of, is_day
+from .words import NoDay, day_number, day_or_number
 
 _THREE_CAPITALS = re.compile("[A-Z]{3}")
 
 
-@dataclass(frozen=True)
 class Number:
-    """A number without a sign."""
+    """A number without a sign, as great as its bytes allow or at most as great as said."""
 
-    width: int
-    least: int = 0
-    most: Optional[int] = None
+    def __init__(self, width: int, least: int = 0, most: Optional[int] = None) -> None:
+        self.width, self.least = width, least
+        self.most = (1 << 8 * width) - 1 if most is None else most
 
     def check(self, where: str, value: object) -> None:
-        checks.whole_number(where, value, self.least, (1 << 8 * self.width) - 1 if self.most is None else self.most)
+        checks.whole_number(where, value, self.least, self.most)
 
     def packed(self, value: int) -> bytes:
         return packing.unsigned(value, self.width)
@@ -150,10 +149,10 @@ class Day:
         return packing.unsigned(day_number(value), 4)
 
     def read(self, where: str, cursor: Cursor) -> date:
-        number = cursor.unsigned(4)
-        if not is_day(number):
-            raise ValueError(f"{number} is no day")
-        return day_of(number)
+        day = day_or_number(cursor.unsigned(4))
+        if isinstance(day, NoDay):
+            raise ValueError(f"{day.number} is no day")
+        return day
 
 
 class RowDay:
@@ -167,5 +166,4 @@ class RowDay:
         return packing.unsigned(value.number if isinstance(value, NoDay) else day_number(value), 4)
 
     def read(self, where: str, cursor: Cursor) -> Union[date, NoDay]:
-        number = cursor.unsigned(4)
-        return day_of(number) if is_day(number) else NoDay(number)
+        return day_or_number(cursor.unsigned(4))

@@ -16,10 +16,15 @@ class Laid:
     """Made of values, it checks them; read from bytes, it says which byte is wrong. A subclass is a dataclass and lists its fields."""
 
     LAYOUT: ClassVar[tuple[tuple[str, Field], ...]]
+    # The fields with what errors call them, put together once.
+    FIELDS: ClassVar[tuple[tuple[str, str, Field], ...]]
+
+    def __init_subclass__(cls) -> None:
+        cls.FIELDS = tuple((name, f"{cls.called()}.{name}", field) for name, field in cls.LAYOUT)
 
     def __post_init__(self) -> None:
-        for name, field in self.LAYOUT:
-            field.check(f"{self.called()}.{name}", getattr(self, name))
+        for name, where, field in self.FIELDS:
+            field.check(where, getattr(self, name))
         clash = self.clash()
         if clash:
             raise ValueError(f"{self.called()}.{clash[0]}: {clash[1]}")
@@ -48,9 +53,9 @@ class Laid:
         """One of these from its bytes, without a warning."""
         values: dict[str, Any] = {}
         places: dict[str, int] = {}
-        for name, field in cls.LAYOUT:
+        for name, where, field in cls.FIELDS:
             places[name] = cursor.at
-            values[name] = cursor.field(f"{cls.called()}.{name}", field)
+            values[name] = cursor.field(where, field)
         made = object.__new__(cls)
         clash = cls.settle(values)
         if not clash:

@@ -3,6 +3,8 @@ from __future__ import annotations
 
 from typing import Any, Optional, Protocol
 
+from .checks import counted
+
 
 def unsigned(value: int, width: int) -> bytes:
     return value.to_bytes(width, "big")
@@ -50,10 +52,16 @@ class Cursor:
         self.record: Optional[int] = None
 
     def take(self, count: int) -> bytes:
-        if count > self.end - self.at:
-            raise ValueError(f"{count:,} bytes should follow, and {self.end - self.at:,} are left")
-        self.at += count
-        return self.data[self.at - count:self.at]
+        start = self.at
+        self.at = self.end_of(count)
+        return self.data[start:self.at]
+
+    def end_of(self, count: int) -> int:
+        """Where so many bytes end that have to follow."""
+        end = self.at + count
+        if end > self.end:
+            raise ValueError(f"{counted(count)} should follow, and only {counted(self.end - self.at)} can")
+        return end
 
     def unsigned(self, width: int) -> int:
         return int.from_bytes(self.take(width), "big")
@@ -79,7 +87,7 @@ class Cursor:
     def filled(self, where: str) -> None:
         """It is an error if something is left."""
         if self.at < self.end:
-            raise self.broken(self.at, f"{where}: {self.end - self.at:,} bytes are left over behind its last field")
+            raise self.broken(self.at, f"{where}: {counted(self.end - self.at)} too many behind its last field")
 
     def broken(self, at: int, wrong: str) -> BrokenBytes:
         return BrokenBytes(self.record, at, wrong)

@@ -65,8 +65,10 @@ class Property(Laid):
         found = NOT_IN_VALUES.search(self.value)
         if found:
             return "value", f"character {found.start() + 1} is {found[0]!r}, and a value has no spaces and no backslashes"
-        if not 1 <= len(self.value) <= self.width:
-            return "value", f"{len(self.value)} bytes, and 1 to {self.width} are allowed, its width"
+        if not self.value:
+            return "value", "it is empty, and None is for no value"
+        if len(self.value) > self.width:
+            return "value", f"{len(self.value)} bytes, and its width is {self.width}"
         return None
 
     @classmethod

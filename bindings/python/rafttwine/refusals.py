@@ -26,7 +26,7 @@ class Refusal(IntEnum):
 
     @classmethod
     def _missing_(cls, value: object) -> Optional[Refusal]:
-        if isinstance(value, bool) or not isinstance(value, int) or not 1 <= value <= MOST_NUMBER:
+        if not isinstance(value, int) or not 1 <= value <= MOST_NUMBER:
             return None
         later = int.__new__(cls, value)
         later._name_, later._value_ = f"REFUSAL_{value}", value

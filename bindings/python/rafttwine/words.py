@@ -6,6 +6,7 @@ from dataclasses import dataclass
 from datetime import date
 from decimal import Context, Decimal
 from enum import Enum, IntEnum
+from functools import lru_cache
 from typing import Union
 
 from .checks import TOP_32, told, unfit, whole_number
@@ -108,8 +109,11 @@ class NoDay:
 
     def __post_init__(self) -> None:
         whole_number("NoDay.number", self.number, 0, TOP_32)
-        if is_day(self.number):
-            raise ValueError(f"NoDay.number: {self.number} is a day, which is given as {day_of(self.number)!r}")
+        try:
+            day = day_of(self.number)
+        except (ValueError, OverflowError):
+            return
+        raise ValueError(f"NoDay.number: {self.number} is a day, which is given as {day!r}")
 
     def __str__(self) -> str:
         return f"{self.number} (no day)"
@@ -125,12 +129,13 @@ def day_of(number: int) -> date:
     return date(number // 10_000, number // 100 % 100, number % 100)
 
 
-def is_day(number: int) -> bool:
+@lru_cache(maxsize=4096)
+def day_or_number(number: int) -> Union[date, NoDay]:
+    """The day of a number yyyymmdd, or the number if it is that of no day."""
     try:
-        day_of(number)
+        return day_of(number)
     except (ValueError, OverflowError):
-        return False
-    return True
+        return NoDay(number)
 
 
 def raised(name: str) -> str:

@@ -9,9 +9,10 @@ from typing import Callable
 from rafttwine import (Article, Cents, Level, NoDay, PackagingRow, Percent, PriceRow, Property, Rounding, Scheme, TextRow, Way, book, calendar,
                        price, question, text, text_book)
 from samples import ASKED, BOOK, FALLBACK, QUESTIONS
+from sizes import MOST_BYTES, articles_of, texts_of
 
 DAY = date(2024, 1, 2)
-MOST_BYTES = 4_194_304
+LATIN_1 = "only the printable characters of Latin-1 are allowed"
 
 
 def asked(**words: object) -> Callable[[], object]:
@@ -37,7 +38,8 @@ WRONG: list[tuple[type[Exception], str, Callable[[], object]]] = [
     (TypeError, "question.quantity: a whole number is wanted, not the number 1.5", asked(quantity=1.5)),
     (TypeError, "question.quantity: a whole number is wanted, not True", asked(quantity=True)),
     (TypeError, "question.day: a day is wanted, as datetime.date has it, not the text '2024-01-02'", asked(day="2024-01-02")),
-    (TypeError, "question.day: a day is wanted, as datetime.date has it, not the moment 2024-01-02 10:30:00", asked(day=datetime(2024, 1, 2, 10, 30))),
+    (TypeError, "question.day: a day is wanted, as datetime.date has it, not the moment 2024-01-02 10:30:00",
+     asked(day=datetime(2024, 1, 2, 10, 30))),
     (TypeError, "PriceRow.value: Cents or Percent is wanted, not the number 10000", row(value=10_000)),
     (TypeError, "PriceRow.up_to: a whole number is wanted, not the number 9.0", row(up_to=9.0)),
     (TypeError, "PriceRow.first: a day is wanted, as datetime.date has it, not the text '2024-01-02'", row(first="2024-01-02")),
@@ -46,19 +48,26 @@ WRONG: list[tuple[type[Exception], str, Callable[[], object]]] = [
     (TypeError, "PriceRow.rule: Rule.OF_BASE or Rule.OF_TOTAL_SO_FAR is wanted, not Level.BASE", row(rule=Level.BASE)),
     (TypeError, "PriceRow.article: a text is wanted, not None", row(article=None)),
     (TypeError, "Scheme.trim: True or False is wanted, not the text 'no'", lambda: Scheme("S", trim="no")),
-    (TypeError, "Percent.share: a whole number, a Decimal, or a text as '12.50' is wanted, not the number 12.5", lambda: Percent(12.5)),
-    (TypeError, "calendar.end: a day is wanted, as datetime.date has it, not the text '20240101'", lambda: calendar(BOOK, QUESTIONS["june"], "20240101")),
-    (TypeError, "calendar.end: a day is wanted, as datetime.date has it, not the number 20240101", lambda: calendar(BOOK, QUESTIONS["june"], 20240101)),
+    (TypeError, "Percent.share: a whole number, a Decimal, or a text as '12.50' is wanted, not the number 12.5",
+     lambda: Percent(12.5)),
+    (TypeError, "calendar.end: a day is wanted, as datetime.date has it, not the text '20240101'",
+     lambda: calendar(BOOK, QUESTIONS["june"], "20240101")),
+    (TypeError, "calendar.end: a day is wanted, as datetime.date has it, not the number 20240101",
+     lambda: calendar(BOOK, QUESTIONS["june"], 20240101)),
     (TypeError, "text.number: a whole number is wanted, not the text '7'", lambda: text(ASKED, FALLBACK, "7")),
-    (TypeError, "price.book: bytes are wanted, or another contiguous buffer of bytes, not the text 'desk.book'", lambda: price("desk.book", b"")),
+    (TypeError, "price.book: bytes are wanted, or another contiguous buffer of bytes, not the text 'desk.book'",
+     lambda: price("desk.book", b"")),
     (TypeError, "text_book.texts: a whole number is wanted, not the text '7'", lambda: text_book({"7": b"Table"})),
     (TypeError, "text_book.texts: text 7: bytes are wanted, not the text 'Table'", lambda: text_book({7: "Table"})),
     (TypeError, "text_book.texts: text 2: TextRow is wanted, not a bytes", lambda: text_book([TextRow(7, b"Table"), b"Table"])),
-    (TypeError, "book.records: record 1: Article, PriceRow, Rounding, PackagingRow or Scheme is wanted, not a list", lambda: book([Article("A1")])),
+    (TypeError, "book.records: record 1: Article, PriceRow, Rounding, PackagingRow or Scheme is wanted, not a list",
+     lambda: book([Article("A1")])),
     # Numbers out of range.
-    (ValueError, "text.number: 4,294,967,303 is out of range, 0 to 4,294,967,295 is allowed", lambda: text(ASKED, FALLBACK, 2**32 + 7)),
+    (ValueError, "text.number: 4,294,967,303 is out of range, 0 to 4,294,967,295 is allowed",
+     lambda: text(ASKED, FALLBACK, 2**32 + 7)),
     (ValueError, "text.number: -1 is out of range, 0 to 4,294,967,295 is allowed", lambda: text(ASKED, FALLBACK, -1)),
-    (ValueError, "text.number: a number of over 40 digits is out of range, 0 to 4,294,967,295 is allowed", lambda: text(ASKED, FALLBACK, 10**9999)),
+    (ValueError, "text.number: a number of over 40 digits is out of range, 0 to 4,294,967,295 is allowed",
+     lambda: text(ASKED, FALLBACK, 10**9999)),
     (ValueError, "question.quantity: 0 is out of range, 1 to 100,000 is allowed", asked(quantity=0)),
     (ValueError, "question.quantity: 100,001 is out of range, 1 to 100,000 is allowed", asked(quantity=100_001)),
     (ValueError, "PriceRow.up_to: 4,294,967,296 is out of range, 0 to 4,294,967,295 is allowed", row(up_to=1 << 32)),
@@ -66,16 +75,21 @@ WRONG: list[tuple[type[Exception], str, Callable[[], object]]] = [
     (ValueError, "PriceRow.rounding: 65,536 is out of range, 0 to 65,535 is allowed", row(rounding=65_536)),
     (ValueError, "Cents.amount: 100,000,001 is out of range, -100,000,000 to 100,000,000 is allowed", lambda: Cents(100_000_001)),
     (ValueError, "Percent.share: the text '1000.01' is out of range, -1,000 to 1,000 is allowed", lambda: Percent("1000.01")),
-    (ValueError, "Percent.share: the number 1E+999999 is out of range, -1,000 to 1,000 is allowed", lambda: Percent(Decimal("1e999999"))),
+    (ValueError, "Percent.share: the number 1E+999999 is out of range, -1,000 to 1,000 is allowed",
+     lambda: Percent(Decimal("1e999999"))),
     (ValueError, "Percent.share: the text '0.001' has more than two decimals", lambda: Percent("0.001")),
     (ValueError, "Percent.share: a text of 43 characters has more than two decimals", lambda: Percent(f"1.5{'0' * 39}1")),
-    (ValueError, "Percent.share: the text '12,5' is no percentage; digits are wanted, with a point before the decimals", lambda: Percent("12,5")),
+    (ValueError, "Percent.share: the text '12,5' is no percentage; digits are wanted, with a point before the decimals",
+     lambda: Percent("12,5")),
     (ValueError, "Percent.share: NaN is no number", lambda: Percent(Decimal("nan"))),
     (ValueError, "Rounding.number: 0 is out of range, 1 to 65,535 is allowed", lambda: Rounding(0, Way.UP, 1)),
     (ValueError, "Rounding.step: 0 is out of range, 1 to 1,000,000 is allowed", lambda: Rounding(1, Way.UP, 0)),
-    (ValueError, "Rounding.before: -1,000,001 is out of range, -1,000,000 to 1,000,000 is allowed", lambda: Rounding(1, Way.UP, 1, before=-1_000_001)),
-    (ValueError, "Rounding.after: 1,000,001 is out of range, -1,000,000 to 1,000,000 is allowed", lambda: Rounding(1, Way.UP, 1, after=1_000_001)),
-    (ValueError, "PackagingRow.width: 10,000,001 is out of range, -10,000,000 to 10,000,000 is allowed", carton(width=10_000_001, length_unit="CMT")),
+    (ValueError, "Rounding.before: -1,000,001 is out of range, -1,000,000 to 1,000,000 is allowed",
+     lambda: Rounding(1, Way.UP, 1, before=-1_000_001)),
+    (ValueError, "Rounding.after: 1,000,001 is out of range, -1,000,000 to 1,000,000 is allowed",
+     lambda: Rounding(1, Way.UP, 1, after=1_000_001)),
+    (ValueError, "PackagingRow.width: 10,000,001 is out of range, -10,000,000 to 10,000,000 is allowed",
+     carton(width=10_000_001, length_unit="CMT")),
     (ValueError, "PackagingRow.items: 10,001 is out of range, -10,000 to 10,000 is allowed", carton(items=10_001)),
     (ValueError, "Property.width: 31 is out of range, 1 to 30 is allowed", lambda: Property(31)),
     (ValueError, "NoDay.number: 20240102 is a day, which is given as datetime.date(2024, 1, 2)", lambda: NoDay(20240102)),
@@ -84,21 +98,26 @@ WRONG: list[tuple[type[Exception], str, Callable[[], object]]] = [
     (ValueError, "Article.number: it is empty, and 1 to 40 bytes are allowed", lambda: Article("")),
     (ValueError, "Article.scheme: 21 bytes, and at most 20 are allowed", lambda: Article("A1", "S" * 21)),
     (ValueError, "PriceRow.condition: 21 bytes, and at most 20 are allowed", row(condition="C" * 21)),
-    (ValueError, "PackagingRow.article: character 3 is '\u20ac' (U+20AC), and only the printable characters of Latin-1 are allowed", carton(article="A1\u20ac")),
-    (ValueError, "Article.number: character 2 is '\\n' (U+000A), and only the printable characters of Latin-1 are allowed", lambda: Article("A\n")),
-    (ValueError, "Article.number: character 1 is '\\x80' (U+0080), and only the printable characters of Latin-1 are allowed", lambda: Article("\x80")),
+    (ValueError, f"PackagingRow.article: character 3 is '\u20ac' (U+20AC), and {LATIN_1}",
+     carton(article="A1\u20ac")),
+    (ValueError, f"Article.number: character 2 is '\\n' (U+000A), and {LATIN_1}",
+     lambda: Article("A\n")),
+    (ValueError, f"Article.number: character 1 is '\\x80' (U+0080), and {LATIN_1}",
+     lambda: Article("\x80")),
     (ValueError, "Scheme.id: it is empty, and 1 to 20 bytes are allowed", lambda: Scheme("")),
     (ValueError, "Scheme.before_values: 9 bytes, and at most 8 are allowed", lambda: Scheme("S", before_values="-" * 9)),
     (ValueError, "Scheme.hidden: 2 bytes, and at most 1 are allowed", lambda: Scheme("S", hidden="--")),
     (ValueError, "question.granted: name 2: it is empty, and 1 to 20 bytes are allowed", asked(granted=["oak", ""])),
     (ValueError, "question.granted: 33 names, and at most 32 are allowed", asked(granted=["oak"] * 33)),
     (ValueError, "question.properties: 33 properties, and at most 32 are allowed", asked(properties=[Property(1)] * 33)),
-    (ValueError, "question.currency: a currency of three capitals, or None for any is wanted, not the text 'eur'", asked(currency="eur")),
+    (ValueError, "question.currency: a currency of three capitals, or None for any is wanted, not the text 'eur'",
+     asked(currency="eur")),
     (ValueError, "PriceRow.currency: a currency of three capitals is wanted, not the text 'EURO'", row(currency="EURO")),
     # What does not go together.
-    (ValueError, "Property.value: a hidden property has none, and the text 'OAK' is given", lambda: Property(3, "OAK", hidden=True)),
-    (ValueError, "Property.value: 4 bytes, and 1 to 3 are allowed, its width", lambda: Property(3, "OAKS")),
-    (ValueError, "Property.value: 0 bytes, and 1 to 3 are allowed, its width", lambda: Property(3, "")),
+    (ValueError, "Property.value: a hidden property has none, and the text 'OAK' is given",
+     lambda: Property(3, "OAK", hidden=True)),
+    (ValueError, "Property.value: 4 bytes, and its width is 3", lambda: Property(3, "OAKS")),
+    (ValueError, "Property.value: it is empty, and None is for no value", lambda: Property(3, "")),
     (ValueError, "Property.value: character 2 is ' ', and a value has no spaces and no backslashes", lambda: Property(3, "O K")),
     (ValueError, "PackagingRow.length_unit: it is missing, and depth is given", carton(depth=1)),
     (ValueError, "PackagingRow.volume_unit: it is missing, and volume is given", carton(volume=0)),
@@ -106,27 +125,19 @@ WRONG: list[tuple[type[Exception], str, Callable[[], object]]] = [
     (ValueError, "PackagingRow.length_unit: CMT, FOT, INH, MMT or MTR is wanted, not the text 'cm'", carton(length_unit="cm")),
     (ValueError, "PackagingRow.weight_unit: KGM, LBR or MGM is wanted, not the text 'CMT'", carton(weight_unit="CMT")),
     (ValueError, "PackagingRow.condition: it is empty, and the article '*' needs one", carton(article="*")),
-    (ValueError, "Scheme.between_values: it is empty, and with trim values need something between them", lambda: Scheme("S", trim=True)),
-    (ValueError, "Scheme.between_values: with trim it may not be '-', the character for hidden properties", lambda: Scheme("S", between_values="-", trim=True)),
+    (ValueError, "Scheme.between_values: it is empty, and with trim values need something between them",
+     lambda: Scheme("S", trim=True)),
+    (ValueError, "Scheme.between_values: with trim it may not be '-', the character for hidden properties",
+     lambda: Scheme("S", between_values="-", trim=True)),
     (ValueError, "Scheme.between_values: with trim it may not be '+', the character for unselected properties",
      lambda: Scheme("S", between_values="+", unselected="+", trim=True)),
     # Sizes.
     (ValueError, "TextRow.content: 65,536 bytes, and at most 65,535 are allowed", lambda: TextRow(7, bytes(65_536))),
     (ValueError, "text_book.texts: text 7: 65,536 bytes, and at most 65,535 are allowed", lambda: text_book({7: bytes(65_536)})),
-    (ValueError, "text_book.texts: 4,194,305 bytes, and at most 4,194,304 are allowed", lambda: text_book(texts_of(MOST_BYTES + 1))),
+    (ValueError, "text_book.texts: 4,194,305 bytes, and at most 4,194,304 are allowed",
+     lambda: text_book(texts_of(MOST_BYTES + 1))),
     (ValueError, "book.records: 4,194,305 bytes, and at most 4,194,304 are allowed", lambda: book(*articles_of(MOST_BYTES + 1))),
 ]
-
-
-def texts_of(size: int) -> dict[int, bytes]:
-    """Texts that fill a text book of a size: 63 with their heads of 6 bytes, and one in what is left."""
-    return {**dict.fromkeys(range(63), bytes(65_530)), 64: bytes(size - 5 - 63 * 65_536 - 6)}
-
-
-def articles_of(size: int) -> list[Article]:
-    """Articles that fill a book of a size: 45 bytes each, and one in what is left."""
-    count, left = divmod(size - 5, 45)
-    return [Article("N" * 40)] * count + [Article("N" * (left - 5))]
 
 
 RIGHT: list[Callable[[], object]] = [

@@ -1,0 +1,63 @@
+"""Rows that are right by the layout and hardly meant: making one warns, at the line of whoever makes it."""
+from __future__ import annotations
+
+import dataclasses
+import inspect
+import unittest
+import warnings
+from datetime import date
+from typing import Callable
+
+from rafttwine import Article, Cents, Level, PackagingRow, Percent, PriceRow, RowWarning, book, price, question, read_book
+
+RAISES = "raises the price; what lowers it is below zero"
+NEVER = "is never granted: granted names are raised to capitals, so write"
+DOUBTFUL: list[tuple[list[str], Callable[[], object]]] = [
+    ([f"PriceRow.condition: 'oak' {NEVER} 'OAK'"], lambda: PriceRow("A1", Level.BASE, Cents(1), condition="oak")),
+    ([f"PriceRow.condition: 'OAk' {NEVER} 'OAK'"], lambda: PriceRow("A1", Level.BASE, Cents(1), condition="OAk")),
+    ([f"PackagingRow.condition: 'oak' {NEVER} 'OAK'"], lambda: PackagingRow("A1", "oak")),
+    ([f"PriceRow.value: a discount of 5.00 {RAISES}"], lambda: PriceRow("A1", Level.DISCOUNT, Cents(500))),
+    ([f"PriceRow.value: a discount of 0.01 % {RAISES}"], lambda: PriceRow("A1", Level.DISCOUNT, Percent("0.01"))),
+    ([f"PriceRow.condition: 'z' {NEVER} 'Z'", f"PriceRow.value: a discount of 10.00 % {RAISES}"],
+     lambda: PriceRow("A1", Level.DISCOUNT, Percent(10), condition="z")),
+    ([], lambda: PriceRow("a1", Level.BASE, Cents(1), condition="OAK 2")),
+    ([], lambda: PriceRow("A1", Level.DISCOUNT, Cents(0))),
+    ([], lambda: PriceRow("A1", Level.DISCOUNT, Percent(-10))),
+    ([], lambda: PriceRow("A1", Level.SURCHARGE, Percent(10))),
+]
+
+
+class DoubtfulRowsTest(unittest.TestCase):
+    def test_each_gets_its_sentence_at_its_line(self) -> None:
+        for sentences, make in DOUBTFUL:
+            with self.subTest(sentences), warnings.catch_warnings(record=True) as caught:
+                warnings.simplefilter("always")
+                make()
+            self.assertEqual([str(one.message) for one in caught], sentences)
+            lines, first = inspect.getsourcelines(make)
+            for one in caught:
+                self.assertIs(one.category, RowWarning)
+                self.assertEqual(one.filename, __file__)
+                self.assertIn(one.lineno, range(first, first + len(lines)))
+
+    def test_the_line_of_a_replacement(self) -> None:
+        row = PriceRow("A1", Level.BASE, Cents(1))
+        with self.assertWarns(RowWarning) as caught:
+            dataclasses.replace(row, condition="oak")
+        self.assertEqual(caught.filename, __file__)
+
+    def test_both_are_true_of_the_library(self) -> None:
+        with warnings.catch_warnings():
+            warnings.simplefilter("ignore", RowWarning)
+            rows = (Article("A1"), PriceRow("A1", Level.BASE, Cents(1000)), PriceRow("A1", Level.SURCHARGE, Cents(100), condition="oak"),
+                    PriceRow("A1", Level.DISCOUNT, Cents(10)))
+        answer = price(book(*rows), question("A1", date(2024, 1, 1), granted=["oak", "OAK"]))
+        self.assertEqual(([line.amount for line in answer.lines], answer.unused), ([1000, 10], (1,)))
+
+    def test_reading_does_not_warn(self) -> None:
+        with warnings.catch_warnings():
+            warnings.simplefilter("ignore", RowWarning)
+            rows = (PriceRow("A1", Level.DISCOUNT, Cents(10), condition="oak"), PackagingRow("A1", "oak"))
+        with warnings.catch_warnings():
+            warnings.simplefilter("error")
+            self.assertEqual(read_book(book(*rows)), rows)
