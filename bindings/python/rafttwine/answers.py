@@ -25,8 +25,8 @@ class Line:
 
 @dataclass(frozen=True)
 class Price:
-    """An itemised price, of one piece and of the quantity asked for. `unused` has the places of granted names without a line, from 1,
-    and `unused_names` those names. Printed, it is the table that a salesperson reads."""
+    """An itemised price, of one piece and of the quantity asked for. `unused` has the places of granted names without a line, from
+    1, and `unused_names` those names. Printed, it is the table that a salesperson reads."""
 
     unit: int
     total: int
@@ -40,8 +40,8 @@ class Price:
         return self.table()
 
     def table(self, asked: Optional[Lent] = None, fallback: Optional[Lent] = None, encoding: str = "latin-1") -> str:
-        """The lines with their texts from the asked text book, or else from the fallback, if there is one. A text that is in neither
-        shows as its number, and so do all if a text book is broken, which the last line then says."""
+        """The lines with their texts from the asked text book, or else from the fallback, if there is one. A text that is in
+        neither shows as its number, and so do all if a text book is broken, which the last line then says."""
         from .showing import price_table  # here, since it asks the library, whose calls make prices
         return price_table(self, asked, fallback, encoding)
 

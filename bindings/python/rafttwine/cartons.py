@@ -6,8 +6,8 @@ from typing import Any, ClassVar, Optional
 
 from .checks import listed, whole_number
 from .fields import Letters, Number
-from .laid import Clash, Laid
-from .packing import Cursor, Field, signed
+from .laid import Clash, Laid, Layout
+from .packing import Cursor, signed
 from .records import ARTICLE, CONDITION, never_granted
 
 ANY_ARTICLE = "*"
@@ -45,8 +45,8 @@ class PackagingRow(Laid):
     """Packaging data of an article, or what a granted condition adds to it; the article `*` stands for every article, and needs a
     condition. Sizes and weights are in thousandths of their unit, and need it. None: not known.
 
-    Granted names are raised to capitals, and `condition` stands as it is: in small letters it is never granted, of which a RowWarning
-    tells."""
+    Granted names are raised to capitals, and `condition` stands as it is: in small letters it is never granted. A RowWarning tells
+    of it."""
 
     article: str
     condition: str = ""
@@ -63,7 +63,7 @@ class PackagingRow(Laid):
     weight_unit: Optional[str] = None
 
     KIND: ClassVar[int] = 4
-    LAYOUT: ClassVar[tuple[tuple[str, Field], ...]] = (
+    LAYOUT: ClassVar[Layout] = (
         ("article", ARTICLE), ("condition", CONDITION), ("presence", Number(1)),
         *((name, Measure(most)) for name, most in VALUES.items()),
         *((name, Letters(listed(units), units)) for name, (units, _) in UNITS.items()),

@@ -1,4 +1,4 @@
-"""What is said of wrong values: `Class.field: a sentence`. A wrong type is a TypeError, a wrong value of the right type a ValueError."""
+"""What is said of wrong values: `Class.field: a sentence`. A wrong type is a TypeError, a wrong value a ValueError."""
 from __future__ import annotations
 
 import re
@@ -33,7 +33,8 @@ def told(value: object) -> str:
         return f"the {'moment' if isinstance(value, datetime) else 'day'} {value}"
     if isinstance(value, type):
         return f"the class {value.__name__}"
-    return f"{'an' if type(value).__name__[0] in 'AEIOUaeiou' else 'a'} {type(value).__name__}"
+    kind = type(value).__name__
+    return kind if kind == "bytes" else f"{'an' if kind[0] in 'AEIOUaeiou' else 'a'} {kind}"
 
 
 def listed(words: Iterable[str]) -> str:
@@ -62,15 +63,15 @@ def day(where: str, value: object) -> None:
 def name(where: str, value: object, least: int, most: int) -> None:
     if not isinstance(value, str):
         raise unfit(where, "a text is wanted", value)
-    without(where, value, NOT_IN_NAMES, "only the printable characters of Latin-1 are allowed")
+    found = NOT_IN_NAMES.search(value)
+    if found:
+        raise ValueError(f"{where}: {character(found)}, and only the printable characters of Latin-1 are allowed")
     size(where, len(value), least, most)
 
 
-def without(where: str, value: str, refused: re.Pattern[str], allowed: str) -> None:
-    """It is an error if a character of the text is a refused one."""
-    found = refused.search(value)
-    if found:
-        raise ValueError(f"{where}: character {found.start() + 1} is {found[0]!r} (U+{ord(found[0]):04X}), and {allowed}")
+def character(found: re.Match[str]) -> str:
+    """Which character was found, and where."""
+    return f"character {found.start() + 1} is {found[0]!r} (U+{ord(found[0]):04X})"
 
 
 def counted(count: int) -> str:

@@ -1,5 +1,5 @@
-"""Where the library is: the file that RAFTTWINE_LIBRARY names; else beside the package; else in the tree that the package stands in,
-where tools/shared-library makes it; else in the system. The first that is there is loaded, and has to be one that fits."""
+"""Where the library is: the file that RAFTTWINE_LIBRARY names; else beside the package; else in the tree that the package stands
+in, where tools/shared-library makes it; else in the system. The first that is there is loaded, and has to be one that fits."""
 from __future__ import annotations
 
 import os

@@ -1,4 +1,4 @@
-"""What records, properties, texts and questions have in common: fields in the order of their bytes."""
+"""What records, properties, texts and questions have in common."""
 from __future__ import annotations
 
 import sys
@@ -8,14 +8,16 @@ from typing import Any, ClassVar, Optional
 from .packing import Cursor, Field
 from .words import RowWarning
 
+Layout = tuple[tuple[str, Field], ...]
 # A field, and what is wrong with it beside the others.
 Clash = Optional[tuple[str, str]]
 
 
 class Laid:
-    """Made of values, it checks them; read from bytes, it says which byte is wrong. A subclass is a dataclass and lists its fields."""
+    """Made of values, it checks them; read from bytes, it says which byte is wrong. A subclass is a dataclass, and LAYOUT has its
+    fields in the order of their bytes."""
 
-    LAYOUT: ClassVar[tuple[tuple[str, Field], ...]]
+    LAYOUT: ClassVar[Layout]
     # The fields with what errors call them, put together once.
     FIELDS: ClassVar[tuple[tuple[str, str, Field], ...]]
 

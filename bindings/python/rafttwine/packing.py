@@ -33,7 +33,8 @@ class Field(Protocol):
 
 
 class BrokenBytes(ValueError):
-    """Bytes that are no book, question or text book: in which record, from 1 (None: in none), at which byte, from 0, and what is wrong."""
+    """Bytes that are no book, question or text book: in which record, from 1 (None: in none), at which byte, from 0, and what is
+    wrong there."""
 
     def __init__(self, record: Optional[int], byte: int, wrong: str) -> None:
         super().__init__(record, byte, wrong)

@@ -7,9 +7,9 @@ from datetime import date
 from typing import Any, ClassVar, Optional, Sequence
 
 from . import packing
-from .checks import told, unfit
+from .checks import character, told, unfit
 from .fields import Day, Flag, Letters, Name, Number, Word
-from .laid import Clash, Laid
+from .laid import Clash, Laid, Layout
 from .lending import Lent, whole_bytes
 from .packing import Cursor, Field, unsigned
 from .records import ARTICLE, CURRENCY
@@ -38,14 +38,14 @@ class PropertyValue(Name):
 
 @dataclass(frozen=True)
 class Property(Laid):
-    """A property of the planned piece, `width` characters wide in the final article number. Without a value, it is hidden or nothing is
-    selected. A value has no spaces and no backslashes, and is no longer than the width."""
+    """A property of the planned piece, `width` characters wide in the final article number. Without a value it is hidden, or nothing
+    is selected. A value has no spaces and no backslashes, and is no longer than the width."""
 
     width: int
     value: Optional[str] = None
     hidden: bool = False
 
-    LAYOUT: ClassVar[tuple[tuple[str, Field], ...]] = (
+    LAYOUT: ClassVar[Layout] = (
         ("width", Number(1, 1, MOST_WIDTH)), ("state", Number(1, VALUED, UNSELECTED)), ("value", PropertyValue(0, MOST_WIDTH)),
     )
 
@@ -64,7 +64,7 @@ class Property(Laid):
             return "value", f"a hidden property has none, and {told(self.value)} is given"
         found = NOT_IN_VALUES.search(self.value)
         if found:
-            return "value", f"character {found.start() + 1} is {found[0]!r}, and a value has no spaces and no backslashes"
+            return "value", f"{character(found)}, and a value has no spaces and no backslashes"
         if not self.value:
             return "value", "it is empty, and None is for no value"
         if len(self.value) > self.width:
@@ -130,7 +130,7 @@ class Question(Laid):
     sort: Sort = Sort.SALE
     currency: Optional[str] = None
 
-    LAYOUT: ClassVar[tuple[tuple[str, Field], ...]] = (
+    LAYOUT: ClassVar[Layout] = (
         ("article", ARTICLE), ("sort", Word(Sort)), ("currency", Letters(f"{CURRENCY}, or None for any")), ("day", Day()),
         ("quantity", Number(4, 1, 100_000)), ("granted", Several("name", "names", Name(1, 20))),
         ("properties", Several("property", "properties", Part())),

@@ -7,8 +7,8 @@ from typing import ClassVar, Optional, Union
 
 from .checks import unfit
 from .fields import Character, Flag, Letters, Name, Number, RowDay, Signed, Word
-from .laid import Clash, Laid
-from .packing import Cursor, Field, signed, unsigned
+from .laid import Clash, Laid, Layout
+from .packing import Cursor, signed, unsigned
 from .words import Cents, Level, NoDay, Percent, Rule, Sort, Value, Way, raised
 
 ARTICLE, CONDITION, SCHEME = Name(1, 40), Name(0, 20), Name(0, 20)
@@ -23,7 +23,7 @@ class Article(Laid):
     scheme: str = ""
 
     KIND: ClassVar[int] = 1
-    LAYOUT: ClassVar[tuple[tuple[str, Field], ...]] = (("number", ARTICLE), ("scheme", SCHEME))
+    LAYOUT: ClassVar[Layout] = (("number", ARTICLE), ("scheme", SCHEME))
 
 
 class Amount:
@@ -49,8 +49,8 @@ class PriceRow(Laid):
     """A price row. It holds from `first` to `last`, both included, up to the quantity `up_to` (0: any), and where `condition` is
     granted (empty: always). `text` is the number of its line's text, `rounding` that of a rounding in the same book (0: none).
 
-    Granted names are raised to capitals, and `condition` stands as it is: in small letters it is never granted. Values are added with
-    their sign: a discount with a positive value raises the price. A RowWarning tells of either."""
+    Granted names are raised to capitals, and `condition` stands as it is: in small letters it is never granted. Values are added
+    with their sign: a discount with a positive value raises the price. A RowWarning tells of either."""
 
     article: str
     level: Level
@@ -66,7 +66,7 @@ class PriceRow(Laid):
     text: int = 0
 
     KIND: ClassVar[int] = 2
-    LAYOUT: ClassVar[tuple[tuple[str, Field], ...]] = (
+    LAYOUT: ClassVar[Layout] = (
         ("article", ARTICLE), ("condition", CONDITION), ("sort", Word(Sort)), ("level", Word(Level)), ("rule", Word(Rule)),
         ("text", Number(4)), ("value", Amount()), ("currency", Letters(CURRENCY, needed=True)), ("first", RowDay()),
         ("last", RowDay()), ("up_to", Number(4)), ("rounding", Number(2)),
@@ -98,7 +98,7 @@ class Rounding(Laid):
     after: int = 0
 
     KIND: ClassVar[int] = 3
-    LAYOUT: ClassVar[tuple[tuple[str, Field], ...]] = (
+    LAYOUT: ClassVar[Layout] = (
         ("number", Number(2, 1)), ("way", Word(Way)), ("step", Number(4, 1, 1_000_000)), ("before", Signed(1_000_000)),
         ("after", Signed(1_000_000)),
     )
@@ -107,8 +107,8 @@ class Rounding(Laid):
 @dataclass(frozen=True)
 class Scheme(Laid):
     """How the final article number is put together: the base number, `before_values` (empty: one space), and the values joined by
-    `between_values`. `hidden` and `unselected` are single characters, None for the usual `-` and `X`. With `trim` values are not filled
-    up to their width; then `between_values` is not empty, nor just the hidden or the unselected character."""
+    `between_values`. `hidden` and `unselected` are single characters, None for the usual `-` and `X`. With `trim` values are not
+    filled up to their width; then `between_values` is not empty, nor just the hidden or the unselected character."""
 
     id: str
     before_values: str = ""
@@ -119,7 +119,7 @@ class Scheme(Laid):
     trim: bool = False
 
     KIND: ClassVar[int] = 5
-    LAYOUT: ClassVar[tuple[tuple[str, Field], ...]] = (
+    LAYOUT: ClassVar[Layout] = (
         ("id", Name(1, 20)), ("before_values", Name(0, 8)), ("between_values", Name(0, 8)), ("hidden_shown", Flag()),
         ("hidden", Character()), ("unselected", Character()), ("trim", Flag()),
     )

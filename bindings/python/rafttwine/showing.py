@@ -1,7 +1,7 @@
-"""A price as a table: a line for each of its lines, what one piece and all pieces cost, and which granted names brought nothing."""
+"""A price as a table: a row for each of its lines, what one piece and all pieces cost, and which granted names brought nothing."""
 from __future__ import annotations
 
-from typing import Optional
+from typing import Iterable, Optional
 
 from .answers import Line, Price
 from .calls import text
@@ -14,16 +14,28 @@ LEVELS = {Level.BASE: "base", Level.SURCHARGE: "surcharge", Level.DISCOUNT: "dis
 
 def price_table(price: Price, asked: Optional[Lent], fallback: Optional[Lent], encoding: str) -> str:
     texts = Texts(asked, fallback, encoding)
-    rows = [(LEVELS[line.level], texts.of(line), line.granted, line.amount) for line in price.lines]
-    level, words, granted = (max((len(row[column]) for row in rows), default=0) for column in range(3))
-    left = [f"{row[0]:{level}}  {row[1]:{words}}  {row[2]:{granted}}".rstrip() for row in rows]
-    totals = [("One piece", price.unit), (f"{price.quantity:,} pieces", price.total)][:1 if price.quantity == 1 else 2]
-    wide = max(map(len, [*left, *(name for name, _ in totals)]))
-    numbers = max(len(money(amount)) for amount in (*(row[3] for row in rows), price.unit, price.total))
-    listed, summed = ([f"{name:{wide}}  {money(amount):>{numbers}} {price.currency}" for name, amount in one]
-                      for one in (zip(left, (row[3] for row in rows)), totals))
+    names = aligned([(LEVELS[line.level], texts.of(line), line.granted) for line in price.lines])
+    totals = [("One piece", price.unit)]
+    if price.quantity != 1:
+        totals.append((f"{price.quantity:,} pieces", price.total))
+    rows = [*zip(names, (line.amount for line in price.lines)), *totals]
+    shown = with_amounts(rows, price.currency)
+    rule = "-" * len(shown[0])
     unused = [f"No price line for {name}" for name in price.unused_names]
-    return "\n".join([*listed, "-" * (wide + numbers + 3 + len(price.currency)), *summed, *unused, *texts.trouble])
+    return "\n".join([*shown[:len(names)], rule, *shown[len(names):], *unused, *texts.trouble])
+
+
+def aligned(rows: list[tuple[str, str, str]]) -> list[str]:
+    """The columns below each other, two spaces between them."""
+    widths = [max(map(len, column)) for column in zip(*rows)]
+    return ["  ".join(f"{cell:{width}}" for cell, width in zip(row, widths)).rstrip() for row in rows]
+
+
+def with_amounts(rows: Iterable[tuple[str, int]], currency: str) -> list[str]:
+    """What stands on the left, and behind the longest of it the amounts, which end below each other."""
+    names, amounts = zip(*((name, money(amount)) for name, amount in rows))
+    left, right = max(map(len, names)), max(map(len, amounts))
+    return [f"{name:{left}}  {amount:>{right}} {currency}" for name, amount in zip(names, amounts)]
 
 
 class Texts:

@@ -6,9 +6,9 @@ from typing import ClassVar, Mapping, Sequence, Union
 
 from .checks import size, unfit
 from .fields import Number
-from .laid import Laid
+from .laid import Laid, Layout
 from .lending import Lent, whole_bytes
-from .packing import Cursor, Field, unsigned
+from .packing import Cursor, unsigned
 from .wholes import opened, whole
 
 MOST_TEXT_BYTES = 65_535
@@ -39,7 +39,7 @@ class TextRow(Laid):
     number: int
     content: bytes
 
-    LAYOUT: ClassVar[tuple[tuple[str, Field], ...]] = (("number", NUMBER), ("content", CONTENT))
+    LAYOUT: ClassVar[Layout] = (("number", NUMBER), ("content", CONTENT))
 
 
 def text_book(texts: Union[Mapping[int, bytes], Sequence[TextRow]]) -> bytes:

@@ -68,8 +68,8 @@ class Cents:
 
 @dataclass(frozen=True, repr=False)
 class Percent:
-    """A percentage with at most two decimals, as "12.50" or -3, at most 1,000 either side of zero. `share` is kept as a Decimal with
-    two decimals, whatever it was made of."""
+    """A percentage with at most two decimals, as "12.50" or -3, at most 1,000 either side of zero. `share` is kept as a Decimal
+    with two decimals, whatever it was made of."""
 
     share: Union[str, int, Decimal]
 
@@ -139,7 +139,7 @@ def day_or_number(number: int) -> Union[date, NoDay]:
 
 
 def raised(name: str) -> str:
-    """A name as the library compares it where it is granted: with capitals for the small letters a to z. Names in rows stand as they are."""
+    """A granted name as the library compares it, with capitals for the small letters a to z; names in rows it takes as they stand."""
     return re.sub("[a-z]", lambda letter: letter[0].upper(), name)
 
 

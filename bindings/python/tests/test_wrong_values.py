@@ -30,7 +30,7 @@ def carton(**words: object) -> Callable[[], object]:
 WRONG: list[tuple[type[Exception], str, Callable[[], object]]] = [
     # Types that people come with, each with what is wanted in its place.
     (TypeError, "question.granted: a list of names is wanted, not the text 'oak'", asked(granted="oak")),
-    (TypeError, "question.granted: a list of names is wanted, not a bytes", asked(granted=b"oak")),
+    (TypeError, "question.granted: a list of names is wanted, not bytes", asked(granted=b"oak")),
     (TypeError, "question.granted: a list of names is wanted, not a set", asked(granted={"oak"})),
     (TypeError, "question.granted: name 2: a text is wanted, not the number 7", asked(granted=["oak", 7])),
     (TypeError, "question.properties: a list of properties is wanted, not the text 'oak'", asked(properties="oak")),
@@ -59,7 +59,7 @@ WRONG: list[tuple[type[Exception], str, Callable[[], object]]] = [
      lambda: price("desk.book", b"")),
     (TypeError, "text_book.texts: a whole number is wanted, not the text '7'", lambda: text_book({"7": b"Table"})),
     (TypeError, "text_book.texts: text 7: bytes are wanted, not the text 'Table'", lambda: text_book({7: "Table"})),
-    (TypeError, "text_book.texts: text 2: TextRow is wanted, not a bytes", lambda: text_book([TextRow(7, b"Table"), b"Table"])),
+    (TypeError, "text_book.texts: text 2: TextRow is wanted, not bytes", lambda: text_book([TextRow(7, b"Table"), b"Table"])),
     (TypeError, "book.records: record 1: Article, PriceRow, Rounding, PackagingRow or Scheme is wanted, not a list",
      lambda: book([Article("A1")])),
     # Numbers out of range.
@@ -118,7 +118,7 @@ WRONG: list[tuple[type[Exception], str, Callable[[], object]]] = [
      lambda: Property(3, "OAK", hidden=True)),
     (ValueError, "Property.value: 4 bytes, and its width is 3", lambda: Property(3, "OAKS")),
     (ValueError, "Property.value: it is empty, and None is for no value", lambda: Property(3, "")),
-    (ValueError, "Property.value: character 2 is ' ', and a value has no spaces and no backslashes", lambda: Property(3, "O K")),
+    (ValueError, "Property.value: character 2 is ' ' (U+0020), and a value has no spaces and no backslashes", lambda: Property(3, "O K")),
     (ValueError, "PackagingRow.length_unit: it is missing, and depth is given", carton(depth=1)),
     (ValueError, "PackagingRow.volume_unit: it is missing, and volume is given", carton(volume=0)),
     (ValueError, "PackagingRow.weight_unit: it is missing, and net is given", carton(net=1, items=1)),
