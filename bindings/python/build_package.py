@@ -1,6 +1,6 @@
 """Makes of the package what pip installs, a wheel. pip calls the functions `build_..` by these names.
 
-The shared library goes along if tools/shared-library has made it in this tree; without it the package looks for the library elsewhere.
+The shared library goes along if tools/shared-library has made it in this tree; else the installed package looks for it elsewhere.
 """
 from __future__ import annotations
 

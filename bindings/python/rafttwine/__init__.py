@@ -23,9 +23,8 @@ Two rows are right by the layout and do what hardly anybody wants, so making one
 - a discount with a positive value raises the price: values are added with their sign.
 
 Errors: a call that has no answer raises `Refused`, with the reason in `refusal`. A value of a wrong type is a TypeError, and one
-that the layout does not allow a ValueError, both with a message of the form `PriceRow.article: 41 bytes, and at most 40 are allowed`.
-Bytes that cannot be read are `BrokenBytes`, a ValueError with record and byte. A library that is not there, or does not fit, is an
-OSError.
+that the layout does not allow a ValueError; a message reads like `PriceRow.article: 41 bytes, and at most 40 are allowed`. Bytes
+that cannot be read are `BrokenBytes`, a ValueError with record and byte. A library that is not there or does not fit is an OSError.
 
 The library is looked for when it is first needed: the file that the environment variable RAFTTWINE_LIBRARY names; else
 librafttwine.so.1 in the package's folder, or beside that; else in target/lib of the tree that the package stands in, where
@@ -45,7 +44,7 @@ from .words import Cents, Level, NoDay, Percent, RowWarning, Rule, Sort, Way
 
 __all__ = [
     "Article", "BrokenBytes", "Cents", "DayPrice", "Level", "Line", "NoDay", "Packaging", "PackagingRow", "Percent", "Price",
-    "PriceRow", "Property", "Question", "Refusal", "Refused", "Rounding", "RowWarning", "Rule", "Scheme", "Sort", "Source", "Stretch",
-    "Text", "TextRow", "Way", "__version__", "book", "calendar", "calendar_list", "final_number", "packaging", "price", "question",
-    "read_book", "read_question", "read_text_book", "text", "text_book", "version",
+    "PriceRow", "Property", "Question", "Refusal", "Refused", "Rounding", "RowWarning", "Rule", "Scheme", "Sort", "Source",
+    "Stretch", "Text", "TextRow", "Way", "__version__", "book", "calendar", "calendar_list", "final_number", "packaging",
+    "price", "question", "read_book", "read_question", "read_text_book", "text", "text_book", "version",
 ]

@@ -38,8 +38,8 @@ class PropertyValue(Name):
 
 @dataclass(frozen=True)
 class Property(Laid):
-    """A property of the planned piece, `width` characters wide in the final article number. Without a value it is hidden, or nothing
-    is selected. A value has no spaces and no backslashes, and is no longer than the width."""
+    """A property of the planned piece, `width` characters wide in the final article number. Without a value it is hidden, or
+    nothing is selected. A value has no spaces and no backslashes, and is no longer than the width."""
 
     width: int
     value: Optional[str] = None

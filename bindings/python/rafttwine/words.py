@@ -139,7 +139,7 @@ def day_or_number(number: int) -> Union[date, NoDay]:
 
 
 def raised(name: str) -> str:
-    """A granted name as the library compares it, with capitals for the small letters a to z; names in rows it takes as they stand."""
+    """A granted name as the library compares it: with capitals for the small letters a to z. Names in rows stand as they are."""
     return re.sub("[a-z]", lambda letter: letter[0].upper(), name)
 
 

@@ -16,11 +16,15 @@ TELLING = (0, 1, 2, 3, 5, 6, 20, 21, 31, 32, 40, 41, 45, 64, 65, 66, 68, 80, 83,
 
 def accepts(layout: str, data: bytes) -> bool:
     """Whether the library takes the bytes for a book, a question or a text book."""
-    asked = {"book": lambda: price(data, ANY_QUESTION), "question": lambda: price(NO_RECORD, data), "text_book": lambda: text(data, data, 0)}
+    ask, broken = {
+        "book": (lambda: price(data, ANY_QUESTION), Refusal.BROKEN_BOOK),
+        "question": (lambda: price(NO_RECORD, data), Refusal.BROKEN_QUESTION),
+        "text_book": (lambda: text(data, data, 0), Refusal.BROKEN_BOOK),
+    }[layout]
     try:
-        asked[layout]()
+        ask()
     except Refused as refused:
-        return refused.refusal is not (Refusal.BROKEN_QUESTION if layout == "question" else Refusal.BROKEN_BOOK)
+        return refused.refusal is not broken
     return True
 
 
@@ -32,8 +36,8 @@ def changed(good: bytes) -> Iterator[bytes]:
 
 
 def reshaped(good: bytes, record_length: bool) -> Iterator[bytes]:
-    """A start of the bytes; a byte left out, or there twice. Then once more with the length of the whole put right, and that of the first
-    record too, so that what stands behind is looked at."""
+    """A start of the bytes; a byte left out, or there twice. Then once more with the length of the whole put right, and that of the
+    first record too, so that what stands behind is looked at."""
     for place in range(len(good)):
         for shaped in (good[:place], good[:place] + good[place + 1:], good[:place + 1] + good[place:]):
             yield shaped

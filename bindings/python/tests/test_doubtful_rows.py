@@ -49,8 +49,8 @@ class DoubtfulRowsTest(unittest.TestCase):
     def test_both_are_true_of_the_library(self) -> None:
         with warnings.catch_warnings():
             warnings.simplefilter("ignore", RowWarning)
-            rows = (Article("A1"), PriceRow("A1", Level.BASE, Cents(1000)), PriceRow("A1", Level.SURCHARGE, Cents(100), condition="oak"),
-                    PriceRow("A1", Level.DISCOUNT, Cents(10)))
+            rows = (Article("A1"), PriceRow("A1", Level.BASE, Cents(1000)), PriceRow("A1", Level.DISCOUNT, Cents(10)),
+                    PriceRow("A1", Level.SURCHARGE, Cents(100), condition="oak"))
         answer = price(book(*rows), question("A1", date(2024, 1, 1), granted=["oak", "OAK"]))
         self.assertEqual(([line.amount for line in answer.lines], answer.unused), ([1000, 10], (1,)))
 

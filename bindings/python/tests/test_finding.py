@@ -42,15 +42,15 @@ class FindingTest(unittest.TestCase):
     def asked(self, **environment: str) -> str:
         """What the copy says: its library's version and file, or the last lines of its complaint."""
         kept = {name: value for name, value in os.environ.items() if name not in (finding.VARIABLE, "LD_LIBRARY_PATH")}
-        done = subprocess.run([sys.executable, "-B", "-c", ASKED], env={**kept, "PYTHONPATH": str(self.package.parent), **environment},
-                              capture_output=True, text=True, cwd=self.tree)
+        there = {**kept, "PYTHONPATH": str(self.package.parent), **environment}
+        done = subprocess.run([sys.executable, "-B", "-c", ASKED], env=there, capture_output=True, text=True, cwd=self.tree)
         return done.stdout.strip() or done.stderr[done.stderr.rindex("OSError: "):].strip()
 
     def test_the_order_of_places(self) -> None:
         """From the last place to the first: each one that is put there comes before those that are there already."""
         self.assertEqual(self.asked(LD_LIBRARY_PATH=str(LIBRARY.parent)), f"{rafttwine.__version__} {finding.FILE}")
-        for where in (("target", "lib", finding.FILE), ("bindings", "python", finding.FILE), ("bindings", "python", "rafttwine", finding.FILE)):
-            place = self.put(*where)
+        for where in (("target", "lib"), ("bindings", "python"), ("bindings", "python", "rafttwine")):
+            place = self.put(*where, finding.FILE)
             with self.subTest(where):
                 self.assertEqual(self.asked(LD_LIBRARY_PATH=str(LIBRARY.parent)), f"{rafttwine.__version__} {place}")
         named = self.put("elsewhere", "named.so")
@@ -68,8 +68,9 @@ class FindingTest(unittest.TestCase):
             self.assertIn(line, said)
 
     def test_without_the_library_all_but_calls_work(self) -> None:
-        done = subprocess.run([sys.executable, "-B", "-c", "from rafttwine import *; print(read_book(book(Article('A1'))))"],
-                              env={"PYTHONPATH": str(self.package.parent), finding.VARIABLE: "/none"}, capture_output=True, text=True)
+        there = {"PYTHONPATH": str(self.package.parent), finding.VARIABLE: "/none"}
+        asked = "from rafttwine import *; print(read_book(book(Article('A1'))))"
+        done = subprocess.run([sys.executable, "-B", "-c", asked], env=there, capture_output=True, text=True)
         self.assertEqual(done.stdout, "(Article(number='A1', scheme=''),)\n", done.stderr)
 
     def test_the_named_file_is_not_there_or_no_library(self) -> None:
@@ -88,9 +89,11 @@ class FindingTest(unittest.TestCase):
 
     def test_no_version(self) -> None:
         other = self.compiled("int nothing;")
-        self.assertIn(f"{other} does not say its version: it is older than 1.1.0, or no Rafttwine library; ", self.asked(RAFTTWINE_LIBRARY=other))
+        self.assertIn(f"{other} does not say its version: it is older than 1.1.0, or no Rafttwine library; ",
+                      self.asked(RAFTTWINE_LIBRARY=other))
 
     def test_a_call_is_missing(self) -> None:
         there = "".join(f"void rafttwine_{name}(void) {{}}\n" for name in library.CALLS if name not in ("version", "packaging"))
         other = self.compiled(f"unsigned rafttwine_version(void) {{ return 10100; }}\n{there}")
-        self.assertIn(f"{other}, version 1.1.0, has no rafttwine_packaging, which this package needs; ", self.asked(RAFTTWINE_LIBRARY=other))
+        self.assertIn(f"{other}, version 1.1.0, has no rafttwine_packaging, which this package needs; ",
+                      self.asked(RAFTTWINE_LIBRARY=other))

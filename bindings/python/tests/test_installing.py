@@ -1,4 +1,4 @@
-"""The package installed: by pip, without a network, and as the wheel that pip is handed. Installed, it finds the library that went along."""
+"""The package installed: by pip, without a network, and as the wheel that pip gets; then it finds the library that went along."""
 from __future__ import annotations
 
 import importlib.util
@@ -14,6 +14,7 @@ import rafttwine
 
 FOLDER = pathlib.Path(rafttwine.__file__).resolve().parents[1]
 BUILT = FOLDER / "build_package.py"
+LEFT_OUT = ("RAFTTWINE_LIBRARY", "PYTHONPATH", "LD_LIBRARY_PATH")
 ASKED = """
 import rafttwine, rafttwine.library
 print(rafttwine.__version__, rafttwine.version(), rafttwine.__file__, rafttwine.library.library()._name)
@@ -28,8 +29,9 @@ class InstallingTest(unittest.TestCase):
         self.folder = pathlib.Path(made.name).resolve()
 
     def run_in(self, *words: str, **environment: str) -> str:
-        kept = {name: value for name, value in os.environ.items() if name not in ("RAFTTWINE_LIBRARY", "PYTHONPATH", "LD_LIBRARY_PATH")}
-        done = subprocess.run([sys.executable, "-B", *words], cwd=self.folder, env={**kept, **environment}, capture_output=True, text=True)
+        kept = {name: value for name, value in os.environ.items() if name not in LEFT_OUT}
+        done = subprocess.run([sys.executable, "-B", *words], cwd=self.folder, env={**kept, **environment}, capture_output=True,
+                              text=True)
         self.assertEqual(done.returncode, 0, done.stdout + done.stderr)
         return done.stdout
 

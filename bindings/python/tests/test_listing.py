@@ -47,8 +47,8 @@ class ListingTest(unittest.TestCase):
     def test_broken_book(self) -> None:
         self.file.write_bytes(BOOK.replace(b"T1\0SB", b"T1\0SC"))
         first = LISTED[:LISTED.index("\n") + 1]
-        self.assertEqual(self.listed(str(self.file)), (1, first, f"{self.file}: no price book: record 2, byte 21, PriceRow.level: the byte "
-                                                       "67 stands for none of BASE, SURCHARGE, DISCOUNT\n"))
+        wrong = "record 2, byte 21, PriceRow.level: the byte 67 stands for none of BASE, SURCHARGE, DISCOUNT"
+        self.assertEqual(self.listed(str(self.file)), (1, first, f"{self.file}: no price book: {wrong}\n"))
 
     def test_no_file_and_a_folder(self) -> None:
         self.assertEqual(self.listed("/none"), (1, "", "/none: No such file or directory\n"))
@@ -60,7 +60,8 @@ class ListingTest(unittest.TestCase):
 
     def test_a_reader_that_has_seen_enough(self) -> None:
         self.file.write_bytes(book(*[Article("N" * 40)] * 5000))
-        done = subprocess.Popen([sys.executable, "-B", "-m", "rafttwine", str(self.file)], stdout=subprocess.PIPE, stderr=subprocess.PIPE)
+        done = subprocess.Popen([sys.executable, "-B", "-m", "rafttwine", str(self.file)], stdout=subprocess.PIPE,
+                                stderr=subprocess.PIPE)
         done.stdout.readline()
         done.stdout.close()
         self.assertEqual((done.stderr.read(), done.wait()), (b"", 0))

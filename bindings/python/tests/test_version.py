@@ -16,5 +16,6 @@ class VersionTest(unittest.TestCase):
 
     def test_the_header_has_the_version_of_the_package(self) -> None:
         asked = '#include "include/rafttwine.h"\nRAFTTWINE_VERSION\n'
-        said = subprocess.run(["cc", "-E", "-P", "-I", ".", "-x", "c", "-"], input=asked, capture_output=True, text=True, check=True).stdout
-        self.assertEqual(ast.literal_eval(said.strip().splitlines()[-1]), rafttwine.__version__)
+        expand = ["cc", "-E", "-P", "-I", ".", "-x", "c", "-"]
+        said = subprocess.run(expand, input=asked, capture_output=True, text=True, check=True)
+        self.assertEqual(ast.literal_eval(said.stdout.strip().splitlines()[-1]), rafttwine.__version__)

@@ -6,8 +6,8 @@ from datetime import date, datetime
 from decimal import Decimal
 from typing import Callable
 
-from rafttwine import (Article, Cents, Level, NoDay, PackagingRow, Percent, PriceRow, Property, Rounding, Scheme, TextRow, Way, book, calendar,
-                       price, question, text, text_book)
+from rafttwine import (Article, Cents, Level, NoDay, PackagingRow, Percent, PriceRow, Property, Rounding, Scheme, TextRow, Way,
+                       book, calendar, price, question, text, text_book)
 from samples import ASKED, BOOK, FALLBACK, QUESTIONS
 from sizes import MOST_BYTES, articles_of, texts_of
 
@@ -118,7 +118,8 @@ WRONG: list[tuple[type[Exception], str, Callable[[], object]]] = [
      lambda: Property(3, "OAK", hidden=True)),
     (ValueError, "Property.value: 4 bytes, and its width is 3", lambda: Property(3, "OAKS")),
     (ValueError, "Property.value: it is empty, and None is for no value", lambda: Property(3, "")),
-    (ValueError, "Property.value: character 2 is ' ' (U+0020), and a value has no spaces and no backslashes", lambda: Property(3, "O K")),
+    (ValueError, "Property.value: character 2 is ' ' (U+0020), and a value has no spaces and no backslashes",
+     lambda: Property(3, "O K")),
     (ValueError, "PackagingRow.length_unit: it is missing, and depth is given", carton(depth=1)),
     (ValueError, "PackagingRow.volume_unit: it is missing, and volume is given", carton(volume=0)),
     (ValueError, "PackagingRow.weight_unit: it is missing, and net is given", carton(net=1, items=1)),
@@ -146,7 +147,8 @@ RIGHT: list[Callable[[], object]] = [
     lambda: (Cents(-100_000_000), Percent(Decimal("-1000.00")), Percent("+12.500"), NoDay(0)),
     lambda: (Rounding(65_535, Way.UP, 1_000_000, -1_000_000, 1_000_000), Article("\xa0")),
     carton(width=-10_000_000, items=-10_000, length_unit="CMT", volume_unit="LTR"),
-    lambda: (Scheme("S", between_values="--", trim=True), Scheme("S", between_values="-"), Scheme("S", hidden="+", between_values="-", trim=True)),
+    lambda: (Scheme("S", between_values="--", trim=True), Scheme("S", between_values="-")),
+    lambda: Scheme("S", hidden="+", between_values="-", trim=True),
     lambda: text(ASKED, text_book({2**32 - 1: bytes(65_535)}), 2**32 - 1),
 ]
 
