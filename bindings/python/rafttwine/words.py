@@ -75,7 +75,7 @@ class Percent:
 
     def __post_init__(self) -> None:
         share = _share(self.share)
-        if abs(share) > MOST_HUNDREDTHS // 100:
+        if share.copy_abs() > MOST_HUNDREDTHS // 100:
             raise ValueError(f"Percent.share: {told(self.share)} is out of range, -1,000 to 1,000 is allowed")
         kept = share.quantize(_TWO_DECIMALS, context=_EXACT)
         if kept != share:

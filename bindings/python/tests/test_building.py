@@ -1,10 +1,11 @@
-"""Books and questions of readable values, the words of refusals, and the example that the package shows first."""
+"""Books and questions of readable values, and the example that the package shows first."""
 import doctest
 import unittest
 from datetime import date
+from decimal import Decimal, localcontext
 
 import rafttwine
-from rafttwine import Article, Level, Percent, PriceRow, Property, Refusal, Refused, Rule, Sort, book, question, text_book
+from rafttwine import Article, Level, Percent, PriceRow, Property, Rule, Sort, book, question, text_book
 
 
 class BuildingTest(unittest.TestCase):
@@ -22,10 +23,14 @@ class BuildingTest(unittest.TestCase):
                          b"\x03\x02\0\x01W\x03\x01\0\x04\x02\0")
         self.assertEqual(text_book({1: b"a\0"}), b"\0\0\0\x0d\x01\0\0\0\x01\0\x02a\0")
 
-    def test_each_refusal_has_its_number_and_words(self) -> None:
-        self.assertEqual([refusal.value for refusal in Refusal], list(range(1, 13)))
-        for refusal in Refusal:
-            self.assertEqual(str(Refused(refusal)), f"{refusal.reason} (refusal {refusal.value})")
+    def test_a_percentage_is_exact_in_every_decimal_context(self) -> None:
+        for written, hundredths in (("123.45", 12_345), ("-0.01", -1), ("1000", 100_000), (-3, -300), (Decimal("12.5"), 1250)):
+            with self.subTest(written), localcontext() as context:
+                context.prec = 1
+                self.assertEqual(Percent(written).hundredths(), hundredths)
+                self.assertEqual(Percent.of_hundredths(hundredths), Percent(written))
+                self.assertRaises(ValueError, Percent, "1000.01")
+        self.assertEqual((repr(Percent("12.5")), str(Percent(-3))), ("Percent('12.50')", "-3.00 %"))
 
     def test_first_example(self) -> None:
         self.assertEqual(doctest.testmod(rafttwine), (0, 5))

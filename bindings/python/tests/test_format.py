@@ -1,4 +1,4 @@
-"""The document of the formats: its examples have the sizes that it says, are what the package packs, and get the answers it shows."""
+"""The document of the formats: its examples have the sizes that it says, are what the package packs, and get the answers shown."""
 from __future__ import annotations
 
 import pathlib

@@ -1,6 +1,8 @@
 """The package installed: by pip, without a network, and as the wheel that pip gets; then it finds the library that went along."""
 from __future__ import annotations
 
+import base64
+import hashlib
 import importlib.util
 import os
 import pathlib
@@ -55,6 +57,11 @@ class InstallingTest(unittest.TestCase):
     def test_the_wheel(self) -> None:
         with zipfile.ZipFile(self.build("wheel")) as wheel:
             wheel.extractall(self.folder / "there")
+            recorded = wheel.read(f"rafttwine-{rafttwine.__version__}.dist-info/RECORD").decode().splitlines()
+            self.assertEqual([line.split(",")[0] for line in recorded], wheel.namelist())
+            for name, said, size in (line.split(",") for line in recorded[:-1]):
+                digest = base64.urlsafe_b64decode(said[len("sha256="):] + "=").hex()
+                self.assertEqual((digest, int(size)), (hashlib.sha256(wheel.read(name)).hexdigest(), len(wheel.read(name))))
         self.works(self.folder / "there")
         installed = {file.name for file in (self.folder / "there" / "rafttwine").iterdir()} - {"librafttwine.so.1"}
         self.assertEqual(installed, {file.name for file in (FOLDER / "rafttwine").iterdir() if file.is_file()})

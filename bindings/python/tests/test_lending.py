@@ -103,14 +103,15 @@ class LendingTest(unittest.TestCase):
             buffer.append(0)
 
     def test_given_back_after_a_refusal_and_after_a_wrong_type(self) -> None:
-        buffer = bytearray(BOOK)
+        buffer, numbers = bytearray(BOOK), array.array("I", [0])
         with self.assertRaises(Refused):
             price(buffer, b"")
         with self.assertRaises(TypeError):
             price(buffer, "june")
         with self.assertRaises(TypeError):
-            price(array.array("I", [0]), buffer)
+            price(buffer, numbers)
         buffer.append(0)
+        numbers.append(0)
 
     def test_many_threads_over_one_buffer(self) -> None:
         buffer, asked = bytearray(BOOK), bytearray(QUESTIONS["june_oak"])

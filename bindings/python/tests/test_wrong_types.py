@@ -10,8 +10,8 @@ from typing import Any, Callable
 
 import rafttwine
 from rafttwine import (Article, Cents, Level, NoDay, PackagingRow, Percent, PriceRow, Property, Rounding, Rule, Scheme, Sort,
-                       TextRow, Way, book, calendar, calendar_list, final_number, packaging, price, question, read_book, read_question,
-                       read_text_book, text, text_book)
+                       TextRow, Way, book, calendar, calendar_list, final_number, packaging, price, question, read_book,
+                       read_question, read_text_book, text, text_book)
 from samples import ASKED, BOOK, FALLBACK, QUESTIONS, TABLE, YEAR_END
 
 # One value of each type that somebody could come with.
@@ -34,7 +34,8 @@ TABLE_OF_TYPES: list[tuple[Callable[..., object], dict[str, Any], dict[str, tupl
     (Article, {"number": "A1"}, {"number": TEXT, "scheme": TEXT}),
     (PriceRow, {"article": "A1", "level": Level.BASE, "value": Cents(1)}, {
         "article": TEXT, "level": ("level",), "value": ("cents", "percent"), "condition": TEXT, "rule": ("rule",),
-        "sort": ("sort",), "currency": TEXT, "first": ROW_DAY, "last": ROW_DAY, "up_to": NUMBER, "rounding": NUMBER, "text": NUMBER}),
+        "sort": ("sort",), "currency": TEXT, "first": ROW_DAY, "last": ROW_DAY, "up_to": NUMBER, "rounding": NUMBER,
+        "text": NUMBER}),
     (Rounding, {"number": 1, "way": Way.UP, "step": 1}, {
         "number": NUMBER, "way": ("way",), "step": NUMBER, "before": NUMBER, "after": NUMBER}),
     (PackagingRow, {"article": "A1", "length_unit": "CMT", "volume_unit": "LTR", "weight_unit": "KGM"}, {
