@@ -39,7 +39,7 @@ class Refusal(IntEnum):
     @property
     def reason(self) -> str:
         """The refusal in words."""
-        return _REASONS.get(self, "this package does not know the reason, the library is a later one")
+        return _REASONS.get(self) or f"the reason {self.value} of a later library, which this package does not know"
 
     def __str__(self) -> str:
         return f"no price: {self.reason}" if self in _NO_PRICE else self.reason

@@ -1,6 +1,7 @@
 """The program that lists a book:  python3 -m rafttwine BOOK"""
 from __future__ import annotations
 
+import os
 import pathlib
 import subprocess
 import sys
@@ -37,8 +38,9 @@ class ListingTest(unittest.TestCase):
         self.file = pathlib.Path(made.name) / "desk.book"
         self.file.write_bytes(BOOK)
 
-    def listed(self, *words: str) -> tuple[int, str, str]:
-        done = subprocess.run([sys.executable, "-B", "-m", "rafttwine", *words], capture_output=True, text=True)
+    def listed(self, *words: str, **environment: str) -> tuple[int, str, str]:
+        done = subprocess.run([sys.executable, "-B", "-m", "rafttwine", *words], capture_output=True, text=True,
+                              env={**os.environ, **environment}, timeout=60)
         return done.returncode, done.stdout, done.stderr
 
     def test_records_with_what_they_say(self) -> None:
@@ -54,7 +56,19 @@ class ListingTest(unittest.TestCase):
         self.assertEqual(self.listed("/none"), (1, "", "/none: No such file or directory\n"))
         self.assertEqual(self.listed("/"), (1, "", "/: Is a directory\n"))
 
+    def test_a_file_without_an_end(self) -> None:
+        wrong = "byte 0, book.length: 0 bytes are said, and 4,194,305 are there"
+        self.assertEqual(self.listed("/dev/zero"), (1, "", f"/dev/zero: no price book: {wrong}\n"))
+
+    def test_a_terminal_without_umlauts(self) -> None:
+        self.file.write_bytes(book(Article("T\xfcr")))
+        shown = "     1  byte       5  Article number='T\\xfcr'\n"
+        self.assertEqual(self.listed(str(self.file), PYTHONIOENCODING="ascii"), (0, shown, ""))
+
     def test_usage(self) -> None:
+        for word in ("-h", "--help"):
+            self.assertEqual(self.listed(word)[::2], (0, ""))
+            self.assertIn("usage: python3 -m rafttwine BOOK\n", self.listed(word)[1])
         for words in ((), ("a", "b")):
             self.assertEqual(self.listed(*words), (2, "", "usage: python3 -m rafttwine BOOK\n"))
 

@@ -39,7 +39,8 @@ class RefusalTest(unittest.TestCase):
     def test_a_number_of_a_later_library_is_kept(self) -> None:
         later = Refusal(LATER)
         self.assertEqual((later, later.value, later.name), (LATER, LATER, "REFUSAL_13"))
-        self.assertEqual(str(Refused(LATER)), f"{later.reason} (refusal 13)")
+        self.assertEqual(str(later), "the reason 13 of a later library, which this package does not know")
+        self.assertEqual(str(Refused(LATER)), f"{later} (refusal 13)")
         self.assertIs(Refusal(LATER), later)
         self.assertNotIn(later, list(Refusal))
 
