@@ -35,7 +35,8 @@ from .books import book, read_book
 from .calls import calendar, calendar_list, final_number, packaging, price, text, version
 from .cartons import PackagingRow
 from .packing import BrokenBytes
-from .questions import Property, Question, question, read_question
+from .properties import Property
+from .questions import Question, question, read_question
 from .records import Article, PriceRow, Rounding, Scheme
 from .refusals import Refusal, Refused
 from .release import __version__

@@ -77,6 +77,11 @@ class Laid:
 def _warn(sentence: str) -> None:
     """Warns at the line of the program that made the row."""
     level, frame = 1, sys._getframe()
-    while frame.f_back and frame.f_globals.get("__name__", "").partition(".")[0] in (__package__, "dataclasses"):
+    while frame.f_back and _is_ours(frame.f_globals.get("__name__", "")):
         level, frame = level + 1, frame.f_back
     warnings.warn(sentence, RowWarning, stacklevel=level)
+
+
+def _is_ours(module: str) -> bool:
+    """A row may be made by the package itself, or by dataclasses.replace."""
+    return module == "dataclasses" or module == __package__ or module.startswith(f"{__package__}.")
