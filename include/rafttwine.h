@@ -5,6 +5,9 @@
  * in text books. A tool lends a book together with a question: which article, on which day, how many, and which conditions the planned
  * piece grants. The calls work on lent bytes alone and are proved to answer by the rules, on every input.
  *
+ * Beside this header belong two documents: FORMAT.md has the bytes of price books, questions and text books in tables, for whoever packs
+ * them; CALLS.md has each call with an example and with the smallest input for each of its refusals.
+ *
  * WHAT YOU MAY COUNT ON
  *
  * - Lend any bytes of any length. What is no book, or no question, or has no answer gets a refusal number, in a fixed order. Beside a
@@ -19,11 +22,16 @@
  *
  * WHAT YOU OWE
  *
+ * No call can see whether you kept to this, and where you did not, nothing is promised.
+ *
  * - A pointer leads to as many bytes, or list records, as the length behind it says. They can be read, and those of an output written.
- * - Until the call returns nobody else writes what you lent, and nobody else reads an output.
+ * - Until the call returns nobody else writes what you lent, and nobody else reads an output. So threads may share a book, and each has
+ *   an output of its own.
  * - An output overlaps no input. Inputs may overlap: the asked text book may be the fallback too.
  * - A list of rafttwine_stretch is aligned as that type is. Bytes may start anywhere.
  * - Where a length is 0 the pointer is not followed. It may then be null.
+ * - You look at the field `number` of an answer before you use the rest: a refused price is 0 cents, which is also a price.
+ * - A library that is loaded at run time has the first version number of this header. See rafttwine_version.
  *
  * WHAT A QUESTION LOOKS LIKE
  *
@@ -55,8 +63,21 @@
 extern "C" {
 #endif
 
-/* The first number changes when a program has to be compiled anew. */
-#define RAFTTWINE_VERSION "1.0.0"
+/* The version of this header. The first number changes when a program has to be compiled anew, the second when something is added. */
+#define RAFTTWINE_VERSION_MAJOR 1
+#define RAFTTWINE_VERSION_MINOR 1
+#define RAFTTWINE_VERSION_PATCH 0
+/* As one number that grows from version to version, and as text with dots between. */
+#define RAFTTWINE_VERSION_NUMBER (RAFTTWINE_VERSION_MAJOR * 10000 + RAFTTWINE_VERSION_MINOR * 100 + RAFTTWINE_VERSION_PATCH)
+#define RAFTTWINE_VERSION RAFTTWINE_DOTTED(RAFTTWINE_VERSION_MAJOR, RAFTTWINE_VERSION_MINOR, RAFTTWINE_VERSION_PATCH)
+#define RAFTTWINE_DOTTED(major, minor, patch) RAFTTWINE_QUOTED(major) "." RAFTTWINE_QUOTED(minor) "." RAFTTWINE_QUOTED(patch)
+#define RAFTTWINE_QUOTED(number) #number
+
+/* The version of the library that the program runs with, as RAFTTWINE_VERSION_NUMBER is that of the header it was compiled with. The
+ * library serves the program if the first numbers are the same and the library is not the older one:
+ *
+ *   rafttwine_version() / 10000 == RAFTTWINE_VERSION_MAJOR && rafttwine_version() >= RAFTTWINE_VERSION_NUMBER */
+uint32_t rafttwine_version(void);
 
 /* More stack than a call takes. */
 #define RAFTTWINE_STACK_BYTES 65536
@@ -78,6 +99,26 @@ enum rafttwine_refusal {
     RAFTTWINE_UNFIT_PACKAGING = 11,   /* packaging data in different units, or a sum of them below zero */
     RAFTTWINE_NO_TEXT = 12            /* neither text book has the number */
 };
+
+/* A refusal in English, for a message or a log. A later library may have further numbers. */
+static inline const char *rafttwine_refusal_text(unsigned number) {
+    switch (number) {
+    case RAFTTWINE_DONE: return "done";
+    case RAFTTWINE_BROKEN_BOOK: return "the price book, or one of the text books, is not laid out as such a book";
+    case RAFTTWINE_BROKEN_QUESTION: return "the question is not laid out as one, or its day is not in the calendar";
+    case RAFTTWINE_NO_ARTICLE: return "the book does not have the article";
+    case RAFTTWINE_NO_BASE_LINE: return "the article has no base price on that day, in that quantity";
+    case RAFTTWINE_MIXED_CURRENCIES: return "a fixed amount is in another currency than the first base line";
+    case RAFTTWINE_TOTAL_OUT_OF_RANGE: return "the total went beyond a thousand million cents";
+    case RAFTTWINE_SHORT_OUTPUT: return "the lent output is too short";
+    case RAFTTWINE_NO_PACKAGING: return "the book has no packaging data for the plain article";
+    case RAFTTWINE_BAD_PERIOD: return "the period's end is no day, or before its start, or too late";
+    case RAFTTWINE_MANY_STRETCHES: return "there are over 1200 stretches";
+    case RAFTTWINE_UNFIT_PACKAGING: return "packaging data are in different units, or sum up to less than zero";
+    case RAFTTWINE_NO_TEXT: return "neither text book has the number";
+    default: return "unknown refusal";
+    }
+}
 
 /* ---- The price of an article, line by line ---- */
 
