@@ -13,6 +13,7 @@ void *memset(void *to, int byte, size_t length);
 int open(const char *path, int flags, ...);
 int printf(const char *format, ...);
 long read(int file, void *to, size_t most);
+int snprintf(char *to, size_t most, const char *format, ...);
 
 /* A lent output is filled with this byte before a call, to see what was written. */
 #define UNTOUCHED 0xA5

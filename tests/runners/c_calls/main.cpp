@@ -1,6 +1,11 @@
-// C++ finds the calls by their C names.
+// C++ finds the calls by their C names, and what the header itself defines.
+#include <cstring>
+
 #include "rafttwine.h"
 
 int main() {
-    return rafttwine_text(0, 0, 0, 0, 0).number != RAFTTWINE_BROKEN_BOOK;
+    const unsigned refused = rafttwine_text(0, 0, 0, 0, 0).number;
+    const bool told = std::strstr(rafttwine_refusal_text(refused), "book") != 0;
+    const bool same_version = rafttwine_version() == RAFTTWINE_VERSION_NUMBER;
+    return !(refused == RAFTTWINE_BROKEN_BOOK && told && same_version);
 }
