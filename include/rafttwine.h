@@ -5,8 +5,9 @@
  * in text books. A tool lends a book together with a question: which article, on which day, how many, and which conditions the planned
  * piece grants. The calls work on lent bytes alone and are proved to answer by the rules, on every input.
  *
- * Beside this header belong two documents: FORMAT.md has the bytes of price books, questions and text books in tables, for whoever packs
- * them; CALLS.md has each call with an example and with the smallest input for each of its refusals.
+ * Three files go with this header, in share/doc/rafttwine where it is installed: FORMAT.md has the bytes of price books, questions
+ * and text books in tables, for whoever packs them; CALLS.md has each call with an example, and with the smallest input for each of
+ * its refusals; price.c is a whole program. In the source they are docs/FORMAT.md, docs/CALLS.md and examples/c/price.c.
  *
  * WHAT YOU MAY COUNT ON
  *
@@ -25,8 +26,8 @@
  * No call can see whether you kept to this, and where you did not, nothing is promised.
  *
  * - A pointer leads to as many bytes, or list records, as the length behind it says. They can be read, and those of an output written.
- * - Until the call returns nobody else writes what you lent, and nobody else reads an output. So threads may share a book, and each has
- *   an output of its own.
+ * - Until the call returns nobody else writes what you lent, and nobody else reads an output. So threads may share a book, and each
+ *   has an output of its own.
  * - An output overlaps no input. Inputs may overlap: the asked text book may be the fallback too.
  * - A list of rafttwine_stretch is aligned as that type is. Bytes may start anywhere.
  * - Where a length is 0 the pointer is not followed. It may then be null.
@@ -63,7 +64,7 @@
 extern "C" {
 #endif
 
-/* The version of this header. The first number changes when a program has to be compiled anew, the second when something is added. */
+/* This header's version. The first number changes when a program has to be compiled anew, the second when something is added. */
 #define RAFTTWINE_VERSION_MAJOR 1
 #define RAFTTWINE_VERSION_MINOR 1
 #define RAFTTWINE_VERSION_PATCH 0
@@ -73,8 +74,8 @@ extern "C" {
 #define RAFTTWINE_DOTTED(major, minor, patch) RAFTTWINE_QUOTED(major) "." RAFTTWINE_QUOTED(minor) "." RAFTTWINE_QUOTED(patch)
 #define RAFTTWINE_QUOTED(number) #number
 
-/* The version of the library that the program runs with, as RAFTTWINE_VERSION_NUMBER is that of the header it was compiled with. The
- * library serves the program if the first numbers are the same and the library is not the older one:
+/* The version of the library that the program runs with, as RAFTTWINE_VERSION_NUMBER is that of the header it was compiled with.
+ * The library serves the program if the first numbers are the same and the library is not the older one:
  *
  *   rafttwine_version() / 10000 == RAFTTWINE_VERSION_MAJOR && rafttwine_version() >= RAFTTWINE_VERSION_NUMBER */
 uint32_t rafttwine_version(void);

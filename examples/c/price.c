@@ -2,8 +2,8 @@
  *
  *   cc price.c $(pkg-config --cflags --libs rafttwine) -o price
  *
- * The bytes of books, questions and text books are in FORMAT.md, the calls in CALLS.md and in the header. A tool has its books from the
- * maker, packed; then it needs add_number, add_name and the question alone. */
+ * The bytes of books, questions and text books are in FORMAT.md, the calls in CALLS.md and in the header. A tool has its books from
+ * the maker, packed; then it needs add_number, add_name and the question alone. */
 #include <stdio.h>
 #include <stdlib.h>
 #include <string.h>
@@ -227,7 +227,7 @@ static void print_calendar(const packed *book, const packed *asked, uint32_t end
 static void check_version(void) {
     uint32_t loaded = rafttwine_version();
     if (loaded / 10000 != RAFTTWINE_VERSION_MAJOR || loaded < RAFTTWINE_VERSION_NUMBER)
-        fail("the library is not the one that this was compiled for, version " RAFTTWINE_VERSION ", nor a later one that serves it");
+        fail("the library is not the one that this was compiled for, " RAFTTWINE_VERSION ", nor a later one that serves it");
 }
 
 int main(void) {
