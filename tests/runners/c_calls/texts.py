@@ -8,6 +8,7 @@ sys.path.insert(0, "bindings/python")
 from rafttwine import Refusal  # noqa: E402
 
 UNKNOWN = "unknown refusal"
+MOST_SHOWN = 12
 
 
 def printed(*command):
@@ -19,13 +20,13 @@ def main(header_program, rust_program):
     header = printed(header_program)
     known = {number: text for number, text in header.items() if number and text != UNKNOWN}
     python = {one.value: one.reason for one in Refusal}
-    rust = printed(rust_program, *map(str, known))
+    rust = printed(rust_program, *map(str, python))
     wrong = [f"{number}: {known.get(number)!r} in the header, {other.get(number)!r} in {where}"
              for where, other in (("Python", python), ("Rust", rust)) for number in sorted({*known, *other})
              if known.get(number) != other.get(number)]
     if header.get(0) != "done" or len(header) != 256 or not known:
         wrong.append(f"the header has texts for {len(header)} numbers, {len(known)} of them refusals, and 0 is {header.get(0)!r}")
-    print(*wrong or [f"{len(known)} are the same in the header, in Python and in Rust"], sep="\n")
+    print(*wrong[:MOST_SHOWN] or [f"{len(known)} are the same in the header, in Python and in Rust"], sep="\n")
     return bool(wrong)
 
 
