@@ -1,85 +1,45 @@
-"""What a sheet of rows stands for: a price book, text books in two languages, and the questions of a customer."""
+"""What a sheet of rows stands for: a price book, two text books, and the questions of a customer."""
 from __future__ import annotations
 
 from datetime import date
-from decimal import Decimal
-from typing import Optional
+from typing import Mapping
 
 import rafttwine
-from rafttwine import Article, Cents, Level, PackagingRow, Percent, PriceRow, Property, Rounding, Rule, Scheme, Way
-from rows import Row, Sheet
+from checks import Checked
+from rows import Sheet, Wrong
+from sections import is_language
 
-RULES = {"": Rule.OF_BASE, "base": Rule.OF_BASE, "total so far": Rule.OF_TOTAL_SO_FAR}
-THOUSANDTHS = ("width", "height", "depth", "volume", "tare", "net")
-COUNTS = ("items", "packs")
-UNITS = ("length unit", "volume unit", "weight unit")
+RECORDS = ("article", "price", "rounding", "packaging", "scheme")
 
 
 class Desk:
-    """The bytes that are lent to the library, and what the customer asks about."""
+    """The bytes that are lent to the library, what the customer asks about, and the warnings about the sheet."""
 
     def __init__(self, sheet: Sheet, language: str) -> None:
-        makers = {"article": _article, "price": _price, "rounding": _rounding, "packaging": _packaging, "scheme": _scheme}
-        self.book = rafttwine.book(*(make(row) for kind, make in makers.items() for row in sheet[kind]))
-        other = next(column for column in sheet["text"][0] if column not in ("number", language))
-        self.texts = tuple(_texts(sheet["text"], one) for one in (language, other))
-        asked = sheet["question"][0]
-        self.article, self.quantity, self.granted = asked["article"], int(asked["quantity"]), _words(asked["granted"])
-        self.days = [date.fromisoformat(day) for day in _words(asked["days"])]
-        self.first_day, self.last_day = (date.fromisoformat(asked[f"calendar {end}"]) for end in ("from", "to"))
-        self.properties = [_property(row) for row in sheet["property"]]
+        checked = Checked(sheet)
+        made, self.warnings, self.file = checked.made, checked.warnings, sheet.file
+        others = other_languages(sheet, language)
+        try:
+            self.book = rafttwine.book(*(record for section in RECORDS for record in made[section]))
+            self.texts = text_book(made["text"], [language]), text_book(made["text"], others)
+        except ValueError as error:
+            raise Wrong([f"{sheet.file}: {error}"]) from None
+        self.asked, self.properties = made["question"][0], made["property"]
 
     def question(self, day: date) -> bytes:
-        return rafttwine.question(self.article, day, self.quantity, self.granted, self.properties)
+        asked = self.asked
+        return rafttwine.question(asked.article, day, asked.quantity, asked.granted, self.properties)
 
 
-def _article(row: Row) -> Article:
-    return Article(row["number"], row["scheme"])
+def other_languages(sheet: Sheet, language: str) -> list[str]:
+    """The languages that a text may come in which is not there in the one asked for. With no texts at all any language will do."""
+    languages = [column for column in sheet.sections["text"].columns if is_language(column)] if "text" in sheet.sections else []
+    if languages and language not in languages:
+        raise Wrong([f'{sheet.file}: there are no texts in "{language}": {" or ".join(languages)}'], status=2)
+    return [one for one in languages if one != language]
 
 
-def _price(row: Row) -> PriceRow:
-    share = row["value"].endswith("%")
-    value = Percent(row["value"].rstrip("% ")) if share else Cents(_in(row["value"], 100))
-    return PriceRow(row["article"], Level[row["level"].upper()], value, row["condition"], RULES[row["of"]], currency=row["currency"],
-                    first=date.fromisoformat(row["from"]), last=date.fromisoformat(row["to"]), rounding=int(row["rounding"] or 0),
-                    text=int(row["text"]))
-
-
-def _rounding(row: Row) -> Rounding:
-    return Rounding(int(row["number"]), Way[row["way"].upper()], _in(row["step"], 100))
-
-
-def _packaging(row: Row) -> PackagingRow:
-    values = {name: _given(row[name], 1000) for name in THOUSANDTHS} | {name: _given(row[name], 1) for name in COUNTS}
-    units = {name.replace(" ", "_"): row[name] or None for name in UNITS}
-    return PackagingRow(row["article"], row["condition"], **values, **units)
-
-
-def _scheme(row: Row) -> Scheme:
-    return Scheme(row["id"], between_values=row["between values"], trim=row["trim"] == "yes")
-
-
-def _property(row: Row) -> Property:
-    return Property(int(row["width"]), row["value"] or None, hidden=row["hidden"] == "yes")
-
-
-def _texts(rows: list[Row], language: str) -> bytes:
-    """The text book of a language: a text that was not translated is not in it."""
-    return rafttwine.text_book({int(row["number"]): row[language].encode("latin-1") for row in rows if row[language]})
-
-
-def _words(cell: str) -> list[str]:
-    """The words of a list in one cell."""
-    return [word.strip() for word in cell.split(",")]
-
-
-def _given(cell: str, parts: int) -> Optional[int]:
-    return _in(cell, parts) if cell else None
-
-
-def _in(cell: str, parts: int) -> int:
-    """So many hundredths or thousandths, of a number that has no smaller ones."""
-    exact = Decimal(cell) * parts
-    if exact != int(exact):
-        raise ValueError(f"{cell} has too many decimals")
-    return int(exact)
+def text_book(texts: list[tuple[int, Mapping[str, str]]], languages: list[str]) -> bytes:
+    """Every text in the first of the languages that has it. A text that was translated to none of them is not in the book."""
+    translated = {number: [words[one] for one in languages if words[one]] for number, words in texts}
+    return rafttwine.text_book({number: found[0].encode("latin-1") for number, found in translated.items() if found})

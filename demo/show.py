@@ -1,15 +1,17 @@
-"""Shows what the library answers to the questions of a sheet of rows:  show.py SHEET LANGUAGE"""
+"""Shows what the library answers to the questions of a sheet of rows:  show.py [--check] LANGUAGE SHEET
+
+With --check it says only what is wrong with the sheet or the language, and needs no library for that."""
 from __future__ import annotations
 
+import os
 import sys
 from datetime import date
 from decimal import Decimal
-from pathlib import Path
 from typing import Callable, Iterable, Optional
 
 from desk import Desk
-from rafttwine import Packaging, Refusal, Refused, Stretch, calendar, final_number, packaging, price, text
-from rows import read
+from rafttwine import Line, Packaging, Refusal, Refused, Stretch, calendar, final_number, packaging, price, text
+from rows import Sheet, Wrong
 
 UNIT_NAMES = {"CMT": "cm", "FOT": "ft", "INH": "in", "MMT": "mm", "MTR": "m", "INQ": "cubic in", "LTR": "l", "MTQ": "cubic m",
               "KGM": "kg", "LBR": "lb", "MGM": "mg"}
@@ -18,24 +20,51 @@ Shown = tuple[str, str, str]
 RULE: Shown = ("", "", "")
 CURRENCY_WIDTH = 3
 
-
-def main(file: str, language: str) -> None:
-    desk = Desk(read(Path(file)), language)
-    some_day = desk.question(desk.days[0])
-    print(f"{desk.article}, {desk.quantity} pieces, with {', '.join(desk.granted)}")
-    print_aligned({
-        **{f"Price on {day:%A} {day.day} {day:%B %Y}": answered(lambda: itemised(desk, day)) for day in desk.days},
-        "Calendar of the price of one piece": answered(lambda: stretches(desk)),
-        "Order number": answered(lambda: [(final_number(desk.book, some_day), "", "")]),
-        "Cartons of one piece": answered(lambda: measures(packaging(desk.book, some_day))),
-    })
+# Refusals that a right sheet can meet. Every other one is a fault of the sheet that nothing here found.
+WHY_NOT = {
+    Refusal.NO_BASE_LINE: "There is no price for this day.",
+    Refusal.MIXED_CURRENCIES: "There is no price for this day: its amounts are in different currencies.",
+    Refusal.TOTAL_OUT_OF_RANGE: "There is no price for this day: the amounts add up to more than 10,000,000.00.",
+    Refusal.NO_PACKAGING: "Nothing is known about the cartons of this article.",
+    Refusal.UNFIT_PACKAGING: "The data about the cartons are in different units, or add up to less than nothing.",
+}
+WHY_NO_STRETCH = {Refusal.MIXED_CURRENCIES: "(different currencies)", Refusal.TOTAL_OUT_OF_RANGE: "(too large)"}
 
 
-def answered(rows: Callable[[], list[Shown]]) -> list[Shown]:
+def main(arguments: list[str]) -> int:
+    checking = arguments[:1] == ["--check"]
+    language, file = arguments[checking:]
+    try:
+        desk = Desk(Sheet(file), language)
+        if not checking:
+            print(*desk.warnings, sep="\n", end="\n" if desk.warnings else "", file=sys.stderr)
+            show(desk)
+        return 0
+    except Wrong as wrong:
+        print(wrong, file=sys.stderr)
+        return wrong.status
+
+
+def show(desk: Desk) -> None:
+    asked = desk.asked
+    some_day = desk.question(asked.days[0])
+    sections = {
+        **{f"Price on {day:%A} {day.day} {day:%B %Y}": answered(desk, lambda: itemised(desk, day)) for day in asked.days},
+        "Calendar of the price of one piece": answered(desk, lambda: stretches(desk)),
+        "Order number": answered(desk, lambda: [(final_number(desk.book, some_day), "", "")]),
+        "Cartons of one piece": answered(desk, lambda: measures(packaging(desk.book, some_day))),
+    }
+    print(", ".join([asked.article, pieces(asked.quantity), *([f"with {', '.join(asked.granted)}"] if asked.granted else [])]))
+    print_aligned(sections)
+
+
+def answered(desk: Desk, rows: Callable[[], list[Shown]]) -> list[Shown]:
     try:
         return rows()
     except Refused as refused:
-        return [(str(refused), "", "")]
+        if refused.refusal not in WHY_NOT:
+            raise Wrong([f"{desk.file}: the library does not take what the sheet says: {refused}"]) from None
+        return [(WHY_NOT[refused.refusal], "", "")]
 
 
 def print_aligned(sections: dict[str, list[Shown]]) -> None:
@@ -45,27 +74,39 @@ def print_aligned(sections: dict[str, list[Shown]]) -> None:
     for title, rows in sections.items():
         print(f"\n{title}")
         for row in rows:
-            line = "-" * (left + 2 + middle + 1 + CURRENCY_WIDTH) if row is RULE else f"{row[0]:{left}}  {row[1]:>{middle}} {row[2]}"
-            print(f"  {line}".rstrip())
+            rule = "-" * (left + 2 + middle + 1 + CURRENCY_WIDTH)
+            print(f"  {rule if row is RULE else f'{row[0]:{left}}  {row[1]:>{middle}} {row[2]}'}".rstrip())
 
 
 def itemised(desk: Desk, day: date) -> list[Shown]:
     """The lines with their texts, what one piece costs and what all cost, and which wishes are in no line."""
-    answer = price(desk.book, desk.question(day))
-    lines = [(bytes(text(*desk.texts, line.text).part).decode("latin-1"), line.amount) for line in answer.lines]
-    totals = [("One piece", answer.unit), (f"{desk.quantity} pieces", answer.total)]
+    answer, asked = price(desk.book, desk.question(day)), desk.asked
+    lines = [(line_text(desk, line), line.amount) for line in answer.lines]
+    totals = [("One piece", answer.unit), *([(pieces(asked.quantity), answer.total)] if asked.quantity > 1 else [])]
     listed, summed = ([(name, amount(cents), answer.currency) for name, cents in rows] for rows in (lines, totals))
-    return [*listed, RULE, *summed, *((f"No price line for {desk.granted[place - 1]}", "", "") for place in answer.unused)]
+    return [*listed, RULE, *summed, *((f"No price line for {asked.granted[place - 1]}", "", "") for place in answer.unused)]
+
+
+def line_text(desk: Desk, line: Line) -> str:
+    """The text of a line. A text that is nowhere is no reason to keep the price back."""
+    if not line.text:
+        return "no text number"
+    try:
+        return bytes(text(*desk.texts, line.text).part).decode("latin-1")
+    except Refused as refused:
+        if refused.refusal is not Refusal.NO_TEXT:
+            raise
+        return f"text {line.text}"
 
 
 def stretches(desk: Desk) -> list[Shown]:
-    return [stretch_row(one) for one in calendar(desk.book, desk.question(desk.first_day), desk.last_day)]
+    return [stretch_row(one) for one in calendar(desk.book, desk.question(desk.asked.first_day), desk.asked.last_day)]
 
 
 def stretch_row(stretch: Stretch) -> Shown:
     days = f"{short(stretch.first)} to {short(stretch.last)}"
     if isinstance(stretch.outcome, Refusal):
-        return (days, "no price", "")
+        return (days, "no price", WHY_NO_STRETCH.get(stretch.outcome, ""))
     return (days, amount(stretch.outcome.unit), stretch.outcome.currency)
 
 
@@ -86,6 +127,10 @@ def measured(unit: Optional[str], *values: tuple[str, Optional[int]]) -> Iterabl
     return ((name, f"{Decimal(value) / 1000:,.3f}", UNIT_NAMES[unit or ""]) for name, value in values if value is not None)
 
 
+def pieces(quantity: int) -> str:
+    return "1 piece" if quantity == 1 else f"{quantity} pieces"
+
+
 def amount(cents: int) -> str:
     return f"{Decimal(cents) / 100:,.2f}"
 
@@ -94,5 +139,20 @@ def short(day: date) -> str:
     return f"{day.day:2} {day:%b %Y}"
 
 
+def to_the_end(command: Callable[[], int]) -> int:
+    """A reader who has seen enough (`demo/run | head`) is no fault; a letter that the terminal lacks becomes a question mark."""
+    sys.stdout.reconfigure(errors="replace")
+    try:
+        status = command()
+        sys.stdout.flush()
+        return status
+    except BrokenPipeError:
+        os.dup2(os.open(os.devnull, os.O_WRONLY), sys.stdout.fileno())
+        return 0
+    except (ImportError, OSError) as error:
+        print(f"the library can't be used: {error}", file=sys.stderr)
+        return 1
+
+
 if __name__ == "__main__":
-    main(*sys.argv[1:])
+    sys.exit(to_the_end(lambda: main(sys.argv[1:])))
