@@ -95,7 +95,8 @@ class Sheet:
         elif given > wanted:
             self.faults.append(Fault(number, counted, section.name, f"cell {wanted + 1}", cells[wanted]))
         else:
-            section.rows.append(Row(number, dict(zip(section.columns, cells))))
+            named = zip(section.columns, cells)
+            section.rows.append(Row(number, {column: cell for column, cell in named if section.columns.count(column) == 1}))
 
 
 def printable(cell: str) -> str:
