@@ -10,7 +10,7 @@ from cells import Unfit
 from rows import Fault, Row, Section, Sheet, Wrong
 from sections import SECTIONS, Kind
 
-# Older packages do not warn.
+# A package without warnings of its own warns of nothing.
 ROW_WARNING = getattr(rafttwine, "RowWarning", UserWarning)
 ANY_ARTICLE = "*"
 
@@ -112,25 +112,28 @@ class Checked:
                         self._fault(name, row, column, f"not in [{target}]")
 
     def _made(self, name: str, read: Read) -> Any:
+        """What the row stands for; None if its builder finds a fault that no cell has by itself."""
         columns = SECTIONS[name].columns_of(list(read.values))
         fields = {columns[column].field: value for column, value in read.values.items() if columns[column].field}
         with warnings.catch_warnings(record=True) as caught:
             warnings.simplefilter("always", ROW_WARNING)
             try:
-                made = SECTIONS[name].make(**fields)
+                return SECTIONS[name].make(**fields)
             except (TypeError, ValueError) as error:
-                made = self._faults.append(self._said(name, read.row, str(error)))
-        self._warnings += [self._said(name, read.row, f"{one.message}", "warning: ") for one in caught]
-        return made
+                self._faults.append(said(name, read.row, str(error)))
+                return None
+            finally:
+                self._warnings += [said(name, read.row, str(one.message), "warning: ") for one in caught]
 
-    def _said(self, name: str, row: Row, message: str, kind: str = "") -> Fault:
-        """What a builder says about a field (`PriceRow.first: sentence`) is said about the field's column."""
-        about = re.fullmatch(r"\w+\.(\w+): (.*)", message, re.DOTALL)
-        columns = SECTIONS[name].columns_of(list(row.cells))
-        column = next((column for column, one in columns.items() if about and one.field == about[1]), None)
-        if about is None or column is None:
-            return Fault(row.line, kind + message, name)
-        return Fault(row.line, kind + about[2], name, column, row.cells[column])
+
+def said(name: str, row: Row, message: str, kind: str = "") -> Fault:
+    """What a builder says about a field (`PriceRow.first: sentence`) is said about the field's column."""
+    about = re.fullmatch(r"\w+\.(\w+): (.*)", message, re.DOTALL)
+    columns = SECTIONS[name].columns_of(list(row.cells))
+    column = next((column for column, one in columns.items() if about and one.field == about[1]), None)
+    if about is None or column is None:
+        return Fault(row.line, kind + message, name)
+    return Fault(row.line, kind + about[2], name, column, row.cells[column])
 
 
 def faulty(faults: Iterable[Fault]) -> set[str]:
