@@ -120,7 +120,7 @@ def _lines(file: str) -> list[str]:
     except UnicodeDecodeError as error:
         line = error.object.count(b"\n", 0, error.start) + 1
         raise Wrong([f"{file}:{line}: byte {error.object[error.start]:02x}: the file is not in UTF-8; save it as such"]) from None
-    return text.replace("\r\n", "\n").removesuffix("\n").split("\n")
+    return text.removesuffix("\n").split("\n")
 
 
 def _cells(line: str) -> list[str]:
