@@ -1,7 +1,7 @@
 //! The price calendar as bytes.
 
 use crate::refusal::accepted;
-use crate::{raw, Refusal, Stretch, MOST_STRETCHES};
+use crate::{raw, Day, Refusal, Stretch, MOST_STRETCHES};
 
 const STRETCH_BYTES: usize = 20;
 
@@ -28,7 +28,7 @@ impl ExactSizeIterator for Stretches<'_> {}
 
 fn stretch_of(bytes: &[u8]) -> Stretch {
     let day = |at: usize| u32::from_be_bytes(bytes[at..at + 4].try_into().expect("four bytes"));
-    Stretch::from(raw::StretchRecord {
+    Stretch::of(raw::StretchRecord {
         first: day(0),
         last: day(4),
         refusal: bytes[8],
@@ -37,26 +37,32 @@ fn stretch_of(bytes: &[u8]) -> Stretch {
     })
 }
 
-/// The price calendar from the question's day to the day `end`, both included: every longest stretch of days with one outcome, in the
-/// order of days. It is written to `room`; [`CALENDAR_ROOM`] bytes are enough for any.
+/// The price calendar from the question's day to the day `end`, both included: every longest stretch of days with one outcome, in
+/// the order of days. It is written to `room`; [`CALENDAR_ROOM`] bytes are enough for any. [`calendar_of`](crate::calendar_of)
+/// brings its own room.
 ///
 /// ```
-/// # std::env::set_current_dir(std::env::var_os("RAFTTWINE_SAMPLES").expect("the samples' folder"))?;
-/// # let book = std::fs::read("sample.book")?;
-/// # let question = std::fs::read("calendar.question")?;
+/// # use rafttwine::{Article, Book, Cents, Day, PriceRow, Question};
+/// # let mut book = Book::new();
+/// # book.add(Article::new("A1"))?.add(PriceRow::base("A1", Cents(10_000)).days(Day::FIRST, Day::new(2024, 6, 30)?))?;
+/// # let question = Question::new("A1", Day::new(2024, 6, 29)?).bytes()?;
 /// let mut room = [0; rafttwine::CALENDAR_ROOM];
-/// for stretch in rafttwine::calendar(&book, &question, 20250102, &mut room)? {
-///     match stretch.outcome {
-///         Ok(price) => println!("{} to {}: {} {}", stretch.first, stretch.last, price.unit, price.currency),
-///         Err(reason) => println!("{} to {}: {reason}", stretch.first, stretch.last),
-///     }
-/// }
+/// let mut stretches = rafttwine::calendar(&book, &question, Day::new(2024, 7, 2)?, &mut room)?;
+/// assert_eq!(stretches.next().unwrap().to_string(), "29 June 2024 to 30 June 2024: 100.00 EUR");
 /// # Ok::<(), Box<dyn std::error::Error>>(())
 /// ```
-pub fn calendar<'r>(book: &[u8], question: &[u8], end: u32, room: &'r mut [u8]) -> Result<Stretches<'r>, Refusal> {
+pub fn calendar<'r>(book: &[u8], question: &[u8], end: Day, room: &'r mut [u8]) -> Result<Stretches<'r>, Refusal> {
     // Sound: each pointer goes with the length of its slice, and a slice that is lent to be written overlaps no other.
     let answer = unsafe {
-        raw::rafttwine_calendar(book.as_ptr(), book.len(), question.as_ptr(), question.len(), end, room.as_mut_ptr(), room.len())
+        raw::rafttwine_calendar(
+            book.as_ptr(),
+            book.len(),
+            question.as_ptr(),
+            question.len(),
+            end.number(),
+            room.as_mut_ptr(),
+            room.len(),
+        )
     };
     accepted(answer.number)?;
     Ok(Stretches(room[..answer.length as usize].chunks_exact(STRETCH_BYTES)))

@@ -15,7 +15,7 @@ impl Currency {
 
 impl fmt::Display for Currency {
     fn fmt(&self, to: &mut fmt::Formatter<'_>) -> fmt::Result {
-        to.write_str(self.as_str())
+        to.pad(self.as_str())
     }
 }
 

@@ -1,44 +1,77 @@
 //! Prices of furniture by the Rafttwine library: itemised prices, price calendars, final article numbers, packaging data and the
-//! texts of lines. The library is proved to answer by the rules on all bytes; this crate makes its calls safe and its answers typed.
-//!
-//! A call takes books and questions as bytes, and writes into bytes that you lend. It needs no heap, keeps nothing, and may run in any
-//! number of threads at once. What has no answer is a [`Refusal`].
+//! texts of lines. The library is proved to answer by the rules on all bytes; this crate makes its calls safe and its answers
+//! typed.
 //!
 //! ```
-//! # std::env::set_current_dir(std::env::var_os("RAFTTWINE_SAMPLES").expect("the samples' folder"))?;
-//! let book = std::fs::read("sample.book")?;
-//! let question = std::fs::read("june_oak.question")?;
-//! let mut room = [0; rafttwine::PRICE_ROOM];
-//! let price = rafttwine::price(&book, &question, &mut room)?;
-//! assert_eq!((price.unit, price.currency.as_str()), (10_875, "EUR"));
-//! for line in price.lines() {
-//!     println!("{:?} {}", line.level, line.amount);
-//! }
+//! use rafttwine::{price_of, Article, Book, Cents, Day, Percent, PriceRow, Question};
+//!
+//! let mut book = Book::new();
+//! book.add(Article::new("A1"))?;
+//! book.add(PriceRow::base("A1", Cents(10_000)))?;
+//! book.add(PriceRow::surcharge("A1", Percent::hundredths(1_250)).condition("OAK"))?;
+//!
+//! let question = Question::new("A1", Day::new(2024, 6, 30)?).granted(["oak"]).bytes()?;
+//! let price = price_of(&book, &question)?;
+//! assert_eq!(price.unit, 11_250);
+//! println!("{price}");
 //! # Ok::<(), Box<dyn std::error::Error>>(())
 //! ```
 //!
-//! Amounts are whole cents, days are numbers yyyymmdd. Build with the environment variable `RAFTTWINE_ARCHIVE` naming the file
-//! librafttwine.a.
+//! **Books and questions** are bytes. [`Book`], [`TextBook`] and [`Question`] make them of readable values and say in a sentence
+//! which field cannot be what it is given as; a book that was packed elsewhere is read from its file. A book also has
+//! [`warnings`](Book::warnings): a condition with small letters never counts, since granted names are raised to capitals and those
+//! of rows are not, and a discount above zero raises the price.
+//!
+//! **Calls** return their answer or a [`Refusal`]. [`price`](price()), [`calendar`](calendar()), [`calendar_list`](calendar_list())
+//! and [`final_number`](final_number()) write into a room that you lend, and need no heap; [`price_of`], [`calendar_of`] and
+//! [`final_number_of`] bring the room and return what can be kept. No call keeps anything, and any number of threads may call at
+//! once. Amounts are whole cents.
+//!
+//! **The library** is linked as an archive. It is looked for in this order: the file that the environment variable
+//! `RAFTTWINE_ARCHIVE` names, as `/opt/lib/librafttwine.a`; what `tools/shared-library` made in the clone of Rafttwine that this
+//! crate stands in; what `pkg-config` knows as `rafttwine`. With `RAFTTWINE_SHARED=1` the latter two are looked for the shared
+//! library, which the program's loader has to find again. `cargo check` and `cargo doc` need no library.
 
 #![warn(missing_docs)]
 
+mod amounts;
 mod calendar;
 mod calendar_list;
 mod currency;
+mod day;
 mod final_number;
+mod latin_1;
+// build.rs sets a condition that newer compilers have not been told of, and older ones do not know what this allows.
+#[allow(unknown_lints, unexpected_cfgs)]
+mod linking;
+mod making;
+mod owned;
 mod packaging;
 mod price;
+#[doc(hidden)]
 pub mod raw;
 mod refusal;
 mod stretch;
+mod table;
 mod text;
+mod version;
+mod words;
 
+pub use amounts::{Cents, Percent, Value};
 pub use calendar::{calendar, Stretches, CALENDAR_ROOM};
-pub use calendar_list::calendar_list;
+pub use calendar_list::{calendar_list, StretchRecord};
 pub use currency::Currency;
+pub use day::Day;
 pub use final_number::{final_number, NUMBER_ROOM};
+pub use making::{
+    Article, Book, FieldError, PackagingRow, PriceRow, Property, Question, Record, Rounding, Scheme, TextBook, Warning,
+};
+pub use owned::{calendar_of, final_number_of, price_of, OwnedPrice};
 pub use packaging::{packaging, Packaging, Unit};
-pub use price::{price, Level, Line, Lines, Price, PRICE_ROOM};
+pub use price::{price, Line, Lines, Price, PRICE_ROOM};
 pub use refusal::Refusal;
 pub use stretch::{DayPrice, Stretch, MOST_STRETCHES};
+pub use table::PriceTable;
 pub use text::{text, Source, Text};
+pub use version::{version, Version};
+pub use words::{Level, Rule, Sort, Way};

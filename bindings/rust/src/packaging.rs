@@ -2,6 +2,7 @@
 
 use crate::refusal::accepted;
 use crate::{raw, Refusal};
+use std::fmt;
 
 /// Packaging data of the article as planned. Sizes and weights are in thousandths of their unit. `None`: not known.
 #[derive(Clone, Copy, Debug, Default, PartialEq, Eq)]
@@ -32,6 +33,12 @@ impl Unit {
     /// Its letters.
     pub fn as_str(&self) -> &str {
         std::str::from_utf8(&self.0).expect("a unit has letters")
+    }
+}
+
+impl fmt::Display for Unit {
+    fn fmt(&self, to: &mut fmt::Formatter<'_>) -> fmt::Result {
+        to.pad(self.as_str())
     }
 }
 

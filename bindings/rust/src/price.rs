@@ -1,7 +1,8 @@
 //! The price of an article, line by line.
 
 use crate::refusal::accepted;
-use crate::{raw, Currency, Refusal};
+use crate::{raw, Currency, Level, OwnedPrice, Refusal};
+use std::fmt;
 
 const LINE_BYTES: usize = 14;
 const MOST_LINES: usize = 99;
@@ -9,7 +10,8 @@ const MOST_LINES: usize = 99;
 /// Room for the lines of any price, in bytes.
 pub const PRICE_ROOM: usize = MOST_LINES * LINE_BYTES;
 
-/// The price of an article. All amounts are in cents.
+/// The price of an article, with its lines in a lent room. All amounts are in cents. It is shown as the table that an
+/// [`OwnedPrice`] is.
 #[derive(Clone, Copy, Debug)]
 pub struct Price<'r> {
     /// Of one piece: the sum of the lines' amounts.
@@ -49,15 +51,10 @@ pub struct Line {
     pub amount: i64,
 }
 
-/// In which part of a price a line stands; the parts come in this order.
-#[derive(Clone, Copy, Debug, PartialEq, Eq, PartialOrd, Ord)]
-pub enum Level {
-    /// The base price.
-    Base,
-    /// A surcharge.
-    Surcharge,
-    /// A discount.
-    Discount,
+impl fmt::Display for Price<'_> {
+    fn fmt(&self, to: &mut fmt::Formatter<'_>) -> fmt::Result {
+        OwnedPrice::from(*self).fmt(to)
+    }
 }
 
 /// The lines of a price, one after the other.
@@ -83,26 +80,24 @@ fn line_of(bytes: &[u8]) -> Line {
     let (kind, amount) = rest.split_at(2);
     Line {
         text: u32::from_be_bytes(text.try_into().expect("four bytes")),
-        level: match kind[0] {
-            b'B' => Level::Base,
-            b'X' => Level::Surcharge,
-            _ => Level::Discount,
-        },
+        level: Level::of(kind[0]),
         place: Some(kind[1]).filter(|place| *place != 0),
         amount: i64::from_be_bytes(amount.try_into().expect("eight bytes")),
     }
 }
 
 /// The itemised price of the article asked for. Its lines are written to `room`; [`PRICE_ROOM`] bytes are enough for any.
+/// [`price_of`](crate::price_of) brings its own room.
 ///
 /// ```
-/// # std::env::set_current_dir(std::env::var_os("RAFTTWINE_SAMPLES").expect("the samples' folder"))?;
-/// # let book = std::fs::read("sample.book")?;
-/// let question = std::fs::read("next_year.question")?;
+/// # use rafttwine::{Article, Book, Cents, Day, PriceRow, Question};
+/// # let mut book = Book::new();
+/// # book.add(Article::new("A1"))?.add(PriceRow::base("A1", Cents(10_000)))?;
+/// # let question = Question::new("A1", Day::new(2024, 6, 30)?).bytes()?;
 /// let mut room = [0; rafttwine::PRICE_ROOM];
 /// match rafttwine::price(&book, &question, &mut room) {
-///     Ok(price) => println!("{} {}", price.total, price.currency),
-///     Err(reason) => assert_eq!(reason, rafttwine::Refusal::NoBaseLine),
+///     Ok(price) => assert_eq!(price.lines().map(|line| line.amount).sum::<i64>(), price.unit),
+///     Err(reason) => println!("no price: {reason}"),
 /// }
 /// # Ok::<(), Box<dyn std::error::Error>>(())
 /// ```

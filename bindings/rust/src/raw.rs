@@ -1,4 +1,5 @@
-//! The calls as C has them. What they take, return and owe is said in rafttwine.h; the safe calls of this crate stand on these.
+//! The calls as C has them: what they take, return and owe is said in rafttwine.h. The safe calls of this crate stand on these, and
+//! so do Rafttwine's own tests and benchmark; nobody else should need them.
 
 /// The answer of [`rafttwine_price`].
 #[repr(C)]
@@ -103,4 +104,5 @@ extern "C" {
         fallback_length: usize,
         number: u32,
     ) -> TextAnswer;
+    pub fn rafttwine_version() -> u32;
 }

@@ -2,39 +2,42 @@
 
 use std::fmt;
 
-/// Why a call has no answer. The numbers are those that the library gives.
+/// Why a call has no answer.
 #[derive(Clone, Copy, Debug, PartialEq, Eq, Hash)]
-#[repr(u8)]
+#[non_exhaustive]
 pub enum Refusal {
     /// The price book, or one of the two text books, is not laid out as such a book.
-    BrokenBook = 1,
+    BrokenBook,
     /// The question is not laid out as one, or its day is not in the calendar.
-    BrokenQuestion = 2,
+    BrokenQuestion,
     /// The book does not have the article.
-    NoArticle = 3,
+    NoArticle,
     /// The article has no base price on that day, in that quantity.
-    NoBaseLine = 4,
+    NoBaseLine,
     /// A fixed amount is in another currency than the first base line.
-    MixedCurrencies = 5,
+    MixedCurrencies,
     /// Adding up the lines, the total went beyond a thousand million cents, up or down.
-    TotalOutOfRange = 6,
+    TotalOutOfRange,
     /// The lent output is shorter than what is to be written.
-    ShortOutput = 7,
+    ShortOutput,
     /// The book has no packaging data for the plain article.
-    NoPackaging = 8,
-    /// The period's end is not in the calendar, or before its start, or over 1096 days are asked for.
-    BadPeriod = 9,
+    NoPackaging,
+    /// The period's end is before its start, or over 1096 days are asked for.
+    BadPeriod,
     /// Over 1200 stretches, for which a period is too short: nobody meets this one.
-    ManyStretches = 10,
+    ManyStretches,
     /// Packaging data are in different units, or sum up to less than zero.
-    UnfitPackaging = 11,
+    UnfitPackaging,
     /// Neither text book has the number.
-    NoText = 12,
+    NoText,
+    /// A number that this version of the crate has no word for, from a later library.
+    Other(u8),
 }
 
 use Refusal::*;
 
-const ALL: [Refusal; 12] = [
+/// Number 1 and on, as the library gives them.
+const NUMBERED: [Refusal; 12] = [
     BrokenBook,
     BrokenQuestion,
     NoArticle,
@@ -50,18 +53,18 @@ const ALL: [Refusal; 12] = [
 ];
 
 impl Refusal {
-    /// The refusal of a number; 0 is none, since it says that the call was done.
-    ///
-    /// # Panics
-    ///
-    /// If the number is none of this library version's.
+    /// The refusal of a number that the library gives; 0 is none, since it says that the call was done.
     pub fn of(number: u8) -> Option<Refusal> {
-        number.checked_sub(1).map(|at| ALL[usize::from(at)])
+        let place = number.checked_sub(1)?;
+        Some(NUMBERED.get(usize::from(place)).copied().unwrap_or(Other(number)))
     }
 
     /// Its number.
     pub fn number(self) -> u8 {
-        self as u8
+        match self {
+            Other(number) => number,
+            known => NUMBERED.iter().zip(1..).find(|(one, _)| **one == known).map_or(0, |(_, number)| number),
+        }
     }
 }
 
@@ -85,6 +88,9 @@ impl fmt::Display for Refusal {
             ManyStretches => "there are over 1200 stretches",
             UnfitPackaging => "packaging data are in different units, or sum up to less than zero",
             NoText => "neither text book has the number",
+            Other(number) => {
+                return write!(to, "the library gives refusal {number}, for which this version of the crate has no word")
+            }
         })
     }
 }
@@ -98,8 +104,16 @@ mod tests {
     #[test]
     fn each_number_has_its_refusal() {
         assert_eq!(Refusal::of(0), None);
-        for number in 1..=12 {
+        for number in 1..=u8::MAX {
             assert_eq!(Refusal::of(number).map(Refusal::number), Some(number));
         }
+    }
+
+    #[test]
+    fn a_number_of_a_later_library_is_told() {
+        assert_eq!(accepted(0), Ok(()));
+        assert_eq!(accepted(12), Err(NoText));
+        assert_eq!(accepted(13), Err(Other(13)));
+        assert_eq!(Other(13).to_string(), "the library gives refusal 13, for which this version of the crate has no word");
     }
 }

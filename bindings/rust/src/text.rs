@@ -1,7 +1,8 @@
 //! The text of a line.
 
 use crate::refusal::accepted;
-use crate::{raw, Refusal};
+use crate::{latin_1, raw, Refusal};
+use std::fmt::{self, Write};
 
 /// Which text book has a text.
 #[derive(Clone, Copy, Debug, PartialEq, Eq)]
@@ -12,7 +13,7 @@ pub enum Source {
     Fallback,
 }
 
-/// A text, which is a part of a text book and no copy.
+/// A text, which is a part of a text book and no copy. It is shown as Latin-1.
 #[derive(Clone, Copy, Debug, PartialEq, Eq)]
 pub struct Text<'b> {
     /// Which book has it.
@@ -23,13 +24,21 @@ pub struct Text<'b> {
     pub part: &'b [u8],
 }
 
+impl fmt::Display for Text<'_> {
+    fn fmt(&self, to: &mut fmt::Formatter<'_>) -> fmt::Result {
+        latin_1::letters(self.part).try_for_each(|letter| to.write_char(letter))
+    }
+}
+
 /// The text of a line, from the asked text book or else from the fallback.
 ///
 /// ```
-/// # std::env::set_current_dir(std::env::var_os("RAFTTWINE_SAMPLES").expect("the samples' folder"))?;
-/// let (english, german) = (std::fs::read("asked.texts")?, std::fs::read("fallback.texts")?);
-/// assert_eq!(rafttwine::text(&english, &german, 100)?.part, b"table");
-/// assert_eq!(rafttwine::text(&english, &german, 300)?.part, b"Nachlass");
+/// # use rafttwine::TextBook;
+/// let (mut english, mut german) = (TextBook::new(), TextBook::new());
+/// english.add(100, "table")?;
+/// german.add(100, "Tisch")?.add(300, "Nachlass f\u{fc}r Gro\u{df}kunden")?;
+/// assert_eq!(rafttwine::text(&english, &german, 100)?.to_string(), "table");
+/// assert_eq!(rafttwine::text(&english, &german, 300)?.to_string(), "Nachlass f\u{fc}r Gro\u{df}kunden");
 /// # Ok::<(), Box<dyn std::error::Error>>(())
 /// ```
 pub fn text<'b>(asked: &'b [u8], fallback: &'b [u8], number: u32) -> Result<Text<'b>, Refusal> {

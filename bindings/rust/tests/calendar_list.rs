@@ -3,18 +3,18 @@
 mod calendars;
 mod samples;
 
-use calendars::{expect_worked_by_hand, END};
-use rafttwine::{calendar_list, raw::StretchRecord, Refusal, MOST_STRETCHES};
-use samples::sample;
+use calendars::{end, expect_worked_by_hand};
+use rafttwine::{calendar_list, Day, Refusal, StretchRecord, MOST_STRETCHES};
+use samples::{day, sample};
 
-fn refusal(book: &[u8], question: &[u8], end: u32, room: usize) -> Option<Refusal> {
+fn refusal(book: &[u8], question: &[u8], end: Day, room: usize) -> Option<Refusal> {
     calendar_list(book, question, end, &mut vec![StretchRecord::default(); room]).err()
 }
 
 #[test]
 fn every_longest_stretch() {
     let mut room = [StretchRecord::default(); MOST_STRETCHES];
-    let stretches = calendar_list(&sample("sample.book"), &sample("calendar.question"), END, &mut room).unwrap();
+    let stretches = calendar_list(&sample("sample.book"), &sample("calendar.question"), end(), &mut room).unwrap();
     assert_eq!(stretches.len(), 3);
     expect_worked_by_hand(stretches);
 }
@@ -22,10 +22,10 @@ fn every_longest_stretch() {
 #[test]
 fn refusals() {
     let (book, question) = (sample("sample.book"), sample("calendar.question"));
-    assert_eq!(refusal(&[], &question, END, 3), Some(Refusal::BrokenBook));
-    assert_eq!(refusal(&book, &[], END, 3), Some(Refusal::BrokenQuestion));
-    assert_eq!(refusal(&book, &question, 20240628, 3), Some(Refusal::BadPeriod));
-    assert_eq!(refusal(&book, &sample("missing.question"), END, 3), Some(Refusal::NoArticle));
-    assert_eq!(refusal(&book, &question, END, 2), Some(Refusal::ShortOutput));
-    assert_eq!(refusal(&book, &question, END, 3), None);
+    assert_eq!(refusal(&[], &question, end(), 3), Some(Refusal::BrokenBook));
+    assert_eq!(refusal(&book, &[], end(), 3), Some(Refusal::BrokenQuestion));
+    assert_eq!(refusal(&book, &question, day(20240628), 3), Some(Refusal::BadPeriod));
+    assert_eq!(refusal(&book, &sample("missing.question"), end(), 3), Some(Refusal::NoArticle));
+    assert_eq!(refusal(&book, &question, end(), 2), Some(Refusal::ShortOutput));
+    assert_eq!(refusal(&book, &question, end(), 3), None);
 }

@@ -2,8 +2,8 @@
 
 mod samples;
 
-use rafttwine::{price, Level, Line, Refusal, PRICE_ROOM};
-use samples::sample;
+use rafttwine::{price, price_of, Article, Book, Cents, Level, Line, OwnedPrice, PriceRow, Question, Refusal, PRICE_ROOM};
+use samples::{day, sample};
 
 fn refusal(book: &[u8], question: &[u8], room: usize) -> Option<Refusal> {
     price(book, question, &mut vec![0; room]).err()
@@ -22,6 +22,34 @@ fn lines_total_and_unused_names() {
     assert!(answer.lines().eq(lines));
     assert_eq!((answer.unit, answer.total, answer.currency.as_str(), answer.unused), (10_875, 3 * 10_875, "EUR", 0b10));
     assert!(answer.unused_places().eq([2]));
+}
+
+#[test]
+fn the_same_to_be_kept() {
+    let (book, question) = (sample("sample.book"), sample("june_oak.question"));
+    let mut room = [0; PRICE_ROOM];
+    let lent = price(&book, &question, &mut room).unwrap();
+    let lines: Vec<Line> = lent.lines().collect();
+    assert_eq!(lines.len(), 3);
+    let kept = OwnedPrice { unit: 10_875, total: 3 * 10_875, currency: lent.currency, lines, unused: vec![2] };
+    assert_eq!(price_of(&book, &question), Ok(kept));
+    assert_eq!(price_of(&book, &sample("missing.question")), Err(Refusal::NoArticle));
+}
+
+#[test]
+fn the_longest_price_has_room() {
+    let names: Vec<String> = (1..=32).map(|place| format!("N{place}")).collect();
+    let mut book = Book::new();
+    book.add(Article::new("A1")).unwrap();
+    for condition in names.iter().map(String::as_str).chain([""]) {
+        for row in [PriceRow::base, PriceRow::surcharge, PriceRow::discount] {
+            book.add(row("A1", Cents(-1)).condition(condition)).unwrap();
+        }
+    }
+    let question = Question::new("A1", day(20240630)).granted(names.iter().map(String::as_str)).bytes().unwrap();
+    let kept = price_of(&book, &question).unwrap();
+    assert_eq!((kept.lines.len(), kept.unit, kept.unused.len()), (99, -99, 0));
+    assert_eq!(refusal(&book, &question, PRICE_ROOM - 1), Some(Refusal::ShortOutput));
 }
 
 #[test]
