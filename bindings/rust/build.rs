@@ -45,37 +45,39 @@ fn named_archive(file: PathBuf) -> Result<Library, String> {
 
 fn in_clone_or_installed(shared: bool) -> Result<Library, String> {
     let (name, kind) = if shared { ("librafttwine.so", "dylib") } else { ("librafttwine.a", "static") };
-    let clone = Path::new(&env::var_os("CARGO_MANIFEST_DIR").unwrap_or_default()).join("../../target/lib");
-    let made = clone.join(name);
+    let crate_folder = PathBuf::from(env::var_os("CARGO_MANIFEST_DIR").unwrap_or_default());
+    let made = crate_folder.ancestors().nth(2).unwrap_or(&crate_folder).join("target/lib").join(name);
     if made.is_file() {
         return Ok(Library { file: made, kind });
     }
     let file = installed(name).map_err(|reason| {
         // A file that is not there has the search made anew each time.
         println!("cargo:rerun-if-changed={}", made.display());
-        format!("{name} was not found. {ARCHIVE} is not set, {} is not there, and {reason}. {WHENCE}", made.display())
+        format!("{name} was not found: {ARCHIVE} is not set, {} is not there, and {reason}. {WHENCE}", made.display())
     })?;
     Ok(Library { file, kind })
 }
 
 /// A file in the folder of libraries of a version that goes with this crate; or why there is none.
 fn installed(name: &str) -> Result<PathBuf, String> {
-    let wanted = format!("rafttwine >= {}, rafttwine < 2", env!("CARGO_PKG_VERSION"));
-    pkg_config(&["--exists", "--print-errors", "--short-errors", &wanted])?;
-    let file = Path::new(&pkg_config(&["--variable=libdir", "rafttwine"])?).join(name);
+    let least = env!("CARGO_PKG_VERSION");
+    let version = pkg_config("--modversion", "rafttwine")?.ok_or("pkg-config knows no rafttwine")?;
+    pkg_config("--exists", &format!("rafttwine >= {least}, rafttwine < 2"))?
+        .ok_or_else(|| format!("pkg-config knows rafttwine {version}, while {least} or a later 1 is needed"))?;
+    let folder = pkg_config("--variable=libdir", "rafttwine")?.unwrap_or_default();
+    let file = Path::new(&folder).join(name);
     match file.is_file() {
         true => Ok(file),
         false => Err(format!("{}, where pkg-config leads, is not there", file.display())),
     }
 }
 
-fn pkg_config(words: &[&str]) -> Result<String, String> {
-    let done = Command::new("pkg-config").args(words).output().map_err(|error| format!("pkg-config cannot be run: {error}"))?;
-    let said = |bytes: &[u8]| String::from_utf8_lossy(bytes).trim().replace('\n', "; ");
-    match done.status.success() {
-        true => Ok(said(&done.stdout)),
-        false => Err(format!("pkg-config says: {}", said(&done.stderr))),
-    }
+/// What pkg-config prints; nothing where it says no.
+fn pkg_config(what: &str, of: &str) -> Result<Option<String>, String> {
+    let done =
+        Command::new("pkg-config").args([what, of]).output().map_err(|error| format!("pkg-config cannot be run: {error}"))?;
+    let printed = String::from_utf8_lossy(&done.stdout).trim().to_string();
+    Ok(done.status.success().then_some(printed))
 }
 
 fn link(library: Library) -> Result<(), String> {
@@ -85,6 +87,8 @@ fn link(library: Library) -> Result<(), String> {
     let (folder, name) =
         file.parent().zip(name).ok_or_else(|| format!("{ARCHIVE} names {}, and is to name a file lib*.a.", file.display()))?;
     println!("cargo:rerun-if-changed={}", file.display());
+    // A folder that is told from here has to be found from elsewhere too.
+    let folder = folder.canonicalize().map_err(|error| format!("{}: {error}.", folder.display()))?;
     println!("cargo:rustc-link-search=native={}", folder.display());
     println!("cargo:rustc-link-lib={kind}={name}");
     Ok(())

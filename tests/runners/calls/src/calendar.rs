@@ -4,47 +4,13 @@ mod days;
 mod refusals;
 mod stretches;
 
+use crate::archive;
 use crate::call::{Call, Names};
 use crate::document::Cells;
 use crate::vector;
 use second::compare::{list_pattern, pattern};
 use second::make::Question;
 use second::{Stretch, Written};
-
-// Sound, both: each pointer and length are those of one slice, borrowed for the whole call; any bytes make an answer.
-#[cfg(feature = "calendar")]
-fn linked(book: &[u8], question: &[u8], end: u32, out: &mut [u8]) -> Written {
-    extern "C" {
-        fn rafttwine_calendar(
-            book: *const u8,
-            book_length: usize,
-            question: *const u8,
-            question_length: usize,
-            end: u32,
-            out: *mut u8,
-            out_length: usize,
-        ) -> Written;
-    }
-    unsafe { rafttwine_calendar(book.as_ptr(), book.len(), question.as_ptr(), question.len(), end, out.as_mut_ptr(), out.len()) }
-}
-
-#[cfg(feature = "calendar_list")]
-fn linked_list(book: &[u8], question: &[u8], end: u32, out: &mut [Stretch]) -> Written {
-    extern "C" {
-        fn rafttwine_calendar_list(
-            book: *const u8,
-            book_length: usize,
-            question: *const u8,
-            question_length: usize,
-            end: u32,
-            out: *mut Stretch,
-            out_count: usize,
-        ) -> Written;
-    }
-    unsafe {
-        rafttwine_calendar_list(book.as_ptr(), book.len(), question.as_ptr(), question.len(), end, out.as_mut_ptr(), out.len())
-    }
-}
 
 /// How a stretch is written as 20 bytes.
 fn stretch_bytes(stretch: &Stretch) -> Vec<u8> {
@@ -119,11 +85,7 @@ pub fn call() -> Call<Written, u8> {
     Call {
         name: "rafttwine_calendar",
         refusals: REFUSALS,
-        implementations: &[
-            ("second", second::calendar),
-            #[cfg(feature = "calendar")]
-            ("the archive", linked),
-        ],
+        implementations: &[("second", second::calendar), ("the archive", archive::calendar)],
         fill: pattern,
         names: Names { first: "Book", second: "Question", extra: Some("End"), room: Some("Room") },
         example,
@@ -135,11 +97,7 @@ pub fn list_call() -> Call<Written, Stretch> {
     Call {
         name: "rafttwine_calendar_list",
         refusals: REFUSALS,
-        implementations: &[
-            ("second", second::calendar_list),
-            #[cfg(feature = "calendar_list")]
-            ("the archive", linked_list),
-        ],
+        implementations: &[("second", second::calendar_list), ("the archive", archive::calendar_list)],
         fill: list_pattern,
         names: Names { first: "Book", second: "Question", extra: Some("End"), room: Some("Room in records") },
         example: list_example,

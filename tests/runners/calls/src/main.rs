@@ -1,6 +1,7 @@
 //! Runs vectors worked out by hand, and the tables and examples of the document of the calls, through the second implementation and
-//! through the archive, as far as features say that it has the call. Usage: calls DOCUMENT.
+//! through the archive. Usage: calls DOCUMENT.
 
+mod archive;
 mod calendar;
 mod call;
 mod document;

@@ -4,27 +4,12 @@ mod refusals;
 mod schemes;
 mod values;
 
+use crate::archive;
 use crate::call::{Call, Names};
 use crate::document::Cells;
 use second::compare::pattern;
 use second::make::{self, latin1, Article, Question, Scheme};
 use second::Written;
-
-#[cfg(feature = "number")]
-fn linked(book: &[u8], question: &[u8], out: &mut [u8]) -> Written {
-    extern "C" {
-        fn rafttwine_final_number(
-            book: *const u8,
-            book_length: usize,
-            question: *const u8,
-            question_length: usize,
-            out: *mut u8,
-            out_length: usize,
-        ) -> Written;
-    }
-    // Sound: each pointer and length are those of one slice, borrowed for the whole call; any bytes make an answer.
-    unsafe { rafttwine_final_number(book.as_ptr(), book.len(), question.as_ptr(), question.len(), out.as_mut_ptr(), out.len()) }
-}
 
 type Vector = crate::vector::Vector<Written, u8>;
 
@@ -49,8 +34,7 @@ pub fn call() -> Call<Written, u8> {
         refusals: &[1, 2, 3, 7],
         implementations: &[
             ("second", |book, question, _, out| second::final_number(book, question, out)),
-            #[cfg(feature = "number")]
-            ("the archive", |book, question, _, out| linked(book, question, out)),
+            ("the archive", |book, question, _, out| archive::final_number(book, question, out)),
         ],
         fill: pattern,
         names: Names { first: "Book", second: "Question", extra: None, room: Some("Room") },

@@ -4,21 +4,12 @@ mod records;
 mod refusals;
 mod values;
 
+use crate::archive;
 use crate::call::{Call, Names};
 use crate::document::Cells;
 use second::compare::pattern;
 use second::make::{self, Article, Packaging, Question, Record};
 use second::PackagingAnswer;
-
-#[cfg(feature = "packaging")]
-fn linked(book: &[u8], question: &[u8]) -> PackagingAnswer {
-    extern "C" {
-        fn rafttwine_packaging(book: *const u8, book_length: usize, question: *const u8, question_length: usize)
-            -> PackagingAnswer;
-    }
-    // Sound: each pointer and length are those of one slice, borrowed for the whole call; any bytes make an answer.
-    unsafe { rafttwine_packaging(book.as_ptr(), book.len(), question.as_ptr(), question.len()) }
-}
 
 type Vector = crate::vector::Vector<PackagingAnswer, u8>;
 
@@ -54,8 +45,7 @@ pub fn call() -> Call<PackagingAnswer, u8> {
         refusals: &[1, 2, 3, 8, 11],
         implementations: &[
             ("second", |book, question, _, _| second::packaging(book, question)),
-            #[cfg(feature = "packaging")]
-            ("the archive", |book, question, _, _| linked(book, question)),
+            ("the archive", |book, question, _, _| archive::packaging(book, question)),
         ],
         fill: pattern,
         names: Names { first: "Book", second: "Question", extra: None, room: None },

@@ -8,28 +8,13 @@ mod rounding;
 mod sums;
 mod totals;
 
+use crate::archive;
 use crate::call::{Call, Names};
 use crate::document::Cells;
 use crate::parts::hex;
 use second::compare::pattern;
 use second::make::Question;
 use second::PriceAnswer;
-
-#[cfg(feature = "price")]
-fn linked(book: &[u8], question: &[u8], lines: &mut [u8]) -> PriceAnswer {
-    extern "C" {
-        fn rafttwine_price(
-            book: *const u8,
-            book_length: usize,
-            question: *const u8,
-            question_length: usize,
-            lines: *mut u8,
-            lines_length: usize,
-        ) -> PriceAnswer;
-    }
-    // Sound: each pointer and length are those of one slice, borrowed for the whole call; any bytes make an answer.
-    unsafe { rafttwine_price(book.as_ptr(), book.len(), question.as_ptr(), question.len(), lines.as_mut_ptr(), lines.len()) }
-}
 
 /// A line: text number, level, place of its granted name, amount.
 type Line = (u32, char, u8, i64);
@@ -110,8 +95,7 @@ pub fn call() -> Call<PriceAnswer, u8> {
         refusals: &[1, 2, 3, 4, 5, 6, 7],
         implementations: &[
             ("second", |book, question, _, lines| second::price(book, question, lines)),
-            #[cfg(feature = "price")]
-            ("the archive", |book, question, _, lines| linked(book, question, lines)),
+            ("the archive", |book, question, _, lines| archive::price(book, question, lines)),
         ],
         fill: pattern,
         names: Names { first: "Book", second: "Question", extra: None, room: Some("Room") },

@@ -1,25 +1,11 @@
 //! The text call: its implementations, and its vectors.
 
+use crate::archive;
 use crate::call::{Call, Names};
 use crate::document::Cells;
 use second::compare::pattern;
 use second::make::{text_book, TextRecord};
 use second::TextAnswer;
-
-#[cfg(feature = "text")]
-fn linked(asked: &[u8], fallback: &[u8], number: u32) -> TextAnswer {
-    extern "C" {
-        fn rafttwine_text(
-            asked: *const u8,
-            asked_length: usize,
-            fallback: *const u8,
-            fallback_length: usize,
-            number: u32,
-        ) -> TextAnswer;
-    }
-    // Sound: each pointer and length are those of one slice, borrowed for the whole call; any bytes make an answer.
-    unsafe { rafttwine_text(asked.as_ptr(), asked.len(), fallback.as_ptr(), fallback.len(), number) }
-}
 
 type Vector = crate::vector::Vector<TextAnswer, u8>;
 
@@ -48,8 +34,7 @@ pub fn call() -> Call<TextAnswer, u8> {
         refusals: &[1, 12],
         implementations: &[
             ("second", |asked, fallback, number, _| second::text(asked, fallback, number)),
-            #[cfg(feature = "text")]
-            ("the archive", |asked, fallback, number, _| linked(asked, fallback, number)),
+            ("the archive", |asked, fallback, number, _| archive::text(asked, fallback, number)),
         ],
         fill: pattern,
         names: Names { first: "Asked", second: "Fallback", extra: Some("Text number"), room: None },

@@ -1,0 +1,50 @@
+//! The calls of the archive as the Rust bindings declare them, with answers as the second implementation has them. The benchmark takes
+//! them from here too.
+
+use rafttwine::raw;
+use second::{PackagingAnswer, PriceAnswer, Stretch, TextAnswer, Written};
+
+// Sound, all of them: each pointer and length are those of one slice, borrowed for the whole call; any bytes make an answer.
+
+pub fn price(book: &[u8], question: &[u8], lines: &mut [u8]) -> PriceAnswer {
+    let answer = unsafe {
+        raw::rafttwine_price(book.as_ptr(), book.len(), question.as_ptr(), question.len(), lines.as_mut_ptr(), lines.len())
+    };
+    let raw::PriceAnswer { unit, total, lines, unused, unused_count, number, currency } = answer;
+    PriceAnswer { unit, total, lines, unused, unused_count, number, currency }
+}
+
+pub fn calendar(book: &[u8], question: &[u8], end: u32, out: &mut [u8]) -> Written {
+    written(unsafe {
+        raw::rafttwine_calendar(book.as_ptr(), book.len(), question.as_ptr(), question.len(), end, out.as_mut_ptr(), out.len())
+    })
+}
+
+/// The list itself is lent, as a list of the other type of records: they lie alike, which `structs.rs` holds both to.
+pub fn calendar_list(book: &[u8], question: &[u8], end: u32, out: &mut [Stretch]) -> Written {
+    let (list, count) = (out.as_mut_ptr().cast::<raw::StretchRecord>(), out.len());
+    written(unsafe { raw::rafttwine_calendar_list(book.as_ptr(), book.len(), question.as_ptr(), question.len(), end, list, count) })
+}
+
+pub fn final_number(book: &[u8], question: &[u8], out: &mut [u8]) -> Written {
+    written(unsafe {
+        raw::rafttwine_final_number(book.as_ptr(), book.len(), question.as_ptr(), question.len(), out.as_mut_ptr(), out.len())
+    })
+}
+
+pub fn packaging(book: &[u8], question: &[u8]) -> PackagingAnswer {
+    let answer = unsafe { raw::rafttwine_packaging(book.as_ptr(), book.len(), question.as_ptr(), question.len()) };
+    let raw::PackagingAnswer { gross, values, number, present, units } = answer;
+    PackagingAnswer { gross, values, number, present, units }
+}
+
+pub fn text(asked: &[u8], fallback: &[u8], number: u32) -> TextAnswer {
+    let answer = unsafe { raw::rafttwine_text(asked.as_ptr(), asked.len(), fallback.as_ptr(), fallback.len(), number) };
+    let raw::TextAnswer { place, length, number, book } = answer;
+    TextAnswer { place, length, number, book }
+}
+
+fn written(answer: raw::Written) -> Written {
+    let raw::Written { length, number } = answer;
+    Written { length, number }
+}
