@@ -3,7 +3,6 @@
 
 mod acceptance;
 mod books;
-#[cfg(calendar)]
 mod calendar;
 mod catalog;
 mod dice;
@@ -18,7 +17,6 @@ fn main() {
     let mut dice = dice::Dice::new(SEED);
     let mut rows = acceptance::measure(&mut dice);
     rows.extend(price::measure(&mut dice));
-    #[cfg(calendar)]
     rows.extend(calendar::measure(&mut dice));
     timing::print_table(&rows);
 }
