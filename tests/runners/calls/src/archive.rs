@@ -1,5 +1,5 @@
-//! The calls of the archive as the Rust bindings declare them, with answers as the second implementation has them. The benchmark takes
-//! them from here too.
+//! The calls of the archive as the Rust bindings declare them, with answers as the second implementation has them. The benchmark
+//! takes them from here too.
 
 use rafttwine::raw;
 use second::{PackagingAnswer, PriceAnswer, Stretch, TextAnswer, Written};

@@ -1,5 +1,5 @@
-//! The structs of the answers, as the second implementation and as the Rust bindings declare them: the document gives each field's offset
-//! and the whole's size as the compiler does.
+//! The structs of the answers, as the second implementation and as the Rust bindings declare them: the document gives each field's
+//! offset and the whole's size as the compiler does.
 
 use crate::document::Document;
 use rafttwine::raw;
