@@ -2,7 +2,7 @@
 
 mod samples;
 
-use rafttwine::{calendar_of, packaging, price, price_of, Cents, Day, Percent, PRICE_ROOM};
+use rafttwine::{calendar_of, packaging, price, price_of, Article, Book, Cents, Day, Percent, PriceRow, Question, PRICE_ROOM};
 use samples::{day, sample};
 
 #[test]
@@ -49,6 +49,15 @@ fn a_text_that_is_not_there_is_told() {
 fn one_piece_has_one_total() {
     let shown = price_of(&sample("sample.book"), &sample("june.question")).unwrap().to_string();
     assert!(shown.ends_with("\nOne piece    96.67 EUR"), "{shown}");
+}
+
+#[test]
+fn a_price_of_nothing() {
+    let mut book = Book::new();
+    book.add(Article::new("A1")).unwrap().add(PriceRow::base("A1", Cents(0))).unwrap();
+    let question = Question::new("A1", day(20240630)).quantity(4).bytes().unwrap();
+    let due = "Base price  0.00 EUR\n--------------------\nOne piece   0.00 EUR";
+    assert_eq!(price_of(&book, &question).unwrap().to_string(), due);
 }
 
 #[test]
