@@ -1,0 +1,62 @@
+//! The calls into a lent room take nothing from the heap, and neither does reading their answers.
+
+mod samples;
+
+use rafttwine::{
+    calendar, calendar_list, final_number, packaging, price, text, version, StretchRecord, CALENDAR_ROOM, MOST_STRETCHES,
+    NUMBER_ROOM, PRICE_ROOM,
+};
+use samples::{day, sample};
+use std::alloc::{GlobalAlloc, Layout, System};
+use std::cell::Cell;
+
+/// The system's heap, which counts what each thread takes.
+struct Counting;
+
+thread_local!(static TAKEN: Cell<usize> = const { Cell::new(0) });
+
+// Sound: all is left to the system's heap.
+unsafe impl GlobalAlloc for Counting {
+    unsafe fn alloc(&self, layout: Layout) -> *mut u8 {
+        TAKEN.with(|taken| taken.set(taken.get() + 1));
+        System.alloc(layout)
+    }
+
+    unsafe fn dealloc(&self, place: *mut u8, layout: Layout) {
+        System.dealloc(place, layout);
+    }
+}
+
+#[global_allocator]
+static HEAP: Counting = Counting;
+
+/// How often something takes from the heap.
+fn taken_by(something: impl FnOnce()) -> usize {
+    let before = TAKEN.with(Cell::get);
+    something();
+    TAKEN.with(Cell::get) - before
+}
+
+#[test]
+fn the_calls_take_nothing() {
+    let [book, priced, spanned, numbered, packed] =
+        ["sample.book", "june_oak.question", "calendar.question", "padded.question", "carton.question"].map(sample);
+    let [asked, fallback] = ["asked.texts", "fallback.texts"].map(sample);
+    let end = day(20250102);
+    let taken = taken_by(|| {
+        assert_eq!(price(&book, &priced, &mut [0; PRICE_ROOM]).unwrap().lines().count(), 3);
+        assert_eq!(calendar(&book, &spanned, end, &mut [0; CALENDAR_ROOM]).unwrap().count(), 3);
+        assert_eq!(calendar_list(&book, &spanned, end, &mut [StretchRecord::default(); MOST_STRETCHES]).unwrap().count(), 3);
+        assert_eq!(final_number(&book, &numbered, &mut [0; NUMBER_ROOM]).unwrap().len(), 16);
+        assert!(packaging(&book, &packed).unwrap().gross.is_some());
+        assert_eq!(text(&asked, &fallback, 300).unwrap().part.len(), 8);
+        assert!(price(&[], &[], &mut []).is_err());
+        assert_eq!(version().major, 1);
+    });
+    assert_eq!(taken, 0);
+}
+
+#[test]
+fn what_takes_is_counted() {
+    assert_ne!(taken_by(|| drop(sample("sample.book"))), 0);
+}
