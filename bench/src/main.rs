@@ -5,6 +5,7 @@ mod acceptance;
 mod books;
 mod calendar;
 mod catalog;
+mod cut;
 mod dice;
 mod library;
 mod price;
@@ -18,5 +19,6 @@ fn main() {
     let mut rows = acceptance::measure(&mut dice);
     rows.extend(price::measure(&mut dice));
     rows.extend(calendar::measure(&mut dice));
+    rows.extend(cut::measure(&mut dice));
     timing::print_table(&rows);
 }
