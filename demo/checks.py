@@ -10,8 +10,6 @@ from cells import Unfit
 from rows import Fault, Row, Section, Sheet, Wrong
 from sections import SECTIONS, Kind
 
-# A package without warnings of its own warns of nothing.
-ROW_WARNING = getattr(rafttwine, "RowWarning", UserWarning)
 ANY_ARTICLE = "*"
 
 
@@ -116,7 +114,7 @@ class Checked:
         columns = SECTIONS[name].columns_of(list(read.values))
         fields = {columns[column].field: value for column, value in read.values.items() if columns[column].field}
         with warnings.catch_warnings(record=True) as caught:
-            warnings.simplefilter("always", ROW_WARNING)
+            warnings.simplefilter("always", rafttwine.RowWarning)
             try:
                 return SECTIONS[name].make(**fields)
             except (TypeError, ValueError) as error:
