@@ -20,7 +20,9 @@ fn percentages_read() {
 
 #[test]
 fn days_of_the_calendar() {
-    for (year, month, in_month) in [(2024, 2, 29), (2023, 2, 28), (2000, 2, 29), (1900, 2, 28), (2024, 4, 30), (2024, 12, 31)] {
+    for (year, month, in_month) in
+        [(2024, 2, 29), (2023, 2, 28), (2000, 2, 29), (2400, 2, 29), (1900, 2, 28), (2500, 2, 28), (2024, 4, 30), (2024, 12, 31)]
+    {
         let last = Day::new(year, month, in_month).unwrap();
         assert_eq!((last.year(), last.month(), last.day()), (year, month, in_month));
         assert_eq!(Day::of_number(last.number()), Ok(last));
