@@ -17,10 +17,11 @@ Books, questions and text books are bytes; `book`, `question` and `text_book` ma
 `read_question` and `read_text_book` make readable values of them. A call takes `bytes`, or any contiguous buffer of bytes such as a
 mapped file, where it lies. Amounts are whole cents. `python3 -m rafttwine BOOK` lists the records of a book.
 
-Two rows are right by the layout and do what hardly anybody wants, so making one warns (`RowWarning`):
+Some rows are right by the layout and do what hardly anybody wants, so making one warns (`RowWarning`):
 
 - a condition with a small letter is never granted: granted names are raised to capitals, those in rows stand as they are;
-- a discount with a positive value raises the price: values are added with their sign.
+- a discount with a positive value raises the price: values are added with their sign;
+- a base price in percent never counts, and a row that ends before it begins never holds.
 
 Errors: a call that has no answer raises `Refused`, with the reason in `refusal`. A value of a wrong type is a TypeError, and one
 that the layout does not allow a ValueError; a message reads like `PriceRow.article: 41 bytes, and at most 40 are allowed`. Bytes

@@ -77,6 +77,10 @@ class PriceRow(Laid):
         above_zero = self.value.amount > 0 if isinstance(self.value, Cents) else self.value.hundredths() > 0
         if self.level is Level.DISCOUNT and above_zero:
             found.append(("value", f"a discount of {self.value} raises the price; what lowers it is below zero"))
+        if self.level is Level.BASE and isinstance(self.value, Percent):
+            found.append(("value", "a base price in percent never counts; a base price is an amount"))
+        if isinstance(self.first, date) and isinstance(self.last, date) and self.last < self.first:
+            found.append(("last", f"{self.last} is before {self.first}, the first day, so the row never holds"))
         return found
 
 
