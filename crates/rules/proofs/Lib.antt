@@ -1,4 +1,6 @@
 pub mod Encode
+pub mod Cases
+pub mod Limits
 pub mod WorkedSums
 pub mod TestLaws
 pub mod RangeLaws

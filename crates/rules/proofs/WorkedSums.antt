@@ -1,121 +1,19 @@
--- "Sums worked by hand" and "Traps that have fooled price plugins": one table, one statement, closed by computation.
-use Prim.Native.Nat.{ℕ}
+-- "Sums worked by hand" and "Traps that have fooled price plugins": one table, one statement, closed by computation. What a case is stands in Cases.antt,
+-- the cases that try the layouts at their limits in Limits.antt.
+use Prim.Native.Nat.{ℕ, _-_}
 use mathlib.Core.Path.{_≡_, refl}
 use mathlib.Core.List.{List, [], _∷_, _++_, map}
-use lib.IntN.{ℤ, pos, negℤ}
+use lib.IntN.{pos}
+use lib.ListN.{length, take, set, replicate}
 use Rattle.rules.specs.Letters.{text}
 use Rattle.rules.specs.Bytes.{bytesOf}
-use Rattle.rules.specs.Book.{Row, sale, base, surcharge, discount}
+use Rattle.rules.specs.Book.{Row, sale, purchase, base, surcharge, discount}
 use Rattle.rules.specs.BookLayout.{noUnit}
-use Rattle.rules.specs.Refusals.{Result, done, refused}
-use Rattle.rules.specs.Price.{price, Answer}
-use Rattle.rules.specs.FinalNumber.{finalNumber}
-use Rattle.rules.specs.Packaging.{packaging, Packed}
-use Rattle.rules.specs.Program.{output, asked, digits}
-use Rattle.rules.specs.Days as Days
-use Rattle.rules.specs.Book as Book
-use Rattle.rules.specs.BookLayout as BookLayout
-use Rattle.rules.specs.Question as Question
-use Rattle.rules.specs.Choice as Choice
-use Rattle.rules.specs.Amounts as Amounts
-use Rattle.rules.specs.Lines as Lines
-use Rattle.rules.specs.Price as Price
-use Rattle.rules.specs.Calendar as Calendar
-use Rattle.rules.specs.FinalNumber as FinalNumber
-use Rattle.rules.specs.Refusals as Refusals
-use Rattle.rules.specs.TextBook as TextBook
-use Rattle.rules.specs.Text as LineText
-use Rattle.rules.specs.declared.PriceAnswer.{PriceAnswer}
-use lib.ListN.{replicate}
-use Rattle.rules.specs.Packaging as Packaging
-use Rattle.rules.specs.declared.Value.{Value}
-use Rattle.rules.specs.declared.Value.the-variants.{Fixed, Percent}
-use Rattle.integers.specs.Floor as Floor
-use Rattle.rules.proofs.Encode.{bookBytes, articleBytes, rowBytes, roundingBytes, packBytes, schemeBytes, propertyBytes, questionBytes}
-
--- ---- a case: what is asked, of which book and question, and what was worked by hand
-
-data Call : Type 0 where
-  AskPrice : Call
-  AskNumber : Call
-  AskGross : Call
-  -- the program, with an end date
-  AskCalendar : ℕ → Call
-  -- what the caller reads of a price, and the lent bytes, of which there are so many sevens
-  AskBytes : ℕ → Call
-  -- the text of a number, the fallback standing in the question's place
-  AskText : ℕ → Call
-  -- the bytes of a calendar
-  AskStretches : ℕ → Call
-
-data Worked : Type 0 where
-  -- the lines' amounts, and the unit total
-  Listed : List ℤ → ℤ → Worked
-  Text : List ℕ → Worked
-  Weight : ℤ → Worked
-  Refusal : ℕ → Worked
-  -- number, unit total, total, number of lines, unused set and its count, currency; then the lent bytes
-  Read : ℕ → ℤ → ℤ → ℕ → ℕ → ℕ → List ℕ → List ℕ → Worked
-  -- which text book, where in it, and the text
-  InBook : ℕ → ℕ → List ℕ → Worked
-
-record Case : Type 0 where
-  call : Call
-  book : List ℕ
-  question : List ℕ
-  worked : Worked
-
-abbrev case : Call → List ℕ → List ℕ → Worked → Case
-case c b q w = record { call = c; book = b; question = q; worked = w }
-
--- ---- the words of the cases
-
-abbrev minus : ℕ → ℤ
-minus n = negℤ (pos n)
-
-abbrev fixed : ℤ → Value
-fixed z = Fixed (record { 0 = z })
-
-abbrev percent : ℤ → Value
-percent z = Percent (record { 0 = z })
-
-abbrev A1 : List ℕ
-A1 = text "A1"
-
-abbrev T100 : List ℕ
-T100 = text "T100"
-
-abbrev OAK : List ℕ
-OAK = text "OAK"
-
-abbrev oak : List ℕ
-oak = text "oak"
-
-abbrev EUR : List ℕ
-EUR = text "EUR"
-
-abbrev USD : List ℕ
-USD = text "USD"
-
--- a sale row of A1: condition, level, rule, value, currency, from, to, up to, rounding
-abbrev row : List ℕ → ℕ → ℕ → Value → List ℕ → ℕ → ℕ → ℕ → ℕ → Row
-row condition level rule value currency from to upTo rounding =
-    record { article = A1; condition = condition; sort = sale; level = level; rule = rule; text = 0; value = value; currency = currency; from = from; to = to; upTo = upTo; rounding = rounding }
-
--- one with no condition, all of 2024
-abbrev in2024 : ℕ → ℕ → Value → List ℕ → ℕ → ℕ → Row
-in2024 level rule value currency upTo rounding = row [] level rule value currency 20240101 20241231 upTo rounding
-
--- a base row in euro, for any quantity
-abbrev baseRow : ℕ → ℕ → ℕ → Row
-baseRow cents from to = row [] base 1 (fixed (pos cents)) EUR from to 0 0
-
--- a book of A1 with these rows, and other records behind them
-abbrev bookOf : List Row → List (List ℕ) → List ℕ
-bookOf rs others = bookBytes (articleBytes A1 [] ∷ (map rowBytes rs ++ others))
-
-abbrev ask : ℕ → ℕ → List (List ℕ) → List ℕ
-ask date quantity granted = questionBytes A1 sale EUR date quantity granted []
+use Rattle.rules.proofs.Encode.{bookBytes, articleBytes, roundingBytes, packBytes, schemeBytes, propertyBytes, questionBytes}
+use Rattle.rules.proofs.Cases.{AskPrice, AskNumber, AskGross, AskCalendar, AskBytes, AskText, AskStretches, AskInput}
+use Rattle.rules.proofs.Cases.{Listed, Text, Weight, Refusal, Read, InBook, Case, case, found}
+use Rattle.rules.proofs.Cases.{minus, fixed, percent, A1, T100, OAK, oak, EUR, USD, row, in2024, baseRow, bookOf, ask}
+use Rattle.rules.proofs.Limits.{limits}
 
 -- ---- the books
 
@@ -151,6 +49,14 @@ weights article condition present tare net items =
 -- presence bits: tare 16, net 32, items 64
 abbrev book9 : List ℕ
 book9 = bookBytes (articleBytes A1 [] ∷ weights A1 [] 112 2000 15000 2 ∷ weights (text "*") OAK 32 0 3000 0 ∷ [])
+
+-- a book with another scheme, the article T100, and then its own scheme S1
+abbrev numbered : List ℕ → List ℕ
+numbered scheme = bookBytes (schemeBytes (text "S0") [] (text "_") 1 0 0 0 ∷ articleBytes T100 (text "S1") ∷ scheme ∷ [])
+
+-- the program's input for the calendar of K
+abbrev inputK : List ℕ
+inputK = bookK ++ (ask 20240629 1 (oak ∷ []) ++ bytesOf 4 20250102)
 
 -- ---- the table
 
@@ -243,46 +149,92 @@ more =
     ∷ case AskGross (bookBytes (articleBytes A1 [] ∷ weights A1 [] 112 2000 15000 2 ∷ packBytes (text "*") OAK 0 (replicate 8 (pos 0)) (noUnit ∷ noUnit ∷ text "LBR" ∷ []) ∷ [])) (ask 20240630 1 (oak ∷ [])) (Refusal 11)
     ∷ []
 
--- ---- what the rules give
+-- ---- what faults put into the rules on purpose had got past
 
-abbrev readPrice : Result Answer → Worked
-readPrice (done a) = Listed (map (λ l. l .amount) (a .lines)) (a .unit)
-readPrice (refused n) = Refusal n
+-- a row of 2024 whose text has a number of four different bytes
+abbrev rowOf : List ℕ → ℕ → ℕ → Row
+rowOf article sort cents =
+    record { article = article; condition = []; sort = sort; level = base; rule = 1; text = 16_909_060; value = fixed (pos cents); currency = EUR; from = 20240101; to = 20241231; upTo = 0; rounding = 0 }
 
-abbrev readText : Result (List ℕ) → Worked
-readText (done t) = Text t
-readText (refused n) = Refusal n
+abbrev choices : List Case
+choices =
+    -- rows of another sort or another article are of no component that is asked for
+    case AskPrice (bookOf (rowOf A1 purchase 7 ∷ rowOf (text "B") sale 8 ∷ baseRow 100 20240101 20241231 ∷ []) []) (ask 20240630 1 []) (Listed (pos 100 ∷ []) (pos 100))
+    -- purchase, and no currency asked
+    ∷ case AskPrice (bookOf (rowOf A1 purchase 7 ∷ []) []) (questionBytes A1 purchase noUnit 20240630 1 [] []) (Listed (pos 7 ∷ []) (pos 7))
+    -- a percentage in another currency is no foreign amount
+    ∷ case AskPrice (bookOf (in2024 base 1 (fixed (pos 100)) EUR 0 0 ∷ in2024 surcharge 1 (percent (pos 1000)) USD 0 0 ∷ []) []) (ask 20240630 1 []) (Listed (pos 100 ∷ pos 10 ∷ []) (pos 110))
+    -- each row has the rounding of its own number, and number 0 has none
+    ∷ case AskPrice (bookOf (in2024 base 1 (fixed (pos 95)) EUR 0 0 ∷ in2024 surcharge 1 (fixed (pos 95)) EUR 0 8 ∷ []) (roundingBytes 7 1 10 (pos 0) (pos 0) ∷ roundingBytes 8 0 10 (pos 0) (pos 0) ∷ [])) (ask 20240630 1 [])
+    (Listed (pos 95 ∷ pos 90 ∷ []) (pos 185))
+    -- a total that left its range and came back
+    ∷ case AskPrice (bookOf (in2024 base 1 (fixed (pos 100_000_000)) EUR 0 0 ∷ in2024 surcharge 1 (percent (pos 90_001)) EUR 0 0 ∷ in2024 discount 1 (fixed (minus 20000)) EUR 0 0 ∷ []) []) (ask 20240630 1 []) (Refusal 6)
+    -- no limit is above the greatest limit
+    ∷ case AskPrice (bookOf (in2024 base 1 (fixed (pos 8)) EUR 0 0 ∷ in2024 base 1 (fixed (pos 9)) EUR 4_294_967_295 0 ∷ []) []) (ask 20240630 10 []) (Listed (pos 9 ∷ []) (pos 9))
+    -- a line shows its row's text number, and its place; the unconditioned row goes first, wherever it stands
+    ∷ case (AskBytes 28) (bookOf (row (text "ZZ") base 1 (fixed (pos 1)) EUR 20240101 20241231 0 0 ∷ rowOf A1 sale 2 ∷ []) []) (ask 20240630 1 (text "zz" ∷ []))
+    (Read 0 (pos 3) (pos 3) 2 0 0 EUR (1 ∷ 2 ∷ 3 ∷ 4 ∷ 66 ∷ 0 ∷ 0 ∷ 0 ∷ 0 ∷ 0 ∷ 0 ∷ 0 ∷ 0 ∷ 2 ∷ 0 ∷ 0 ∷ 0 ∷ 0 ∷ 66 ∷ 1 ∷ 0 ∷ 0 ∷ 0 ∷ 0 ∷ 0 ∷ 0 ∷ 0 ∷ 1 ∷ []))
+    -- a to z become capitals, and no byte beside them
+    ∷ case AskPrice (bookOf (row (text "AZ`{") base 1 (fixed (pos 5)) EUR 20240101 20241231 0 0 ∷ []) []) (ask 20240630 1 (text "az`{" ∷ [])) (Listed (pos 5 ∷ []) (pos 5))
+    -- an amount below zero is printed with its sign
+    ∷ case (AskCalendar 20240629) (bookOf (in2024 base 1 (fixed (minus 1)) EUR 0 0 ∷ []) []) (ask 20240629 1 []) (Text (text "20240629 20240629 0 EUR -1\n"))
+    -- the scheme is the article's own, with separator and characters given
+    ∷ case AskNumber (numbered (schemeBytes (text "S1") (text "/") (text "_") 1 35 63 0)) question8 (Text (text "T100/OAK _##_???"))
+    -- visibility 0 leaves the hidden one out, and its separator; where nothing is left, the number's separator too
+    ∷ case AskNumber (numbered (schemeBytes (text "S1") [] (text "_") 0 0 0 0)) question8 (Text (text "T100 OAK _XXX"))
+    ∷ case AskNumber (numbered (schemeBytes (text "S1") (text "/") (text "_") 0 0 0 0)) question8 (Text (text "T100/OAK _XXX"))
+    ∷ case AskNumber (numbered (schemeBytes (text "S1") (text "/") (text "_") 0 0 0 0)) (questionBytes T100 sale EUR 20240630 1 [] (propertyBytes 2 1 [] ∷ [])) (Text T100)
+    -- an article's own packaging goes before that of any article
+    ∷ case AskGross (bookBytes (articleBytes A1 [] ∷ weights A1 [] 112 2000 15000 2 ∷ weights (text "*") OAK 32 0 3000 0 ∷ weights A1 OAK 32 0 500 0 ∷ [])) (ask 20240630 1 (oak ∷ [])) (Weight (pos 33000))
+    -- and a name that is granted twice adds its packaging once
+    ∷ case AskGross book9 (ask 20240630 1 (oak ∷ OAK ∷ [])) (Weight (pos 38000))
+    -- as many days as a period may have, none of them with a price
+    ∷ case (AskCalendar 20261231) (bookOf [] []) (ask 20240101 1 []) (Text (text "20240101 20261231 4 --- 0\n"))
+    ∷ []
 
-abbrev readGross : Result Packed → Worked
-readGross (done p) = Weight (p .gross)
-readGross (refused n) = Refusal n
+abbrev refusals : List Case
+refusals =
+    -- no book, no question, no article
+    case AskPrice [] [] (Refusal 1)
+    ∷ case AskPrice bookK [] (Refusal 2)
+    ∷ case AskPrice bookK (questionBytes (text "A2") sale EUR 20240630 1 [] []) (Refusal 3)
+    -- a period that ends before it starts goes before an article that is not there
+    ∷ case (AskCalendar 20240628) bookK (ask 20240629 1 []) (Text (text "refusal 9\n"))
+    ∷ case (AskCalendar 20240628) bookK (questionBytes (text "A2") sale EUR 20240629 1 [] []) (Text (text "refusal 9\n"))
+    -- an end that is no day, and a day more than a period may have
+    ∷ case (AskCalendar 20240631) bookK (ask 20240629 1 []) (Text (text "refusal 9\n"))
+    ∷ case (AskCalendar 20270101) (bookOf [] []) (ask 20240101 1 []) (Text (text "refusal 9\n"))
+    -- packaging under a condition alone
+    ∷ case AskGross (bookBytes (articleBytes A1 [] ∷ weights A1 OAK 32 0 1 0 ∷ [])) (ask 20240630 1 []) (Refusal 8)
+    -- a broken fallback, though the asked book has the text
+    ∷ case (AskText 1) askedTexts [] (Refusal 1)
+    -- text books of another length or version, or with a text that is cut; and two without a text
+    ∷ case (AskText 1) (set askedTexts 3 11) otherTexts (Refusal 1)
+    ∷ case (AskText 1) (set askedTexts 4 2) otherTexts (Refusal 1)
+    ∷ case (AskText 1) (set askedTexts 10 2) otherTexts (Refusal 1)
+    ∷ case (AskText 1) (0 ∷ 0 ∷ 0 ∷ 5 ∷ 1 ∷ []) (0 ∷ 0 ∷ 0 ∷ 5 ∷ 1 ∷ []) (Refusal 12)
+    -- the program's input: nothing at all; cut in the book's length, in the book, in the question's length, in the question
+    ∷ case AskInput [] [] (Text (text "refusal 1\n"))
+    ∷ case AskInput (take 3 bookK) [] (Text (text "refusal 1\n"))
+    ∷ case AskInput (take (length bookK - 1) bookK) [] (Text (text "refusal 1\n"))
+    ∷ case AskInput (bookK ++ (0 ∷ 0 ∷ [])) [] (Text (text "refusal 2\n"))
+    ∷ case AskInput (take (length inputK - 5) inputK) [] (Text (text "refusal 2\n"))
+    -- an end date that is missing, a byte short, a byte long
+    ∷ case AskInput (take (length inputK - 4) inputK) [] (Text (text "refusal 9\n"))
+    ∷ case AskInput (take (length inputK - 1) inputK) [] (Text (text "refusal 9\n"))
+    ∷ case AskInput (inputK ++ (0 ∷ [])) [] (Text (text "refusal 9\n"))
+    -- a broken book goes before a cut question, and a broken question before a wrong end date
+    ∷ case AskInput (0 ∷ 0 ∷ 0 ∷ 5 ∷ 2 ∷ []) [] (Text (text "refusal 1\n"))
+    ∷ case AskInput (bookK ++ (0 ∷ 0 ∷ 0 ∷ 5 ∷ 2 ∷ [])) [] (Text (text "refusal 2\n"))
+    -- as long as an input may be, and a byte longer
+    ∷ case AskInput (inputK ++ replicate (65_536 - length inputK) 0) [] (Text (text "refusal 9\n"))
+    ∷ case AskInput (inputK ++ replicate (65_537 - length inputK) 0) [] (Text (text "refusal 1\n"))
+    ∷ []
 
-abbrev readCall : PriceAnswer × List ℕ → Worked
-readCall p = Read (p .0 .number) (p .0 .unit) (p .0 .total) (p .0 .lines) (p .0 .unused) (p .0 .«unused_count») (p .0 .currency) (p .1)
-
-abbrev readFound : Result LineText.Found → Worked
-readFound (done f) = InBook (LineText.bookOf f) (LineText.foundEntry f .start) (LineText.foundEntry f .text)
-readFound (refused n) = Refusal n
-
-abbrev readStretches : Result (List Calendar.Stretch) → Worked
-readStretches (done ss) = Text (Calendar.stretchesBytes ss)
-readStretches (refused n) = Refusal n
-
-abbrev by : Call → List ℕ → List ℕ → Worked
-by AskPrice b q = readPrice (price b q 1000)
-by AskNumber b q = readText (finalNumber b q 1000)
-by AskGross b q = readGross (packaging b q)
-by (AskCalendar end) b q = Text (output (b ++ (q ++ bytesOf 4 end)))
-by (AskBytes room) b q = readCall (Price.priceCall b q (replicate room 7))
-by (AskText n) b q = readFound (LineText.text b q n)
-by (AskStretches end) b q = readStretches (Calendar.calendar b q end 1000)
-
--- (the line below names what computes: whoever unfolds `found` unfolds all of it)
-found : Case → Worked
-unfolding price Floor.floor BookLayout.records Book.articleOf Book.schemeOf Book.packOf Book.roundingFor Question.questionOf Question.on Question.grants Choice.component Choice.step₁ Choice.step₂ Choice.step₃ Choice.step₄ Choice.step₅ Choice.surviving Choice.choose Days.isDay Days.next Days.daysTo Amounts.exact Amounts.ceiling Amounts.nearest Amounts.stepsBy Amounts.multipleBy Amounts.rounded Lines.slots Lines.rowsAt Lines.chosenAt Lines.chosen Lines.total Lines.baseSum Lines.lineAfter Lines.linesAfter Lines.linesOf Lines.linesBytes Lines.totalOf Price.priced Price.unusedOf Price.answerOf finalNumber FinalNumber.finalNumberOf FinalNumber.numberBy packaging Packaging.used Packaging.packedOf output asked digits Calendar.calendarIn Calendar.stretchesBytes Price.shown Refusals.lentAfter LineText.text TextBook.entries Calendar.periodTo Calendar.outcome Calendar.outcomeOf Calendar.stretches Calendar.sameOutcome
-found c = by (c .call) (c .book) (c .question)
+abbrev table : List Case
+table = sums ++ (traps ++ (more ++ (choices ++ (refusals ++ limits))))
 
 -- Every sum that was worked by hand, and every trap, comes out of the rules as the paper has it.
-worked-sums : map found (sums ++ (traps ++ more)) ≡ map (λ c. c .worked) (sums ++ (traps ++ more))
+worked-sums : map found table ≡ map (λ c. c .worked) table
 unfolding found
 worked-sums = refl
