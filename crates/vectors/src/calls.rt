@@ -6,8 +6,10 @@ use crate::fields::signed;
 use crate::fields::stretches;
 use crate::fields::three;
 use crate::listed::list;
+use layout::names::same_bytes;
 use rules::PriceAnswer;
 use rules::Stretch;
+use rules::TextAnswer;
 use rules::Written;
 ghost use Prim.Native.Nat.{_≤_};
 
@@ -21,7 +23,7 @@ fn least(n: usize, most: usize) -> usize
     if n < most { n } else { most }
 }
 
-pub fn run(call: u8, n: u32, room: usize, a: &[u8], b: &[u8]) {
+pub fn run<'a>(call: u8, n: u32, room: usize, a: &'a [u8], b: &'a [u8]) {
     let lent = least(room, 2000);
     match call {
         1 => price(a, b, lent),
@@ -123,11 +125,30 @@ fn values(of: [i64; 8]) {
     signed(of[7]);
 }
 
-fn text(asked: &[u8], fallback: &[u8], n: u32) {
+fn text<'a>(asked: &'a [u8], fallback: &'a [u8], n: u32) {
     let answer = plugin::rafttwine_text(asked, fallback, n);
     io::write_all(1, b"text");
     number(answer.number as u64);
     number(answer.book as u64);
     number(answer.place);
     number(answer.length);
+    if !handed(asked, fallback, n, answer) {
+        io::write_all(1, b" elsewhere");
+    }
+}
+
+// Inside Rattle the text comes as a part of its book. It has to be the bytes to which the numbers point.
+fn handed<'a>(asked: &'a [u8], fallback: &'a [u8], n: u32, answer: TextAnswer) -> bool {
+    let part = texts::text(asked, fallback, n);
+    if answer.book == 2 {
+        return is_at(part, fallback, answer);
+    }
+    is_at(part, asked, answer)
+}
+
+fn is_at(part: &[u8], book: &[u8], answer: TextAnswer) -> bool {
+    let from = least(answer.place as usize, book.len());
+    let size = least(answer.length as usize, book.len() - from);
+    let end = from + size;
+    same_bytes(part, &book[from..end])
 }
