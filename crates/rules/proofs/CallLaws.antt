@@ -1,11 +1,14 @@
--- The price and the calendar call read backwards: what an answered one rests on.
-use Prim.Native.Nat.{ℕ}
+-- The price and the calendar call read backwards: what an answered one rests on, and which numbers a refused one has.
+use Prim.Native.Nat.{ℕ, _≤_}
 use mathlib.Core.Path.{_≡_, refl, sym, _∙_, ap, subst}
 use mathlib.Core.Bool.{Bool, true, false}
 use mathlib.Core.List.{List}
+use mathlib.Core.Logic.{_⊎_, inl, inr}
 use mathlib.Core.Option.{some}
+use native.Mathlib.Omega.{arith}
 use lib.Dec.{eqb, leb}
 use lib.ListN.{length}
+use borrow.Author.Tests.{leb-true, le-leb}
 use Rattle.rules.specs.Book.{Record, Article, articleOf}
 use Rattle.rules.specs.BookLayout.{records}
 use Rattle.rules.specs.Question.{Question, questionOf}
@@ -17,7 +20,8 @@ use Rattle.rules.specs.declared.Total.{Total}
 use Rattle.rules.specs.declared.Total.the-variants.{InRange, OutOfRange}
 use Rattle.rules.specs.Price.{Priced, Answer, inOneCurrency, inRange, priced, answerOf, written, price}
 use Rattle.rules.specs.Calendar.{Stretch, stretches, outcome, periodTo, calendarIn}
-use Rattle.rules.proofs.RefusalLaws.{then-done, or-done, unless-done, done-is, not-refused, NeverZero, done-never, refused-never, or-never, unless-never, then-never}
+use Rattle.rules.proofs.RefusalLaws.{then-done, or-done, unless-done, done-is, not-refused, NeverZero, done-never, refused-never, or-never, unless-never, then-never, Refuses, or-refuses, unless-refuses, found-refuses, then-refuses}
+use Rattle.rules.proofs.CalendarLaws.{never-10}
 
 -- ---- the price call
 
@@ -55,6 +59,15 @@ price-answered b s room a e =
       fits = subst (λ (k : Answer). leb (length (written k)) room ≡ true) i (unless-done 7 (leb (length (written (answerOf (y .0) (p .0)))) room) (w .1));
     }
 
+-- what is answered with some room is answered with more
+pub price-room : (b s : List ℕ) (room more : ℕ) (a : Answer) → price b s room ≡ done a → room ≤ more → price b s more ≡ done a
+unfolding price
+price-room b s room more a e l =
+    let x = price-answered b s room a e in
+    let fits : leb (length (written (answerOf (x .question) (x .at)))) more ≡ true =
+    subst (λ (k : Answer). leb (length (written k)) more ≡ true) (sym (x .is)) (le-leb (length (written a)) more (omega (arith, leb-true (length (written a)) room (x .fits)))) in
+    rw (x .is-book, x .is-question, x .has-article, x .is-priced, fits) (ap done (x .is))
+
 range-never : (t : Total) → NeverZero (inRange t)
 range-never (InRange c) = done-never c
 range-never OutOfRange = refused-never 5
@@ -75,6 +88,26 @@ price-never b s room =
     or-never 2 (articleOf book (q .article)) _ (λ a.
     then-never (priced book q) _ (priced-never book q) (λ p.
     unless-never 6 (leb (length (written (answerOf q p))) room) _ (done-never (answerOf q p))))))
+
+-- a price that is refused is refused with 1 to 7
+abbrev pub PriceRefusal : ℕ → Type 0
+PriceRefusal n = (1 ≤ n) × (n ≤ 7)
+
+range-refuses : (t : Total) → Refuses PriceRefusal (inRange t)
+range-refuses (InRange c) = tt
+range-refuses OutOfRange = (omega arith, omega arith)
+
+pub price-refuses : (b s : List ℕ) (room : ℕ) → Refuses PriceRefusal (price b s room)
+unfolding price priced
+price-refuses b s room =
+    or-refuses PriceRefusal 1 (records b) _ (omega arith, omega arith) (λ book.
+    or-refuses PriceRefusal 2 (questionOf s) _ (omega arith, omega arith) (λ q.
+    or-refuses PriceRefusal 3 (articleOf book (q .article)) _ (omega arith, omega arith) (λ a.
+    then-refuses PriceRefusal (priced book q) _
+    (or-refuses PriceRefusal 4 (first ofBase (linesOf book q)) _ (omega arith, omega arith) (λ b.
+    unless-refuses PriceRefusal 5 (inOneCurrency (b .row .currency) (linesOf book q)) _ (omega arith, omega arith)
+    (then-refuses PriceRefusal (inRange (totalOf (amounts (linesOf book q)))) _ (range-refuses (totalOf (amounts (linesOf book q)))) (λ c. tt))))
+    (λ p. unless-refuses PriceRefusal 7 (leb (length (written (answerOf q p))) room) _ (omega arith, omega arith) tt))))
 
 -- a price has the lines of the question, and these are in range
 pub priced-range : (book : List Record) (q : Question) {p : Priced} → priced book q ≡ done p → (c : Cents) × (totalOf (amounts (p .lines)) ≡ InRange c) × (p .lines ≡ linesOf book q)
@@ -106,7 +139,7 @@ call-4 b s room {book} {q} {a} e f g = rw (e, f, g) (go (priced book q))
 
 -- ---- the calendar call, in either form
 
-pub record Listed (b s : List ℕ) (end : ℕ) (ss : List Stretch) : Type 0 where
+pub record Listed {B : Type 0} (form : List Stretch → List B) (b s : List ℕ) (end room : ℕ) (ss : List Stretch) : Type 0 where
   pub book : List Record
   pub question : Question
   pub article : Article
@@ -116,8 +149,10 @@ pub record Listed (b s : List ℕ) (end : ℕ) (ss : List Stretch) : Type 0 wher
   pub has-article : articleOf book (question .article) ≡ some article
   pub is-period : periodTo (question .date) end ≡ some days
   pub is : stretches (outcome book question) days ≡ ss
+  pub few : leb (length ss) 1200 ≡ true
+  pub fits : leb (length (form ss)) room ≡ true
 
-pub calendar-answered : {B : Type 0} (form : List Stretch → List B) (b s : List ℕ) (end room : ℕ) (ss : List Stretch) → calendarIn form b s end room ≡ done ss → Listed b s end ss
+pub calendar-answered : {B : Type 0} (form : List Stretch → List B) (b s : List ℕ) (end room : ℕ) (ss : List Stretch) → calendarIn form b s end room ≡ done ss → Listed form b s end room ss
 unfolding calendarIn
 calendar-answered form b s end room ss e =
     let x = then-done (orRefuse 1 (records b)) _ e in
@@ -137,4 +172,33 @@ calendar-answered form b s end room ss e =
       has-article = or-done 3 (articleOf (x .0) (y .0 .article)) (z .1);
       is-period = or-done 9 (periodTo (y .0 .date) end) (d .1);
       is = done-is ts ss (w .2);
+      few = subst (λ (l : List Stretch). leb (length l) 1200 ≡ true) (done-is ts ss (w .2)) (unless-done 10 (leb (length ts) 1200) (t .1));
+      fits = subst (λ (l : List Stretch). leb (length (form l)) room ≡ true) (done-is ts ss (w .2)) (unless-done 7 (leb (length (form ts)) room) (w .1));
     }
+
+-- what is answered with some room is answered with more
+pub calendar-room : {B : Type 0} (form : List Stretch → List B) (b s : List ℕ) (end room more : ℕ) (ss : List Stretch) → calendarIn form b s end room ≡ done ss → room ≤ more
+    → calendarIn form b s end more ≡ done ss
+unfolding calendarIn
+calendar-room form b s end room more ss e l =
+    let x = calendar-answered form b s end room ss e in
+    let fits : leb (length (form ss)) more ≡ true = le-leb (length (form ss)) more (omega (arith, leb-true (length (form ss)) room (x .fits))) in
+    rw (x .is-book, x .is-question, x .is-period, x .has-article, x .is, x .few, fits)
+
+-- a calendar that is refused is refused with one of these; 10 is none of them, since there are never so many stretches
+abbrev pub CalendarRefusal : ℕ → Type 0
+CalendarRefusal n = (n ≡ 1) ⊎ ((n ≡ 2) ⊎ ((n ≡ 9) ⊎ ((n ≡ 3) ⊎ (n ≡ 7))))
+
+module _ {B : Type 0} (form : List Stretch → List B) (end room : ℕ) where
+  -- from 10 on
+  pub fitting-refuses : (P : ℕ → Type 0) (book : List Record) (q : Question) (days : List ℕ) → P 7 → periodTo (q .date) end ≡ some days
+      → Refuses P (refuseUnless 10 (leb (length (stretches (outcome book q) days)) 1200) >>= λ _. refuseUnless 7 (leb (length (form (stretches (outcome book q) days))) room) >>= λ _. done (stretches (outcome book q) days))
+  fitting-refuses P book q days seven p = rw (never-10 (outcome book q) (q .date) end days p) (unless-refuses P 7 (leb (length (form (stretches (outcome book q) days))) room) _ seven tt)
+
+  pub calendar-refuses : (b s : List ℕ) → Refuses CalendarRefusal (calendarIn form b s end room)
+  unfolding calendarIn
+  calendar-refuses b s =
+      or-refuses CalendarRefusal 1 (records b) _ (inl refl) (λ book.
+      or-refuses CalendarRefusal 2 (questionOf s) _ (inr (inl refl)) (λ q.
+      found-refuses CalendarRefusal 9 (periodTo (q .date) end) _ (inr (inr (inl refl))) (λ days p.
+      or-refuses CalendarRefusal 3 (articleOf book (q .article)) _ (inr (inr (inr (inl refl)))) (λ a. fitting-refuses CalendarRefusal book q days (inr (inr (inr (inr refl)))) p))))

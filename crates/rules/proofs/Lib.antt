@@ -13,11 +13,14 @@ pub mod ChoiceLaws
 pub mod LinesLaws
 pub mod RoomLaws
 pub mod NoPriceLaws
+pub mod RowLaws
 pub mod UnusedLaws
 pub mod RoundingLaws
 pub mod CalendarLaws
 pub mod StaysLaws
 pub mod WalkLaws
 pub mod CallLaws
+pub mod PeriodLaws
+pub mod BookK
 pub mod PackagingLaws
 pub mod Promises
