@@ -4,7 +4,7 @@ use mathlib.Core.Path.{_≡_, refl, sym, _∙_, ap, subst}
 use mathlib.Core.Bool.{Bool, true, false}
 use mathlib.Core.List.{List}
 use mathlib.Core.Logic.{_⊎_, inl, inr}
-use mathlib.Core.Option.{some}
+use mathlib.Core.Option.{some, Option·some-injective}
 use native.Mathlib.Omega.{arith}
 use lib.Dec.{eqb, leb}
 use lib.ListN.{length}
@@ -122,6 +122,15 @@ priced-range book q {p} e =
     in-range : (t : Total) {c : Cents} → inRange t ≡ done c → t ≡ InRange c
     in-range (InRange d) {c} e = ap InRange (done-is d c e)
     in-range OutOfRange {c} e = absurd (not-refused 6 c e)
+
+-- the lines of an answer are those of the book's records and the question
+pub answered-lines : (b s : List ℕ) (room : ℕ) (a : Answer) → price b s room ≡ done a → {book : List Record} {q : Question} → records b ≡ some book → questionOf s ≡ some q → a .lines ≡ linesOf book q
+unfolding answerOf
+answered-lines b s room a e {book} {q} f g =
+    let x = price-answered b s room a e in
+    let same-book : x .book ≡ book = Option·some-injective (x .book) book (sym (x .is-book) ∙ f) in
+    let same-question : x .question ≡ q = Option·some-injective (x .question) q (sym (x .is-question) ∙ g) in
+    ap (λ (k : Answer). k .lines) (sym (x .is)) ∙ priced-range (x .book) (x .question) (x .is-priced) .2 ∙ (λ i. linesOf (same-book i) (same-question i))
 
 -- with an accepted book and question and an article that the book has, 4 is the price's own
 pub call-4 : (b s : List ℕ) (room : ℕ) {book : List Record} {q : Question} {a : Article} → records b ≡ some book → questionOf s ≡ some q → articleOf book (q .article) ≡ some a

@@ -21,6 +21,7 @@ pub mod StaysLaws
 pub mod WalkLaws
 pub mod CallLaws
 pub mod PeriodLaws
+pub mod ProgramLaws
 pub mod BookK
 pub mod PackagingLaws
 pub mod Promises

@@ -24,6 +24,8 @@ use Rattle.rules.specs.Calendar.{Outcome, Stretch, stretches, outcome, p
 use Rattle.rules.specs.FinalNumber as FinalNumber
 use Rattle.rules.specs.Packaging as Packaging
 use Rattle.rules.specs.Text as Text
+use Rattle.rules.specs.Letters.{text}
+use Rattle.rules.specs.Program.{mostInput, behind, bookIn, questionIn, endIn, output}
 use Rattle.rules.specs.declared.Way.{Way}
 use Rattle.rules.specs.declared.Fraction.{Fraction}
 use Rattle.rules.specs.declared.Stretch as Declared
@@ -36,6 +38,11 @@ use Rattle.rules.proofs.UnusedLaws as Unused
 use Rattle.rules.proofs.RoundingLaws as Rounding
 use Rattle.rules.proofs.CalendarLaws as Calendar
 use Rattle.rules.proofs.CallLaws as Calls
+use Rattle.rules.proofs.ListLaws.{All}
+use Rattle.rules.proofs.RefusalLaws.{known-number}
+use Rattle.rules.proofs.RowLaws as Rows
+use Rattle.rules.proofs.PeriodLaws as Period
+use Rattle.rules.proofs.ProgramLaws as Program
 
 -- ---- the price
 
@@ -49,6 +56,12 @@ amounts-sum b s room a q e f =
       ap (λ (k : Answer). sum (amounts (k .lines))) (sym (x .is)) ∙ ap (λ (k : Answer). k .unit) (x .is),
       ap (λ (k : Answer). k .total) (sym (x .is)) ∙ ap (λ (n : Question). pos (n .quantity) *ℤ total (x .at .lines)) same ∙ ap (λ (k : Answer). pos (q .quantity) *ℤ k .unit) (x .is),
     )
+
+-- Every line is of a row that the book has, of the asked article and sort, with both its dates days and the asked day between them, both ends
+-- included; and the row's condition is the granted name at the line's place, raised, or at place 0 none.
+pub line-of-a-row : (b s : List ℕ) (room : ℕ) (a : Answer) (book : List Record) (q : Question) → price b s room ≡ done a → records b ≡ some book → questionOf s ≡ some q
+    → All (λ l. Rows.RowFor book q (l .place) (l .row)) (a .lines)
+line-of-a-row b s room a book q e f g = subst (All (λ l. Rows.RowFor book q (l .place) (l .row))) (sym (Calls.answered-lines b s room a e f g)) (Rows.lines-for book q)
 
 -- "No price" is said exactly when, of the base rows without a condition and of those under each granted name, none survives the steps of choice.
 pub no-price : (b s : List ℕ) (room : ℕ) (book : List Record) (q : Question) (a : Article)
@@ -133,6 +146,25 @@ stretch-count f from to days e = (Calendar.stretch-count f days, Calendar.period
 
 -- ---- refusals
 
+-- A price that is refused has a number from 1 to 7;
+pub price-numbers : (b s : List ℕ) (room : ℕ) → (numberOf (price b s room) ≡ 0 → ⊥) → Calls.PriceRefusal (numberOf (price b s room))
+price-numbers b s room = known-number Calls.PriceRefusal (price b s room) (Calls.price-refuses b s room)
+
+-- a calendar, in either form, has 1, 2, 9, 3 or 7, and so never 10.
+pub calendar-numbers : {B : Type 0} (form : List Stretch → List B) (b s : List ℕ) (end room : ℕ) → (numberOf (calendarIn form b s end room) ≡ 0 → ⊥)
+    → Calls.CalendarRefusal (numberOf (calendarIn form b s end room))
+calendar-numbers form b s end room = known-number Calls.CalendarRefusal (calendarIn form b s end room) (Calls.calendar-refuses form end room b s)
+
+-- With a book and a question, a calendar is refused with 9 exactly when the end is no day, or is before the question's date, or from that date to the
+-- end, both counted, there are more than 1,096 days.
+pub calendar-nine : {B : Type 0} (form : List Stretch → List B) (b s : List ℕ) (end room : ℕ) (book : List Record) (q : Question) → records b ≡ some book → questionOf s ≡ some q
+    → (numberOf (calendarIn form b s end room) ≡ 9 → Period.NoPeriod (q .date) end) × (Period.NoPeriod (q .date) end → numberOf (calendarIn form b s end room) ≡ 9)
+calendar-nine form b s end room book q e f = (Period.period-nine form b s end room e f (question-sound s q f .date), Period.nine-period form b s end room e f)
+
+-- The days from one to another are counted by one list only.
+pub days-counted-once : (from to : ℕ) (ds es : List ℕ) → Calendar.Days from to ds → Calendar.Days from to es → ds ≡ es
+days-counted-once from to ds es = Period.days-one
+
 -- Beside a refusal's number stand zeros, and no lent byte changes: for the price,
 pub refused-price : (n : ℕ) (lent : List ℕ)
     → (Price.shown (refused n) ≡ record { unit = pos 0; total = pos 0; lines = 0; unused = 0; «unused_count» = 0; number = n; currency = noCurrency }) × (Price.lentAfterPrice (refused n) lent ≡ lent)
@@ -161,3 +193,30 @@ refused-packaging n = refl
 pub refused-text : (n : ℕ) → (Text.shown (refused n) ≡ record { place = 0; length = 0; number = n; book = 0 }) × (Text.part (refused n) ≡ [])
 unfolding Text.shown Text.part
 refused-text n = (refl, refl)
+
+-- ---- the program
+
+-- Input of more than 65,536 bytes is refused with 1, whatever it holds;
+pub program-too-long : (input : List ℕ) → mostInput < length input → output input ≡ text "refusal 1\n"
+program-too-long = Program.prints-too-long
+
+-- so is input with fewer than four bytes, or with fewer than its book's own length says,
+pub program-cut-in-the-book : (input : List ℕ) → Program.Cut input → output input ≡ text "refusal 1\n"
+program-cut-in-the-book input h = Program.prints-no-book input (Program.cut-book input h)
+
+-- and input with anything but a book in front.
+pub program-no-book : (input : List ℕ) → records (bookIn input) ≡ none → output input ≡ text "refusal 1\n"
+program-no-book = Program.prints-no-book
+
+module _ (input : List ℕ) (fits : length input ≤ mostInput) (book : List Record) (is-book : records (bookIn input) ≡ some book) where
+  -- Behind a good book, a question of which fewer than four bytes are there, or fewer than its own length says, is refused with 2,
+  pub program-cut-in-the-question : Program.Cut (behind input) → output input ≡ text "refusal 2\n"
+  program-cut-in-the-question h = Program.prints-no-question input fits is-book (Program.cut-question (behind input) h)
+
+  -- and so is anything but a question in its place.
+  pub program-no-question : questionOf (questionIn input) ≡ none → output input ≡ text "refusal 2\n"
+  program-no-question = Program.prints-no-question input fits is-book
+
+  -- Behind a good book and a good question, an end date of another length than four bytes is refused with 9.
+  pub program-end-of-another-length : (q : Question) → questionOf (questionIn input) ≡ some q → (length (endIn input) ≡ 4 → ⊥) → output input ≡ text "refusal 9\n"
+  program-end-of-another-length q f = Program.prints-no-end input fits is-book f

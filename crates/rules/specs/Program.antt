@@ -45,23 +45,36 @@ printed (refused n) = text "refusal " ++ (decimal n ++ text "\n")
 abbrev pub mostInput : ℕ
 mostInput = 65_536
 
--- how long the part in front says it is
+-- a book and a question begin with their own length: how long they say they are
 abbrev pub ownLength : List ℕ → ℕ
 ownLength s = big (take 4 s)
+
+-- the part in front is as long as it says; one that is cut has fewer bytes than that
+abbrev pub front : List ℕ → List ℕ
+front s = take (ownLength s) s
+
+abbrev pub behind : List ℕ → List ℕ
+behind s = drop (ownLength s) s
+
+-- a book, a question and an end date, one behind the other
+abbrev pub bookIn : List ℕ → List ℕ
+bookIn input = front input
+
+abbrev pub questionIn : List ℕ → List ℕ
+questionIn input = front (behind input)
+
+abbrev pub endIn : List ℕ → List ℕ
+endIn input = behind (behind input)
 
 -- an end date of another length is read as 0, which is no day
 abbrev pub endOf : List ℕ → ℕ
 endOf s = cond (eqb (length s) 4) (big s) 0
 
--- a book, a question and an end date, one behind the other. What is cut is shorter than it says, so the call itself refuses it in its own order;
--- the room is for a stretch on every day, so 7 is never met
+-- What is cut is shorter than it says, so the call itself refuses it in its own order; the room is for a stretch on every day, so 7 is never met.
 unfoldable pub asked : List ℕ → Result (List Stretch)
 asked input = do
   _ ← refuseUnless 1 (leb (length input) mostInput)
-  let book = take (ownLength input) input
-  let behind = drop (ownLength input) input
-  let question = take (ownLength behind) behind
-  calendar book question (endOf (drop (ownLength behind) behind)) (20 * mostDays)
+  calendar (bookIn input) (questionIn input) (endOf (endIn input)) (20 * mostDays)
 
 unfoldable pub output : List ℕ → List ℕ
 output input = printed (asked input)
