@@ -14,13 +14,15 @@ use Rattle.rules.specs.BookLayout.{records}
 use Rattle.rules.specs.Question.{Question, questionOf}
 use Rattle.rules.specs.Refusals.{Result, done, refused, _>>=_, orRefuse, refuseUnless, numberOf}
 use Rattle.rules.specs.Lists.{first}
-use Rattle.rules.specs.Lines.{amounts, ofBase, linesOf, totalOf}
+use Rattle.rules.specs.Lines.{amounts, ofBase, linesOf, linesBytes, totalOf}
 use Rattle.rules.specs.declared.Cents.{Cents}
 use Rattle.rules.specs.declared.Total.{Total}
 use Rattle.rules.specs.declared.Total.the-variants.{InRange, OutOfRange}
 use Rattle.rules.specs.Price.{Priced, Answer, inOneCurrency, inRange, priced, answerOf, written, price}
 use Rattle.rules.specs.Calendar.{Stretch, stretches, outcome, periodTo, calendarIn}
 use Rattle.rules.proofs.RefusalLaws.{then-done, or-done, unless-done, done-is, not-refused, NeverZero, done-never, refused-never, or-never, unless-never, then-never, Refuses, or-refuses, unless-refuses, found-refuses, then-refuses}
+use Rattle.rules.proofs.GivesLaws.{question-sound}
+use Rattle.rules.proofs.RoomLaws.{enough-room}
 use Rattle.rules.proofs.CalendarLaws.{never-10}
 
 -- ---- the price call
@@ -93,20 +95,24 @@ price-never b s room =
 abbrev pub PriceRefusal : ℕ → Type 0
 PriceRefusal n = (1 ≤ n) × (n ≤ 7)
 
-range-refuses : (t : Total) → Refuses PriceRefusal (inRange t)
-range-refuses (InRange c) = tt
-range-refuses OutOfRange = (omega arith, omega arith)
+range-refuses : (P : ℕ → Type 0) → P 6 → (t : Total) → Refuses P (inRange t)
+range-refuses P six (InRange c) = tt
+range-refuses P six OutOfRange = six
+
+priced-refuses : (P : ℕ → Type 0) → P 4 → P 5 → P 6 → (book : List Record) (q : Question) → Refuses P (priced book q)
+unfolding priced
+priced-refuses P four five six book q =
+    or-refuses P 4 (first ofBase (linesOf book q)) _ four (λ b.
+    unless-refuses P 5 (inOneCurrency (b .row .currency) (linesOf book q)) _ five
+    (then-refuses P (inRange (totalOf (amounts (linesOf book q)))) _ (range-refuses P six (totalOf (amounts (linesOf book q)))) (λ c. tt)))
 
 pub price-refuses : (b s : List ℕ) (room : ℕ) → Refuses PriceRefusal (price b s room)
-unfolding price priced
+unfolding price
 price-refuses b s room =
     or-refuses PriceRefusal 1 (records b) _ (omega arith, omega arith) (λ book.
     or-refuses PriceRefusal 2 (questionOf s) _ (omega arith, omega arith) (λ q.
     or-refuses PriceRefusal 3 (articleOf book (q .article)) _ (omega arith, omega arith) (λ a.
-    then-refuses PriceRefusal (priced book q) _
-    (or-refuses PriceRefusal 4 (first ofBase (linesOf book q)) _ (omega arith, omega arith) (λ b.
-    unless-refuses PriceRefusal 5 (inOneCurrency (b .row .currency) (linesOf book q)) _ (omega arith, omega arith)
-    (then-refuses PriceRefusal (inRange (totalOf (amounts (linesOf book q)))) _ (range-refuses (totalOf (amounts (linesOf book q)))) (λ c. tt))))
+    then-refuses PriceRefusal (priced book q) _ (priced-refuses PriceRefusal (omega arith, omega arith) (omega arith, omega arith) (omega arith, omega arith) book q)
     (λ p. unless-refuses PriceRefusal 7 (leb (length (written (answerOf q p))) room) _ (omega arith, omega arith) tt))))
 
 -- a price has the lines of the question, and these are in range
@@ -131,6 +137,26 @@ answered-lines b s room a e {book} {q} f g =
     let same-book : x .book ≡ book = Option·some-injective (x .book) book (sym (x .is-book) ∙ f) in
     let same-question : x .question ≡ q = Option·some-injective (x .question) q (sym (x .is-question) ∙ g) in
     ap (λ (k : Answer). k .lines) (sym (x .is)) ∙ priced-range (x .book) (x .question) (x .is-priced) .2 ∙ (λ i. linesOf (same-book i) (same-question i))
+
+-- with room for 99 lines 7 is never given
+pub price-not-seven : (b s : List ℕ) (room : ℕ) → 1386 ≤ room → Refuses (λ n. n ≡ 7 → ⊥) (price b s room)
+unfolding price answerOf
+price-not-seven b s room h =
+    or-refuses NotSeven 1 (records b) _ (λ e. omega arith) (λ book.
+    found-refuses NotSeven 2 (questionOf s) _ (λ e. omega arith) (λ q f.
+    or-refuses NotSeven 3 (articleOf book (q .article)) _ (λ e. omega arith) (λ a.
+    go book q (question-sound s q f .granted) (priced book q) refl (priced-refuses NotSeven (λ e. omega arith) (λ e. omega arith) (λ e. omega arith) book q))))
+  where
+    NotSeven : ℕ → Type 0
+    NotSeven n = n ≡ 7 → ⊥
+
+    go : (book : List Record) (q : Question) → length (q .granted) ≤ 32 → (r : Result Priced) → priced book q ≡ r → Refuses NotSeven r
+        → Refuses NotSeven (r >>= λ p. refuseUnless 7 (leb (length (written (answerOf q p))) room) >>= λ _. done (answerOf q p))
+    go book q few (refused n) e k = k
+    go book q few (done p) e k =
+        let ls : p .lines ≡ linesOf book q = priced-range book q e .2 in
+        let fits : leb (length (linesBytes (p .lines))) room ≡ true = le-leb (length (linesBytes (p .lines))) room (omega (arith, ap (λ l. length (linesBytes l)) ls, enough-room book q few)) in
+        rw fits tt
 
 -- with an accepted book and question and an article that the book has, 4 is the price's own
 pub call-4 : (b s : List ℕ) (room : ℕ) {book : List Record} {q : Question} {a : Article} → records b ≡ some book → questionOf s ≡ some q → articleOf book (q .article) ≡ some a

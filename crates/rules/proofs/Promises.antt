@@ -7,6 +7,7 @@ use mathlib.Core.Option.{Option, some, none, Option·some-injective}
 use lib.Count.{ones}
 use lib.Dec.{eqb}
 use lib.IntN.{ℤ, pos, _*ℤ_}
+use native.Mathlib.Omega.{arith}
 use lib.ListN.{length, replicate}
 use Rattle.rules.specs.Lists.{any}
 use Rattle.rules.specs.Days.{isDay, next, lastDay}
@@ -149,6 +150,10 @@ stretch-count f from to days e = (Calendar.stretch-count f days, Calendar.period
 -- A price that is refused has a number from 1 to 7;
 pub price-numbers : (b s : List ℕ) (room : ℕ) → (numberOf (price b s room) ≡ 0 → ⊥) → Calls.PriceRefusal (numberOf (price b s room))
 price-numbers b s room = known-number Calls.PriceRefusal (price b s room) (Calls.price-refuses b s room)
+
+-- 7 is never among them where there is room for 99 lines, 1,386 bytes, as many as a price can have;
+pub price-room-enough : (b s : List ℕ) (room : ℕ) → 1386 ≤ room → numberOf (price b s room) ≡ 7 → ⊥
+price-room-enough b s room h e = let z : numberOf (price b s room) ≡ 0 → ⊥ = λ o. omega arith in known-number (λ n. n ≡ 7 → ⊥) (price b s room) (Calls.price-not-seven b s room h) z e
 
 -- a calendar, in either form, has 1, 2, 9, 3 or 7, and so never 10.
 pub calendar-numbers : {B : Type 0} (form : List Stretch → List B) (b s : List ℕ) (end room : ℕ) → (numberOf (calendarIn form b s end room) ≡ 0 → ⊥)

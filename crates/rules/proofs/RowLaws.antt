@@ -48,6 +48,11 @@ pub record RowFor (book : List Record) (q : Question) (place : ℕ) (row : Row) 
 -- ---- lists
 
 module _ {A : Type 0} where
+  -- it has what all of them have
+  pub among-has : (P : A → Type 0) {x : A} {xs : List A} → Among x xs → All P xs → P x
+  among-has P here hs = hs .0
+  among-has P (there m) hs = among-has P m (hs .1)
+
   all-imply : {P Q : A → Type 0} → ((x : A) → P x → Q x) → (xs : List A) → All P xs → All Q xs
   all-imply f [] hs = tt
   all-imply f (x ∷ xs) hs = (f x (hs .0), all-imply f xs (hs .1))
