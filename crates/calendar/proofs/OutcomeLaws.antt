@@ -2,13 +2,12 @@
 use Prim.Native.Nat.{ℕ, _≤_}
 use mathlib.Core.Path.{_≡_, refl, sym, _∙_, ap, subst}
 use mathlib.Core.List.{List, [], _∷_, map}
-use mathlib.Core.Bool.{true}
+use mathlib.Core.Bool.{Bool, true, false}
 use mathlib.Core.Option.{Option, some, none, Option·none-ne-some, Option·some-injective}
 use native.Mathlib.Omega.{arith}
 use lib.Dec.{leb}
 use lib.ListN.{length, drop}
 use lib.IntN.{natAbs}
-use borrow.Author.Tests.{le-leb}
 use Rattle.rules.specs.Lists.{first, isSome}
 use Rattle.rules.specs.Layout.{_such_, bytes, whole}
 use Rattle.rules.specs.Bytes.{number, signed, name, oneOf, capitals}
@@ -16,13 +15,13 @@ use Rattle.rules.specs.Days.{isDay}
 use Rattle.rules.specs.Book.{Record, ArticleRecord, PriceRecord, RoundingRecord, PackagingRecord, SchemeRecord, Row, Article, rows, articleOf, sale, purchase, base, surcharge, discount}
 use Rattle.rules.specs.BookLayout.{records, kinded, priceBody, valueOf, inBounds}
 use Rattle.rules.specs.Question.{Question, questionOf, on, dateAt, redated}
-use Rattle.rules.specs.Refusals.{Result, done, refused, _>>=_ as then, orRefuse, refuseUnless}
-use Rattle.rules.specs.Lines.{Line, total, amounts, linesOf, linesBytes, ofBase, Chosen, chosen, totalOf}
-use Rattle.rules.specs.Price.{Priced, priced, answerOf, written, price, shown, inOneCurrency, inRange}
+use Rattle.rules.specs.Refusals.{Result, done, refused, _>>=_ as then, orRefuse, refuseUnless, numberOf}
+use Rattle.rules.specs.Lines.{Line, total, amounts, linesOf, ofBase, Chosen, chosen, totalOf}
+use Rattle.rules.specs.Price.{Priced, Answer, priced, answerOf, written, price, shown, inOneCurrency, inRange}
 use Rattle.rules.specs.Calendar.{outcomeOf, outcome}
 use Rattle.rules.proofs.ListLaws.{All, Holds, first-holds}
 use Rattle.rules.proofs.RefusalLaws.{then-done, or-done, done-is}
-use Rattle.rules.proofs.GivesLaws.{question-sound, Gives, gives-field, gives-any, gives-if, gives-value, whole-gives}
+use Rattle.rules.proofs.GivesLaws.{Gives, gives-field, gives-any, gives-if, gives-value, whole-gives}
 use Rattle.rules.proofs.CallLaws.{priced-range}
 use Rattle.rules.proofs.LinesLaws.{line-rows}
 use Rattle.amounts.proofs.TotalLaws.{total-in-range, total-is-sum}
@@ -34,23 +33,24 @@ use Rattle.lookup.proofs.LookupLaws.{all-records}
 use Rattle.lines.proofs.ChosenLaws.{chosen-all}
 use Rattle.calendar.specs.Read.{outcomeIn}
 use Rattle.question.proofs.RedateLaws.{redated-reads, such-bytes}
-use Rattle.rules.proofs.RoomLaws.{enough-room}
 
-module _ (b s : List ℕ) {book : List Record} {q : Question} {a : Article} (e : records b ≡ some book) (f : questionOf s ≡ some q) (g : articleOf book (q .article) ≡ some a) (room : ℕ) (r : 1386 ≤ room) where
-  -- The price call on the question with another day in its bytes, with room for 99 lines, answers with the outcome of that day.
-  pub call-outcome : (d : ℕ) → isDay d ≡ true → outcomeIn (shown (price b (redated (dateAt q) d s) room)) ≡ outcome book q d
+module _ (b s : List ℕ) {book : List Record} {q : Question} {a : Article} (e : records b ≡ some book) (f : questionOf s ≡ some q) (g : articleOf book (q .article) ≡ some a) (room : ℕ) where
+  -- The price call on the question with another day in its bytes, where it is not refused for its room, answers with the outcome of that day.
+  pub call-outcome : (d : ℕ) → isDay d ≡ true → (numberOf (price b (redated (dateAt q) d s) room) ≡ 7 → ⊥) → outcomeIn (shown (price b (redated (dateAt q) d s) room)) ≡ outcome book q d
   unfolding price shown outcome outcomeOf answerOf on
-  call-outcome d day = rw (e, redated-reads s q f d day, g) (go (priced book (on q d)) refl)
+  call-outcome d day n = rw (e, redated-reads s q f d day, g) (go (priced book (on q d)) (rw (e, redated-reads s q f d day, g) at n))
     where
-      fits : {p : Priced} → priced book (on q d) ≡ done p → leb (length (written (answerOf (on q d) p))) room ≡ true
-      fits {p} h =
-          let ls : p .lines ≡ linesOf book (on q d) = priced-range book (on q d) h .2 in
-          le-leb (length (linesBytes (p .lines))) room (omega (arith, ap (λ l. length (linesBytes l)) ls, enough-room book (on q d) (question-sound s q f .granted)))
+      fitting : Priced → Bool → Result Answer
+      fitting p t = then (refuseUnless 7 t) (λ _. done (answerOf (on q d) p))
 
-      go : (x : Result Priced) → priced book (on q d) ≡ x
-          → outcomeIn (shown (then x (λ p. then (refuseUnless 7 (leb (length (written (answerOf (on q d) p))) room)) (λ _. done (answerOf (on q d) p))))) ≡ outcomeOf x
+      seven : (p : Priced) (t : Bool) → (numberOf (fitting p t) ≡ 7 → ⊥) → outcomeIn (shown (fitting p t)) ≡ outcomeOf (done p)
+      seven p true n = refl
+      seven p false n = absurd (n refl)
+
+      go : (x : Result Priced) → (numberOf (then x (λ p. fitting p (leb (length (written (answerOf (on q d) p))) room))) ≡ 7 → ⊥)
+          → outcomeIn (shown (then x (λ p. fitting p (leb (length (written (answerOf (on q d) p))) room)))) ≡ outcomeOf x
       go (refused n) h = refl
-      go (done p) h = rw (fits h)
+      go (done p) h = seven p (leb (length (written (answerOf (on q d) p))) room) h
 
 -- ---- a currency is three letters, and a unit total is in range
 

@@ -3,19 +3,21 @@ use Prim.Native.Nat.{ℕ, _*_, _/_, _≤_}
 use mathlib.Core.Path.{_≡_, refl, sym, _∙_, ap, subst}
 use mathlib.Core.Bool.{true}
 use mathlib.Core.List.{List, [], _∷_, _++_, map}
+use mathlib.Core.Logic.{_⊎_, inl, inr}
 use mathlib.Core.Option.{some, Option·some-injective}
 use native.Mathlib.Omega.{arith}
 use lib.Dec.{leb}
 use lib.IntN.{natAbs}
-use lib.ListN.{length, drop, length-append}
+use lib.ListN.{length, drop, length-append, length-map}
 use borrow.Author.Tests.{le-leb}
 use Rattle.rules.specs.Bytes.{signedBytesOf}
 use Rattle.rules.specs.Days.{isDay}
 use Rattle.rules.specs.Book.{Record, Article, articleOf}
 use Rattle.rules.specs.BookLayout.{records}
 use Rattle.rules.specs.Question.{Question, questionOf, dateAt, redated}
-use Rattle.rules.specs.Refusals.{Result, done, refused, over, lentAfter}
+use Rattle.rules.specs.Refusals.{Result, done, refused, numberOf, over, lentAfter}
 use Rattle.rules.specs.Price.{price, shown}
+use Rattle.rules.specs.declared.PriceAnswer.{PriceAnswer}
 use Rattle.rules.specs.Calendar.{Outcome, Stretch, stretches, outcome, periodTo, stretchBytes, stretchesBytes, calendarIn, calendar, shownBytes, lentAfterCalendar, calendarList, shownRecords, lentAfterList}
 use Rattle.rules.specs.Calendar.{listed as recorded}
 use Rattle.rules.specs.declared.Written.{Written}
@@ -23,8 +25,11 @@ use Rattle.rules.specs.declared.Stretch as Declared
 use Rattle.rules.proofs.ListLaws.{All}
 use Rattle.rules.proofs.DayLaws.{day-most}
 use Rattle.rules.proofs.RefusalLaws.{NeverZero, or-never, unless-never, done-never}
-use Rattle.rules.proofs.CalendarLaws.{Holds, InOrder, Right, right as period-right, period-end, period-days, never-10, stretch-count}
-use Rattle.rules.proofs.CallLaws.{calendar-answered}
+use Rattle.rules.proofs.CalendarLaws.{Holds, InOrder, RightBy, right-by, right as period-right, period-end, period-days, never-10, stretch-count}
+use Rattle.rules.proofs.CallLaws.{CalendarRefusal, calendar-answered}
+use Rattle.rules.proofs.PeriodLaws.{NoPeriod}
+use Rattle.rules.proofs.BookK.{bookK, calendarAsked, calendarEnd, stretchesK, calendar-K, list-K}
+use Rattle.price.specs.Call.{PriceIs}
 use Rattle.rules.proofs.GivesLaws.{question-sound}
 use Rattle.rules.proofs.Promises as Rules
 use Rattle.calendar.specs.Calls.{CalendarIs, CalendarListIs}
@@ -67,14 +72,16 @@ bytes-long (s ∷ ss) h =
         let e : length (s .outcome .currency ++ signedBytesOf 8 (s .outcome .unit)) ≡ 11 = length-append (s .outcome .currency) (signedBytesOf 8 (s .outcome .unit)) ∙ omega (arith, h .0 .letters) in
         omega (arith, e)
 
--- the same for any other way to the same outcomes
-holds-as : {f g : ℕ → Outcome} → ((d : ℕ) → isDay d ≡ true → g d ≡ f d) → (ss : List Stretch) → All (Holds f) ss → All (Holds g) ss
-holds-as e [] h = tt
-holds-as e (s ∷ ss) h =
-    (record { first-day = h .0 .first-day; last-day = h .0 .last-day; inside = λ d day l k. e d day ∙ h .0 .inside d day l k }, holds-as e ss (h .1))
+-- the price call, on the question with that day's date bytes and with any lines lent, has this outcome whenever it is not refused for its room
+abbrev pub PricedAs : List ℕ → List ℕ → Question → ℕ → Outcome → Type 0
+PricedAs b s q d o = (lines : List ℕ) (p : PriceAnswer) (left : List ℕ) → PriceIs b (redated (dateAt q) d s) lines p left → (p .number ≡ 7 → ⊥) → outcomeIn p ≡ o
 
-right-as : {f g : ℕ → Outcome} {from to : ℕ} {ss : List Stretch} → ((d : ℕ) → isDay d ≡ true → g d ≡ f d) → Right f from to ss → Right g from to ss
-right-as {ss = ss} e r = record { tiles = r .tiles; ordered = r .ordered; differ = r .differ; holds = holds-as e ss (r .holds) }
+priced-as : (b s : List ℕ) {book : List Record} {q : Question} {a : Article} → records b ≡ some book → questionOf s ≡ some q → articleOf book (q .article) ≡ some a
+    → (d : ℕ) (o : Outcome) → isDay d ≡ true → outcome book q d ≡ o → PricedAs b s q d o
+unfolding shown
+priced-as b s {q = q} e f g d o day h lines p left is n =
+    let number : p .number ≡ numberOf (price b (redated (dateAt q) d s) (length lines)) = ap (λ (y : PriceAnswer). y .number) (is .answer) in
+    ap outcomeIn (is .answer) ∙ call-outcome b s e f g (length lines) d day (λ z. n (number ∙ z)) ∙ h
 
 -- a calendar with the number 0 has an answer
 calendar-never : {B : Type 0} (form : List Stretch → List B) (b s : List ℕ) (end room : ℕ) → NeverZero (calendarIn form b s end room)
@@ -101,6 +108,13 @@ records-back : (ss : List Stretch) (rest : List Declared.Stretch) → listedStre
 records-back [] rest = refl
 records-back (s ∷ ss) rest = ap (λ l. s ∷ l) (records-back ss rest)
 
+not-ten : (n : ℕ) → CalendarRefusal n → n ≡ 10 → ⊥
+not-ten n (inl e) z = omega arith
+not-ten n (inr (inl e)) z = omega arith
+not-ten n (inr (inr (inl e))) z = omega arith
+not-ten n (inr (inr (inr (inl e)))) z = omega arith
+not-ten n (inr (inr (inr (inr e)))) z = omega arith
+
 -- ---- the promises
 
 module _ (b s : List ℕ) (end : ℕ) (lent : List ℕ) {r : Written} {after : List ℕ} (is : CalendarIs b s end lent r after) where
@@ -108,16 +122,30 @@ module _ (b s : List ℕ) (end : ℕ) (lent : List ℕ) {r : Written} {after : L
   pub one-answer : {r′ : Written} {after′ : List ℕ} → CalendarIs b s end lent r′ after′ → (r ≡ r′) × (after ≡ after′)
   one-answer other = (is .answer ∙ sym (other .answer), is .output ∙ sym (other .output))
 
-  -- A refused call says length 0 and writes nothing.
-  pub refused-writes-nothing : (r .number ≡ 0 → ⊥) → (r .length ≡ 0) × (after ≡ lent)
+  said : r .number ≡ numberOf (calendar b s end (length lent))
+  unfolding shownBytes
+  said = ap (λ (w : Written). w .number) (is .answer)
+
+  -- A number other than 0 is 1, 2, 9, 3 or 7; the length beside it is 0, and nothing is written.
+  pub refused-writes-nothing : (r .number ≡ 0 → ⊥) → CalendarRefusal (r .number) × (r .length ≡ 0) × (after ≡ lent)
   unfolding shownBytes lentAfter
-  refused-writes-nothing n = go (calendar b s end (length lent)) refl
+  refused-writes-nothing n =
+      let rest = go (calendar b s end (length lent)) refl in
+      (subst CalendarRefusal (sym said) (Rules.calendar-numbers stretchesBytes b s end (length lent) (λ z. n (said ∙ z))), rest .0, rest .1)
     where
       go : (x : Result (List Stretch)) → calendar b s end (length lent) ≡ x → (r .length ≡ 0) × (after ≡ lent)
       go (done ss) e = absurd (n (ap (λ (w : Written). w .number) (is .answer ∙ ap shownBytes e)))
       go (refused k) e = (ap (λ (w : Written). w .length) (is .answer ∙ ap shownBytes e), is .output ∙ ap (λ x. lentAfterCalendar x lent) e)
 
+  -- 10 is never said.
+  pub never-ten : r .number ≡ 10 → ⊥
+  never-ten e = not-ten (r .number) (refused-writes-nothing (λ z. omega arith) .0) e
+
   module _ {book : List Record} {q : Question} (f : records b ≡ some book) (g : questionOf s ≡ some q) where
+    -- 9 is said exactly when the end is no day, or is before the question's date, or from that date to the end, both counted, there are more than 1,096 days.
+    pub nine-exactly : (r .number ≡ 9 → NoPeriod (q .date) end) × (NoPeriod (q .date) end → r .number ≡ 9)
+    nine-exactly = let x = Rules.calendar-nine stretchesBytes b s end (length lent) book q f g in (λ e. x .0 (sym said ∙ e), λ h. said ∙ x .1 h)
+
     -- With an article that the book has and a period, room for a stretch a day is enough for an answer.
     pub answered : {a : Article} {days : List ℕ} → articleOf book (q .article) ≡ some a → periodTo (q .date) end ≡ some days → 20 * length days ≤ length lent → r .number ≡ 0
     unfolding calendarIn shownBytes
@@ -129,15 +157,13 @@ module _ (b s : List ℕ) (end : ℕ) (lent : List ℕ) {r : Written} {after : L
         ap (λ (w : Written). w .number) (is .answer) ∙ rw (f, g, p, h, never-10 (outcome book q) (q .date) end days p, fits)
 
     -- The stretches read back from the bytes start on the question's day, each next one on the day after the one before, and the last ends on the end date; they stand in date
-    -- order; neighbours differ; and on every day from a stretch's first to its last the price call, asked with the question whose date bytes are that day's, answers with the
-    -- stretch's number, currency and unit total.
-    pub each-day-by-the-price-call : r .number ≡ 0 → (room : ℕ) → 1386 ≤ room
-        → Right (λ d. outcomeIn (shown (price b (redated (dateAt q) d s) room))) (q .date) end (readStretches (r .length / 20) after)
+    -- order; neighbours differ; and on every day from a stretch's first to its last the price call, asked with the question whose date bytes are that day's and with any output
+    -- lent, answers with the stretch's number, currency and unit total, unless it says 7 (`room-enough` of the price call tells how much room rules that out).
+    pub each-day-by-the-price-call : r .number ≡ 0 → RightBy (PricedAs b s q) (q .date) end (readStretches (r .length / 20) after)
     unfolding shownBytes lentAfter
-    each-day-by-the-price-call z room h = go (calendar b s end (length lent)) refl
+    each-day-by-the-price-call z = go (calendar b s end (length lent)) refl
       where
-        go : (x : Result (List Stretch)) → calendar b s end (length lent) ≡ x
-            → Right (λ d. outcomeIn (shown (price b (redated (dateAt q) d s) room))) (q .date) end (readStretches (r .length / 20) after)
+        go : (x : Result (List Stretch)) → calendar b s end (length lent) ≡ x → RightBy (PricedAs b s q) (q .date) end (readStretches (r .length / 20) after)
         go (refused k) e = absurd (calendar-never stretchesBytes b s end (length lent) (e ∙ ap refused (sym (ap (λ (w : Written). w .number) (is .answer ∙ ap shownBytes e)) ∙ z)))
         go (done ss) e =
             let right = Rules.calendar-right stretchesBytes b s end (length lent) ss book q f g e in
@@ -146,8 +172,7 @@ module _ (b s : List ℕ) (end : ℕ) (lent : List ℕ) {r : Written} {after : L
             let count : r .length / 20 ≡ length ss = omega arith in
             let output : after ≡ over (stretchesBytes ss) lent = is .output ∙ ap (λ x. lentAfterCalendar x lent) e in
             let read : readStretches (r .length / 20) after ≡ ss = (λ i. readStretches (count i) (output i)) ∙ stretches-back ss (drop (length (stretchesBytes ss)) lent) fine in
-            subst (λ (l : List Stretch). Right (λ d. outcomeIn (shown (price b (redated (dateAt q) d s) room))) (q .date) end l) (sym read)
-            (right-as (call-outcome b s f g (answered-article stretchesBytes b s end (length lent) ss f g e .1) room h) right)
+            subst (RightBy (PricedAs b s q) (q .date) end) (sym read) (right-by (priced-as b s f g (answered-article stretchesBytes b s end (length lent) ss f g e .1)) right)
 
 -- ---- the list of records
 
@@ -156,30 +181,70 @@ module _ (b s : List ℕ) (end : ℕ) (lent : List Declared.Stretch) {r : Writte
   pub one-list : {r′ : Written} {after′ : List Declared.Stretch} → CalendarListIs b s end lent r′ after′ → (r ≡ r′) × (after ≡ after′)
   one-list other = (is .answer ∙ sym (other .answer), is .output ∙ sym (other .output))
 
-  -- A refused call says length 0 and hands over nothing.
-  pub refused-lists-nothing : (r .number ≡ 0 → ⊥) → (r .length ≡ 0) × (after ≡ lent)
+  listed-said : r .number ≡ numberOf (calendarList b s end (length lent))
+  unfolding shownRecords
+  listed-said = ap (λ (w : Written). w .number) (is .answer)
+
+  -- A number other than 0 is 1, 2, 9, 3 or 7; the length beside it is 0, and nothing is handed over.
+  pub refused-lists-nothing : (r .number ≡ 0 → ⊥) → CalendarRefusal (r .number) × (r .length ≡ 0) × (after ≡ lent)
   unfolding shownRecords lentAfterList lentAfter
-  refused-lists-nothing n = go (calendarList b s end (length lent)) refl
+  refused-lists-nothing n =
+      let rest = go (calendarList b s end (length lent)) refl in
+      (subst CalendarRefusal (sym listed-said) (Rules.calendar-numbers (map recorded) b s end (length lent) (λ z. n (listed-said ∙ z))), rest .0, rest .1)
     where
       go : (x : Result (List Stretch)) → calendarList b s end (length lent) ≡ x → (r .length ≡ 0) × (after ≡ lent)
       go (done ss) e = absurd (n (ap (λ (w : Written). w .number) (is .answer ∙ ap shownRecords e)))
       go (refused k) e = (ap (λ (w : Written). w .length) (is .answer ∙ ap shownRecords e), is .output ∙ ap (λ x. lentAfterList x lent) e)
 
+  -- 10 is never said.
+  pub never-ten-listed : r .number ≡ 10 → ⊥
+  never-ten-listed e = not-ten (r .number) (refused-lists-nothing (λ z. omega arith) .0) e
+
   module _ {book : List Record} {q : Question} (f : records b ≡ some book) (g : questionOf s ≡ some q) where
+    -- 9 is said exactly when it is said for the bytes.
+    pub nine-exactly-listed : (r .number ≡ 9 → NoPeriod (q .date) end) × (NoPeriod (q .date) end → r .number ≡ 9)
+    nine-exactly-listed = let x = Rules.calendar-nine (map recorded) b s end (length lent) book q f g in (λ e. x .0 (sym listed-said ∙ e), λ h. listed-said ∙ x .1 h)
+
+    -- With an article that the book has and a period, room for a record a day is enough for an answer.
+    pub answered-list : {a : Article} {days : List ℕ} → articleOf book (q .article) ≡ some a → periodTo (q .date) end ≡ some days → length days ≤ length lent → r .number ≡ 0
+    unfolding calendarIn
+    answered-list {days = days} h p room =
+        let ss : List Stretch = stretches (outcome book q) days in
+        let fits : leb (length (map recorded ss)) (length lent) ≡ true = le-leb (length (map recorded ss)) (length lent) (omega (arith, length-map ss recorded, stretch-count (outcome book q) days)) in
+        listed-said ∙ rw (f, g, p, h, never-10 (outcome book q) (q .date) end days p, fits)
+
     -- The stretches of the records handed over tile the period, stand in date order and differ from their neighbours, and on every day of a stretch the price call has its
     -- outcome: as for the bytes.
-    pub each-listed-day-by-the-price-call : r .number ≡ 0 → (room : ℕ) → 1386 ≤ room
-        → Right (λ d. outcomeIn (shown (price b (redated (dateAt q) d s) room))) (q .date) end (listedStretches (r .length) after)
+    pub each-listed-day-by-the-price-call : r .number ≡ 0 → RightBy (PricedAs b s q) (q .date) end (listedStretches (r .length) after)
     unfolding shownRecords lentAfterList lentAfter
-    each-listed-day-by-the-price-call z room h = go (calendarList b s end (length lent)) refl
+    each-listed-day-by-the-price-call z = go (calendarList b s end (length lent)) refl
       where
-        go : (x : Result (List Stretch)) → calendarList b s end (length lent) ≡ x
-            → Right (λ d. outcomeIn (shown (price b (redated (dateAt q) d s) room))) (q .date) end (listedStretches (r .length) after)
+        go : (x : Result (List Stretch)) → calendarList b s end (length lent) ≡ x → RightBy (PricedAs b s q) (q .date) end (listedStretches (r .length) after)
         go (refused k) e = absurd (calendar-never (map recorded) b s end (length lent) (e ∙ ap refused (sym (ap (λ (w : Written). w .number) (is .answer ∙ ap shownRecords e)) ∙ z)))
         go (done ss) e =
             let right = Rules.calendar-right (map recorded) b s end (length lent) ss book q f g e in
             let size : r .length ≡ length ss = ap (λ (w : Written). w .length) (is .answer ∙ ap shownRecords e) in
             let output : after ≡ over (map recorded ss) lent = is .output ∙ ap (λ x. lentAfterList x lent) e in
             let read : listedStretches (r .length) after ≡ ss = (λ i. listedStretches (size i) (output i)) ∙ records-back ss (drop (length (map recorded ss)) lent) in
-            subst (λ (l : List Stretch). Right (λ d. outcomeIn (shown (price b (redated (dateAt q) d s) room))) (q .date) end l) (sym read)
-            (right-as (call-outcome b s f g (answered-article (map recorded) b s end (length lent) ss f g e .1) room h) right)
+            subst (RightBy (PricedAs b s q) (q .date) end) (sym read) (right-by (priced-as b s f g (answered-article (map recorded) b s end (length lent) ss f g e .1)) right)
+
+-- ---- book K: what must not get through
+
+-- Whatever the contract allows on K from 29 June 2024 to 2 January 2025, with `oak` granted, is three stretches: 10875 through 30 June, 11420 from 1 July through
+-- 31 December, and then no price, refusal 4. So neither a call that prices the first day and repeats it gets through, nor one that makes every day a stretch.
+pub K-in-three-stretches : (lent : List ℕ) → 60 ≤ length lent → {r : Written} {after : List ℕ} → CalendarIs bookK calendarAsked calendarEnd lent r after
+    → (r ≡ record { length = 60; number = 0 }) × (readStretches 3 after ≡ stretchesK) × (drop 60 after ≡ drop 60 lent)
+unfolding shownBytes lentAfter stretchesBytes
+K-in-three-stretches lent room {r} {after} is =
+    let e : calendar bookK calendarAsked calendarEnd (length lent) ≡ done stretchesK = calendar-K (length lent) room in
+    let output : after ≡ over (stretchesBytes stretchesK) lent = is .output ∙ ap (λ x. lentAfterCalendar x lent) e in
+    (is .answer ∙ ap shownBytes e, ap (readStretches 3) output, ap (drop 60) output)
+
+-- The same three as records.
+pub K-in-three-records : (lent : List Declared.Stretch) → 3 ≤ length lent → {r : Written} {after : List Declared.Stretch} → CalendarListIs bookK calendarAsked calendarEnd lent r after
+    → (r ≡ record { length = 3; number = 0 }) × (listedStretches 3 after ≡ stretchesK) × (drop 3 after ≡ drop 3 lent)
+unfolding shownRecords lentAfterList lentAfter
+K-in-three-records lent room {r} {after} is =
+    let e : calendarList bookK calendarAsked calendarEnd (length lent) ≡ done stretchesK = list-K (length lent) room in
+    let output : after ≡ over (map recorded stretchesK) lent = is .output ∙ ap (λ x. lentAfterList x lent) e in
+    (is .answer ∙ ap shownRecords e, ap (listedStretches 3) output, ap (drop 3) output)
