@@ -2,3 +2,4 @@ pub mod DigitLaws
 pub mod LineLaws
 pub mod InputLaws
 pub mod OutputLaws
+pub mod Promises
