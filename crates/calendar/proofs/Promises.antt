@@ -142,7 +142,8 @@ module _ (b s : List ℕ) (end : ℕ) (lent : List ℕ) {r : Written} {after : L
   never-ten e = not-ten (r .number) (refused-writes-nothing (λ z. omega arith) .0) e
 
   module _ {book : List Record} {q : Question} (f : records b ≡ some book) (g : questionOf s ≡ some q) where
-    -- 9 is said exactly when the end is no day, or is before the question's date, or from that date to the end, both counted, there are more than 1,096 days.
+    -- 9 is said exactly when the end is no day, or is before the question's date, or from that date to the end, both counted, there are more
+    -- than 1,096 days.
     pub nine-exactly : (r .number ≡ 9 → NoPeriod (q .date) end) × (NoPeriod (q .date) end → r .number ≡ 9)
     nine-exactly = let x = Rules.calendar-nine stretchesBytes b s end (length lent) book q f g in (λ e. x .0 (sym said ∙ e), λ h. said ∙ x .1 h)
 
@@ -156,9 +157,10 @@ module _ (b s : List ℕ) (end : ℕ) (lent : List ℕ) {r : Written} {after : L
         let fits : leb (length (stretchesBytes ss)) (length lent) ≡ true = le-leb (length (stretchesBytes ss)) (length lent) (omega (arith, bytes-long ss fine, stretch-count (outcome book q) days)) in
         ap (λ (w : Written). w .number) (is .answer) ∙ rw (f, g, p, h, never-10 (outcome book q) (q .date) end days p, fits)
 
-    -- The stretches read back from the bytes start on the question's day, each next one on the day after the one before, and the last ends on the end date; they stand in date
-    -- order; neighbours differ; and on every day from a stretch's first to its last the price call, asked with the question whose date bytes are that day's and with any output
-    -- lent, answers with the stretch's number, currency and unit total, unless it says 7 (`room-enough` of the price call tells how much room rules that out).
+    -- The stretches read back from the bytes start on the question's day, each next one on the day after the one before, and the last ends on
+    -- the end date; they stand in date order; neighbours differ; and on every day from a stretch's first to its last the price call, asked with
+    -- the question whose date bytes are that day's and with any output lent, answers with the stretch's number, currency and unit total, unless
+    -- it says 7 (which `room-enough` of the price call rules out for 1,386 bytes).
     pub each-day-by-the-price-call : r .number ≡ 0 → RightBy (PricedAs b s q) (q .date) end (readStretches (r .length / 20) after)
     unfolding shownBytes lentAfter
     each-day-by-the-price-call z = go (calendar b s end (length lent)) refl
@@ -213,8 +215,8 @@ module _ (b s : List ℕ) (end : ℕ) (lent : List Declared.Stretch) {r : Writte
         let fits : leb (length (map recorded ss)) (length lent) ≡ true = le-leb (length (map recorded ss)) (length lent) (omega (arith, length-map ss recorded, stretch-count (outcome book q) days)) in
         listed-said ∙ rw (f, g, p, h, never-10 (outcome book q) (q .date) end days p, fits)
 
-    -- The stretches of the records handed over tile the period, stand in date order and differ from their neighbours, and on every day of a stretch the price call has its
-    -- outcome: as for the bytes.
+    -- The stretches of the records handed over tile the period, stand in date order and differ from their neighbours, and on every day of a
+    -- stretch the price call has its outcome: as for the bytes.
     pub each-listed-day-by-the-price-call : r .number ≡ 0 → RightBy (PricedAs b s q) (q .date) end (listedStretches (r .length) after)
     unfolding shownRecords lentAfterList lentAfter
     each-listed-day-by-the-price-call z = go (calendarList b s end (length lent)) refl
@@ -230,8 +232,9 @@ module _ (b s : List ℕ) (end : ℕ) (lent : List Declared.Stretch) {r : Writte
 
 -- ---- book K: what must not get through
 
--- Whatever the contract allows on K from 29 June 2024 to 2 January 2025, with `oak` granted, is three stretches: 10875 through 30 June, 11420 from 1 July through
--- 31 December, and then no price, refusal 4. So neither a call that prices the first day and repeats it gets through, nor one that makes every day a stretch.
+-- Whatever the contract allows on K from 29 June 2024 to 2 January 2025, with `oak` granted, is three stretches: 10875 through 30 June, 11420 from
+-- 1 July through 31 December, and then no price, refusal 4. So neither a call that prices the first day and repeats it gets through, nor one that
+-- makes every day a stretch.
 pub K-in-three-stretches : (lent : List ℕ) → 60 ≤ length lent → {r : Written} {after : List ℕ} → CalendarIs bookK calendarAsked calendarEnd lent r after
     → (r ≡ record { length = 60; number = 0 }) × (readStretches 3 after ≡ stretchesK) × (drop 60 after ≡ drop 60 lent)
 unfolding shownBytes lentAfter stretchesBytes

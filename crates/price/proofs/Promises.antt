@@ -190,8 +190,8 @@ module _ (lent : List ℕ) (room : 42 ≤ length lent) {r : PriceAnswer} {after 
   unfolding lentAfter
   carried s a e is = (is .answer ∙ ap shown e, is .output ∙ ap (λ (x : Result Answer). lentAfterPrice x lent) e)
 
-  -- Whatever the contract allows on P1 is 10875, in lines of 10000, 1250 and -375, and what lies behind them is as it was: so neither a call that always
-  -- refuses gets through, nor one that writes no lines, nor one that prices the base level and lists zeros for the rest;
+  -- Whatever the contract allows on P1 is 10875, in lines of 10000, 1250 and -375, and what lies behind them is as it was: so neither a call
+  -- that always refuses gets through, nor one that writes no lines, nor one that prices the base level and lists zeros for the rest;
   pub P1-is-10875 : PriceIs bookK P1 lent r after
       → (r ≡ answerK (pos 10875) (pos 10875) 0 0) × (linesIn 3 after ≡ linesK 1 (pos 10000) (pos 1250) (negℤ (pos 375))) × (drop 42 after ≡ drop 42 lent)
   unfolding shown linesBytes
@@ -203,8 +203,8 @@ module _ (lent : List ℕ) (room : 42 ≤ length lent) {r : PriceAnswer} {after 
   unfolding shown linesBytes
   P2-is-11420 is = let x = carried P2 _ (price-2 (length lent) room) is in (x .0, ap (linesIn 3) (x .1), ap (drop 42) (x .1))
 
-  -- Two pieces as in P1, with `oak`, `OAK` and `elm` granted: the same three lines, and of the names only the third, `elm`, brought none (the second repeats the
-  -- first). So an invented line count or unused count does not get through.
+  -- Two pieces as in P1, with `oak`, `OAK` and `elm` granted: the same three lines, and of the names only the third, `elm`, brought none (the
+  -- second repeats the first). So an invented line count or unused count does not get through.
   pub only-elm-unused : PriceIs bookK elmAsked lent r after
       → (r ≡ answerK (pos 10875) (pos 21750) 4 1) × (linesIn 3 after ≡ linesK 1 (pos 10000) (pos 1250) (negℤ (pos 375))) × (drop 42 after ≡ drop 42 lent)
   unfolding shown linesBytes

@@ -155,7 +155,7 @@ price-not-seven b s room h =
     go book q few (refused n) e k = k
     go book q few (done p) e k =
         let ls : p .lines ≡ linesOf book q = priced-range book q e .2 in
-        let fits : leb (length (linesBytes (p .lines))) room ≡ true = le-leb (length (linesBytes (p .lines))) room (omega (arith, ap (λ l. length (linesBytes l)) ls, enough-room book q few)) in
+        let fits : leb (length (written (answerOf q p))) room ≡ true = le-leb (length (written (answerOf q p))) room (omega (arith, ap (λ l. length (linesBytes l)) ls, enough-room book q few)) in
         rw fits tt
 
 -- with an accepted book and question and an article that the book has, 4 is the price's own
