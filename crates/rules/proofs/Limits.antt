@@ -59,6 +59,7 @@ rowsOut =
     ∷ articleBytes (31 ∷ []) []
     ∷ articleBytes (127 ∷ []) []
     ∷ articleBytes (159 ∷ []) []
+    ∷ articleBytes (256 ∷ []) []
     ∷ recordBytes 1 (1 ∷ 65 ∷ 0 ∷ 0 ∷ [])
     ∷ rowOf [] [] (fixed (pos 1))
     ∷ rowOf (letters 41) [] (fixed (pos 1))
@@ -161,7 +162,7 @@ schemesIn =
     ∷ trimmed (text "X") 160 126
     ∷ []
 
--- in a scheme of two letters with no separators byte 8 is the visibility, then come the two characters, and trim
+-- in a scheme of two letters whose value separator is one byte, byte 9 is the visibility; then come the two characters, and trim
 abbrev schemesOut : List (List ℕ)
 schemesOut =
     scheme [] [] []
@@ -173,7 +174,7 @@ schemesOut =
     ∷ trimmed (text "X") 0 0
     ∷ trimmed (text "+") (letter "+") 0
     ∷ trimmed (text "+") 0 (letter "+")
-    ∷ spoilt (scheme A1 [] []) ((8, 2) ∷ (9, 31) ∷ (10, 127) ∷ (11, 2) ∷ [])
+    ∷ spoilt (scheme A1 [] (text "+")) ((9, 2) ∷ (10, 31) ∷ (11, 127) ∷ (12, 2) ∷ [])
 
 -- ---- questions
 

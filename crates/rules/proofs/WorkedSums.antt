@@ -3,7 +3,7 @@
 use Prim.Native.Nat.{ℕ, _-_}
 use mathlib.Core.Path.{_≡_, refl}
 use mathlib.Core.List.{List, [], _∷_, _++_, map}
-use lib.IntN.{pos}
+use lib.IntN.{ℤ, pos}
 use lib.ListN.{length, take, set, replicate}
 use Rattle.rules.specs.Letters.{text}
 use Rattle.rules.specs.Bytes.{bytesOf}
@@ -156,6 +156,11 @@ abbrev rowOf : List ℕ → ℕ → ℕ → Row
 rowOf article sort cents =
     record { article = article; condition = []; sort = sort; level = base; rule = 1; text = 16_909_060; value = fixed (pos cents); currency = EUR; from = 20240101; to = 20241231; upTo = 0; rounding = 0 }
 
+-- ten times a base, and a discount
+abbrev greatest : ℤ → ℤ → List ℕ
+greatest cents more =
+    bookOf (in2024 base 1 (fixed cents) EUR 0 0 ∷ in2024 surcharge 1 (percent (pos 90_000)) EUR 0 0 ∷ in2024 discount 1 (fixed more) EUR 0 0 ∷ []) []
+
 abbrev choices : List Case
 choices =
     -- rows of another sort or another article are of no component that is asked for
@@ -167,6 +172,10 @@ choices =
     -- each row has the rounding of its own number, and number 0 has none
     ∷ case AskPrice (bookOf (in2024 base 1 (fixed (pos 95)) EUR 0 0 ∷ in2024 surcharge 1 (fixed (pos 95)) EUR 0 8 ∷ []) (roundingBytes 7 1 10 (pos 0) (pos 0) ∷ roundingBytes 8 0 10 (pos 0) (pos 0) ∷ [])) (ask 20240630 1 [])
     (Listed (pos 95 ∷ pos 90 ∷ []) (pos 185))
+    -- a cent more than the range has; as far below zero, and a cent more
+    ∷ case AskPrice (greatest (pos 100_000_000) (pos 1)) (ask 20240630 1 []) (Refusal 6)
+    ∷ case AskPrice (greatest (minus 100_000_000) (pos 0)) (ask 20240630 1 []) (Listed (minus 100_000_000 ∷ minus 900_000_000 ∷ pos 0 ∷ []) (minus 1_000_000_000))
+    ∷ case AskPrice (greatest (minus 100_000_000) (minus 1)) (ask 20240630 1 []) (Refusal 6)
     -- a total that left its range and came back
     ∷ case AskPrice (bookOf (in2024 base 1 (fixed (pos 100_000_000)) EUR 0 0 ∷ in2024 surcharge 1 (percent (pos 90_001)) EUR 0 0 ∷ in2024 discount 1 (fixed (minus 20000)) EUR 0 0 ∷ []) []) (ask 20240630 1 []) (Refusal 6)
     -- no limit is above the greatest limit
