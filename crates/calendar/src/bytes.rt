@@ -25,9 +25,9 @@ fn put_currency(out: &mut [u8], at: usize, refusal: u8, currency: Currency)
 
 fn put_unit(out: &mut [u8], at: usize, run: Run)
     requires { ⌜ at + 8 ≤ length (now out) ⌝ }
-    ensures { λ _. ⌜ Puts (now (out .entry)) at (signedBytesOf 8 (run .unit)) (now (out .exit)) ⌝ }
+    ensures { λ _. ⌜ Puts (now (out .entry)) at (signedBytesOf 8 (run .unit .0)) (now (out .exit)) ⌝ }
 {
-    put_signed_eight(out, at, run.unit);
+    put_signed_eight(out, at, run.unit.0);
 }
 
 // First day, last day, refusal and currency, unit total.

@@ -33,7 +33,7 @@ pub fn record_at(listing: Listing, i: usize) -> Stretch
     Stretch {
         first: run.first,
         last: run.last,
-        unit: run.unit,
+        unit: run.unit.0,
         refusal: run.refusal,
         currency: [letters.0, letters.1, letters.2],
     }

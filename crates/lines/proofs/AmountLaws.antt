@@ -2,7 +2,7 @@
 use Prim.Native.Nat.{ℕ, zero, suc, _+_, _≤_, _<_}
 use mathlib.Core.Path.{_≡_, refl, sym, ap, _∙_, subst}
 use mathlib.Core.Bool.{Bool, true, false, _||_, not, cond, true≢false}
-use mathlib.Core.List.{List, [], _∷_, _++_, append-assoc, append-nil}
+use mathlib.Core.List.{List, [], _∷_, _++_, map, map-append, append-assoc, append-nil}
 use native.Mathlib.Omega.{arith}
 use native.Mathlib.Numerals.{add-one}
 use lib.Dec.{eqb}
@@ -19,7 +19,7 @@ use Rattle.rules.proofs.ListLaws.{All}
 use Rattle.amounts.specs.Contracts.{BookValue, ExactAmount, Roundable, RoundedCents, Addable, totalAfter}
 use Rattle.amounts.proofs.TotalLaws.{totalFrom, from-zero, from-end, from-in, from-out, after-sum, after-in-range}
 use Rattle.lines.specs.declared.Pick.{Pick}
-use Rattle.lines.specs.Views.{View, viewIn, viewsIn, noPick, isBase, baseFirst, amountOn, amountsFrom, amountsOf}
+use Rattle.lines.specs.Views.{View, viewIn, viewsIn, noPick, isBase, baseFirst, amountOn, amountsFrom, amountsOf, amountsIn, noCents}
 use Rattle.lines.specs.Contracts.{OneOfTwo, Sound, LineOn, mostAmount, LineAmount, Listable, ListedIs}
 use Rattle.lines.proofs.WalkLaws.{next-view, views-end}
 
@@ -95,33 +95,52 @@ first-on false false f n e = n refl
 
 -- ---- amounts in bounds
 
-pub zeros-in : (n k : ℕ) → natAbs (getD (replicate n (pos 0)) k (pos 0)) ≤ mostAmount
-zeros-in zero k = omega arith
-zeros-in (suc n) zero = omega arith
-zeros-in (suc n) (suc k) = zeros-in n k
+zeros-behind : (n k : ℕ) → getD (replicate n noCents) k noCents ≡ noCents
+zeros-behind zero k = refl
+zeros-behind (suc n) zero = refl
+zeros-behind (suc n) (suc k) = zeros-behind n k
 
-stored-in : (l : List ℤ) (i : ℕ) (z : ℤ) → ((k : ℕ) → natAbs (getD l k (pos 0)) ≤ mostAmount) → natAbs z ≤ mostAmount → (k : ℕ) → natAbs (getD (set l i z) k (pos 0)) ≤ mostAmount
-stored-in [] i z h b k = h k
-stored-in (x ∷ l) zero z h b zero = b
-stored-in (x ∷ l) zero z h b (suc k) = h (suc k)
-stored-in (x ∷ l) (suc i) z h b zero = h zero
-stored-in (x ∷ l) (suc i) z h b (suc k) = stored-in l i z (λ j. h (suc j)) b k
+pub zeros-in : (n k : ℕ) → natAbs (getD (replicate n noCents) k noCents .0) ≤ mostAmount
+zeros-in n k = rw (zeros-behind n k) (omega arith)
+
+stored-in : (l : List Cents) (i : ℕ) (c : Cents) → ((k : ℕ) → natAbs (getD l k noCents .0) ≤ mostAmount) → natAbs (c .0) ≤ mostAmount
+    → (k : ℕ) → natAbs (getD (set l i c) k noCents .0) ≤ mostAmount
+stored-in [] i c h b k = h k
+stored-in (x ∷ l) zero c h b zero = b
+stored-in (x ∷ l) zero c h b (suc k) = h (suc k)
+stored-in (x ∷ l) (suc i) c h b zero = h zero
+stored-in (x ∷ l) (suc i) c h b (suc k) = stored-in l i c (λ j. h (suc j)) b k
+
+stored-behind : (l : List Cents) (i : ℕ) (c : Cents) → ((k : ℕ) → i ≤ k → getD l k noCents ≡ noCents) → (k : ℕ) → i + 1 ≤ k → getD (set l i c) k noCents ≡ noCents
+stored-behind [] i c h k e = refl
+stored-behind (x ∷ l) zero c h zero e = absurd (omega arith)
+stored-behind (x ∷ l) zero c h (suc k) e = h (suc k) (omega arith)
+stored-behind (x ∷ l) (suc i) c h zero e = absurd (omega arith)
+stored-behind (x ∷ l) (suc i) c h (suc k) e = stored-behind l i c (λ j f. h (suc j) (omega arith)) k (omega arith)
+
+-- the amounts with one more stored behind them
+stored-last : (l : List Cents) (i : ℕ) (c : Cents) → i < length l → amountsIn (set l i c) (i + 1) ≡ amountsIn l i ++ (c .0 ∷ [])
+stored-last l i c h =
+    ap (λ (k : ℕ). amountsIn (set l i c) k) (add-one i)
+    ∙ ap (map (λ (x : Cents). x .0)) (take-suc-set l i c h)
+    ∙ map-append (λ (x : Cents). x .0) (take i l) (c ∷ [])
 
 -- ---- the loop
 
 -- before line i
-pub record Listing (picks : List Pick) (n : ℕ) (listed : List ℤ) (base total : ℤ) (i : ℕ) : Type 0 where
+pub record Listing (picks : List Pick) (n : ℕ) (listed : List Cents) (base total : ℤ) (i : ℕ) : Type 0 where
   pub place : i ≤ n
   pub few : n ≤ 99
   pub long : n ≤ length picks
   pub room : length listed ≡ 99
-  pub each-in : (k : ℕ) → natAbs (getD listed k (pos 0)) ≤ mostAmount
+  pub each-in : (k : ℕ) → natAbs (getD listed k noCents .0) ≤ mostAmount
+  pub behind : (k : ℕ) → i ≤ k → getD listed k noCents ≡ noCents
   pub base-in : natAbs base ≤ 1_000_000_000
   pub total-in : natAbs total ≤ 1_000_000_000
   pub sound : All Sound (drop i (viewsIn picks n))
   pub base-first : baseFirst (drop i (viewsIn picks n)) ≡ true
   pub level : any isBase (drop i (viewsIn picks n)) ≡ true → base ≡ total
-  pub left : take i listed ++ amountsFrom base total (drop i (viewsIn picks n)) ≡ amountsOf (viewsIn picks n)
+  pub left : amountsIn listed i ++ amountsFrom base total (drop i (viewsIn picks n)) ≡ amountsOf (viewsIn picks n)
   pub to-add : totalFrom total (amountsFrom base total (drop i (viewsIn picks n))) ≡ totalOf (amountsOf (viewsIn picks n))
 
 pub can-add : {v : View} {base total : ℤ} {r : Cents} → natAbs total ≤ 1_000_000_000 → LineAmount v base total r → Addable total (r .0)
@@ -137,7 +156,7 @@ unfolding amountsFrom
 no-amounts base total = refl
 
 module _ (picks : List Pick) (n : ℕ) where
-  pub list-start : n ≤ length picks → Listable picks n → Listing picks n (replicate 99 (pos 0)) (pos 0) (pos 0) 0
+  pub list-start : n ≤ length picks → Listable picks n → Listing picks n (replicate 99 noCents) (pos 0) (pos 0) 0
   list-start k ok =
       record {
         place = omega arith;
@@ -145,6 +164,7 @@ module _ (picks : List Pick) (n : ℕ) where
         long = k;
         room = refl;
         each-in = zeros-in 99;
+        behind = λ k h. zeros-behind 99 k;
         base-in = omega arith;
         total-in = omega arith;
         sound = ok .sound;
@@ -154,7 +174,7 @@ module _ (picks : List Pick) (n : ℕ) where
         to-add = from-zero (amountsOf (viewsIn picks n));
       }
 
-  module _ (listed : List ℤ) (base total : ℤ) (i : ℕ) (inv : Listing picks n listed base total i) where
+  module _ (listed : List Cents) (base total : ℤ) (i : ℕ) (inv : Listing picks n listed base total i) where
     module _ (h : i < n) where
       abbrev here : View
       here = viewIn (getD picks i noPick)
@@ -175,11 +195,17 @@ module _ (picks : List Pick) (n : ℕ) where
             ∙ view-amounts base total here behind
             ∙ ap (λ z. z ∷ amountsFrom (cond (isBase here) (base +ℤ z) base) (total +ℤ z) behind) (sym (a .is))
 
-        pub list-out : totalAfter total (r .0) ≡ OutOfRange → ListedIs picks n (record { amounts = listed; total = OutOfRange })
+        pub list-out : totalAfter total (r .0) ≡ OutOfRange → ListedIs picks n (record { amounts = replicate 99 noCents; total = OutOfRange })
         list-out e =
             let out : OutOfRange ≡ totalOf (amountsOf (viewsIn picks n)) =
             sym (from-out total (r .0) (amountsFrom (cond (isBase here) (base +ℤ r .0) base) (total +ℤ r .0) behind) e) ∙ ap (totalFrom total) (sym amounts-are) ∙ inv .to-add in
-            record { each-in = inv .each-in; total = out; amounts = λ c f. let z : _≡_ {A = ℕ} 0 1 = cc f in absurd (omega arith) }
+            record {
+              each-in = zeros-in 99;
+              total = out;
+              amounts = λ c f. let z : _≡_ {A = ℕ} 0 1 = cc f in absurd (omega arith);
+              behind = λ k f. zeros-behind 99 k;
+              none = λ f. refl;
+            }
 
         module _ (after : Cents) (e : totalAfter total (r .0) ≡ InRange after) (base′ : ℤ) (o : OneOfTwo (isBase here) (after .0) base base′) where
           firsts : cond (isBase here) (baseFirst behind) (not (any isBase behind)) ≡ true
@@ -193,14 +219,15 @@ module _ (picks : List Pick) (n : ℕ) where
           step : amountsFrom base total (drop i (viewsIn picks n)) ≡ r .0 ∷ amountsFrom base′ (after .0) behind
           step = amounts-are ∙ (λ j. r .0 ∷ amountsFrom (sym base-is j) (after-sum total (r .0) after e j) behind)
 
-          pub list-again : Listing picks n (set listed i (r .0)) base′ (after .0) (i + 1)
+          pub list-again : Listing picks n (set listed i r) base′ (after .0) (i + 1)
           list-again =
               record {
                 place = omega arith;
                 few = inv .few;
                 long = inv .long;
-                room = length-set listed i (r .0) ∙ inv .room;
-                each-in = stored-in listed i (r .0) (inv .each-in) (a .near);
+                room = length-set listed i r ∙ inv .room;
+                each-in = stored-in listed i r (inv .each-in) (a .near);
+                behind = stored-behind listed i r (inv .behind);
                 base-in = one-in (isBase here) (after .0) base base′ 1_000_000_000 o (after-in-range total (r .0) after e) (inv .base-in);
                 total-in = after-in-range total (r .0) after e;
                 sound = subst (All Sound) next (inv .sound) .1;
@@ -208,10 +235,9 @@ module _ (picks : List Pick) (n : ℕ) where
                 level = level-on (isBase here) (any isBase behind) base total (r .0) (after .0) base′ (after-sum total (r .0) after e) o (baseFirst behind) firsts;
                 left =
                     (let l : i < length listed = omega (arith, inv .room, inv .few) in
-                    ap (λ (k : ℕ). take k (set listed i (r .0)) ++ amountsFrom base′ (after .0) behind) (add-one i)
-                    ∙ ap (λ zs. zs ++ amountsFrom base′ (after .0) behind) (take-suc-set listed i (r .0) l)
-                    ∙ append-assoc (take i listed) (r .0 ∷ []) (amountsFrom base′ (after .0) behind)
-                    ∙ ap (λ zs. take i listed ++ zs) (sym step)
+                    ap (λ zs. zs ++ amountsFrom base′ (after .0) behind) (stored-last listed i r l)
+                    ∙ append-assoc (amountsIn listed i) (r .0 ∷ []) (amountsFrom base′ (after .0) behind)
+                    ∙ ap (λ zs. amountsIn listed i ++ zs) (sym step)
                     ∙ inv .left);
                 to-add = sym (from-in total (r .0) (amountsFrom base′ (after .0) behind) after e) ∙ ap (totalFrom total) (sym step) ∙ inv .to-add;
               }
@@ -223,5 +249,7 @@ module _ (picks : List Pick) (n : ℕ) where
         record {
           each-in = inv .each-in;
           total = sym (from-end total) ∙ ap (totalFrom total) (sym f) ∙ inv .to-add;
-          amounts = λ c r. ap (λ (k : ℕ). take k listed) (sym e) ∙ sym (append-nil (take i listed)) ∙ ap (λ zs. take i listed ++ zs) (sym f) ∙ inv .left;
+          amounts = λ c r. ap (amountsIn listed) (sym e) ∙ sym (append-nil (amountsIn listed i)) ∙ ap (λ zs. amountsIn listed i ++ zs) (sym f) ∙ inv .left;
+          behind = λ k g. inv .behind k (omega arith);
+          none = λ g. let z : _≡_ {A = ℕ} 0 1 = cc g in absurd (omega arith);
         }

@@ -4,16 +4,17 @@ use mathlib.Core.Path.{_≡_, refl, sym, ap, _∙_}
 use mathlib.Core.List.{List, [], _∷_, _++_}
 use native.Mathlib.Omega.{arith}
 use native.Mathlib.Numerals.{add-one}
-use lib.IntN.{ℤ, pos}
-use lib.ListN.{length, take, drop, getD, set, length-append}
-use lib.Seq.{sets, length-take-le}
+use lib.IntN.{ℤ}
+use lib.ListN.{length, drop, getD, set, length-append}
+use lib.Seq.{sets}
 use Rattle.rules.specs.Bytes.{bytesOf, signedBytesOf}
+use Rattle.rules.specs.declared.Cents.{Cents}
 use Rattle.layout.specs.Ensures.{Puts}
 use Rattle.layout.proofs.StoreLaws.{puts-of, puts-then, sets-of, sets-sets}
 use Rattle.lines.specs.declared.Pick.{Pick}
-use Rattle.lines.specs.Views.{View, viewIn, viewsIn, noPick, viewBytes, viewsBytes}
+use Rattle.lines.specs.Views.{View, viewIn, viewsIn, noPick, amountsIn, noCents, viewBytes, viewsBytes}
 use Rattle.lines.specs.Contracts.{Writable}
-use Rattle.lines.proofs.WalkLaws.{next-in, next-view, views-end, views-count}
+use Rattle.lines.proofs.WalkLaws.{next-view, views-end, views-count, next-amount, amounts-count}
 
 -- ---- a line
 
@@ -48,29 +49,29 @@ unfolding viewsBytes
 no-bytes zs = refl
 
 -- the lines that are left, stored behind those that are there, make up the whole
-pub record Writing (old : List ℕ) (picks : List Pick) (amounts : List ℤ) (n : ℕ) (out : List ℕ) (i : ℕ) : Type 0 where
+pub record Writing (old : List ℕ) (picks : List Pick) (amounts : List Cents) (n : ℕ) (out : List ℕ) (i : ℕ) : Type 0 where
   pub place : i ≤ n
   pub long : n ≤ length picks
   pub long₂ : n ≤ length amounts
   pub room : 14 * n ≤ length old
   pub same : length out ≡ length old
-  pub rest : sets out (14 * i) (viewsBytes (drop i (viewsIn picks n)) (drop i (take n amounts))) ≡ sets old 0 (viewsBytes (viewsIn picks n) (take n amounts))
+  pub rest : sets out (14 * i) (viewsBytes (drop i (viewsIn picks n)) (drop i (amountsIn amounts n))) ≡ sets old 0 (viewsBytes (viewsIn picks n) (amountsIn amounts n))
 
-module _ (old : List ℕ) (picks : List Pick) (amounts : List ℤ) (n : ℕ) where
+module _ (old : List ℕ) (picks : List Pick) (amounts : List Cents) (n : ℕ) where
   pub write-start : n ≤ length picks → n ≤ length amounts → Writable old amounts n → Writing old picks amounts n old 0
   write-start k l g = record { place = omega arith; long = k; long₂ = l; room = g .room; same = refl; rest = refl }
 
   module _ (out : List ℕ) (i : ℕ) (inv : Writing old picks amounts n out i) where
-    pub write-again : {new : List ℕ} → i < n → Puts out (14 * i) (viewBytes (viewIn (getD picks i noPick)) (getD amounts i (pos 0))) new
+    pub write-again : {new : List ℕ} → i < n → Puts out (14 * i) (viewBytes (viewIn (getD picks i noPick)) (getD amounts i noCents .0)) new
         → Writing old picks amounts n new (i + 1)
     write-again {new} h p =
         let v : View = viewIn (getD picks i noPick) in
-        let z : ℤ = getD amounts i (pos 0) in
+        let z : ℤ = getD amounts i noCents .0 in
         let vs : List View = drop (i + 1) (viewsIn picks n) in
-        let zs : List ℤ = drop (i + 1) (take n amounts) in
+        let zs : List ℤ = drop (i + 1) (amountsIn amounts n) in
         let e : 14 * (i + 1) ≡ 14 * i + length (viewBytes v z) = omega (arith, line-length v z) in
-        let f : viewsBytes (drop i (viewsIn picks n)) (drop i (take n amounts)) ≡ viewBytes v z ++ viewsBytes vs zs =
-        rw (next-view picks n i h (inv .long), next-in amounts n i (pos 0) h (inv .long₂)) (cons-bytes v z vs zs) in
+        let f : viewsBytes (drop i (viewsIn picks n)) (drop i (amountsIn amounts n)) ≡ viewBytes v z ++ viewsBytes vs zs =
+        rw (next-view picks n i h (inv .long), next-amount amounts n i h (inv .long₂)) (cons-bytes v z vs zs) in
         record {
           place = omega arith;
           long = inv .long;
@@ -85,10 +86,10 @@ module _ (old : List ℕ) (picks : List Pick) (amounts : List ℤ) (n : ℕ) whe
               ∙ inv .rest;
         }
 
-    pub write-end : n ≤ i → Puts old 0 (viewsBytes (viewsIn picks n) (take n amounts)) out
+    pub write-end : n ≤ i → Puts old 0 (viewsBytes (viewsIn picks n) (amountsIn amounts n)) out
     write-end h =
-        let a : length (take n amounts) ≡ n = length-take-le n amounts (inv .long₂) in
+        let a : length (amountsIn amounts n) ≡ n = amounts-count amounts n (inv .long₂) in
         let b : length (viewsIn picks n) ≡ n = views-count picks n (inv .long) in
-        let e : viewsBytes (drop i (viewsIn picks n)) (drop i (take n amounts)) ≡ [] = rw (views-end picks n i (inv .long) h) (no-bytes (drop i (take n amounts))) in
-        puts-of (omega (arith, inv .room, lines-length (viewsIn picks n) (take n amounts) (a ∙ sym b)))
+        let e : viewsBytes (drop i (viewsIn picks n)) (drop i (amountsIn amounts n)) ≡ [] = rw (views-end picks n i (inv .long) h) (no-bytes (drop i (amountsIn amounts n))) in
+        puts-of (omega (arith, inv .room, lines-length (viewsIn picks n) (amountsIn amounts n) (a ∙ sym b)))
         (sym (ap (sets out (14 * i)) e) ∙ inv .rest)

@@ -5,7 +5,7 @@ use mathlib.Core.Bool.{Bool, true, false}
 use mathlib.Core.List.{List, map}
 use mathlib.Core.Option.{Option, some, none, Option·map}
 use lib.IntN.{pos}
-use lib.ListN.{length, take, getD, length-map}
+use lib.ListN.{length, getD, length-map}
 use borrow.Author.Tests.{lt-ltb, le-ltb}
 use Rattle.rules.specs.Lists.{first}
 use Rattle.rules.specs.Book.{Record, rows, roundings}
@@ -23,7 +23,7 @@ use Rattle.layout.specs.Ensures.{Says}
 use Rattle.amounts.proofs.TotalLaws.{total-is-sum}
 use Rattle.lines.specs.declared.Pick.{Pick}
 use Rattle.lines.specs.declared.Listed.{Listed}
-use Rattle.lines.specs.Views.{View, viewOf, viewIn, viewsIn, noPick, letters, isBase, baseFirst, oneCurrency, amountsOf, viewsBytes}
+use Rattle.lines.specs.Views.{View, viewOf, viewIn, viewsIn, noPick, letters, isBase, baseFirst, oneCurrency, amountsOf, amountsIn, viewsBytes}
 use Rattle.lines.specs.Contracts.{StandFor, FirstBase, SoundRounding, Sound, Listable, ListedIs}
 use Rattle.lines.proofs.WalkLaws.{views-count}
 use Rattle.lines.proofs.ViewLaws.{run-amounts, run-base, run-currency, run-places, run-bytes}
@@ -140,5 +140,5 @@ module _ (book : List Record) (q : Question) (picks : List Pick) (n : ℕ) (stan
     unfolding total
     unit-is = total-is-sum (amounts (linesOf book q)) unit (ap totalOf line-amounts ∙ (sym (is .total) ∙ u))
 
-    pub bytes-are : linesBytes (linesOf book q) ≡ viewsBytes (viewsIn picks n) (take n (l .amounts))
+    pub bytes-are : linesBytes (linesOf book q) ≡ viewsBytes (viewsIn picks n) (amountsIn (l .amounts) n)
     bytes-are = line-bytes ∙ ap (viewsBytes (viewsIn picks n)) (sym (is .amounts unit u))

@@ -47,7 +47,7 @@ module _ {picks : List Pick} {n base : ℕ} (b : FirstBase picks n base) where
       pub out-of-range : l .total ≡ OutOfRange → {r : Verdict} → r ≡ refusedBy 6 → VerdictIs picks n r
       out-of-range o e = refused-by (λ y. omega arith) (λ book q s. price-6 book q picks n s base b h one c (so one t) l is o) e
 
-      pub has-price : {unit : Cents} → l .total ≡ InRange unit → VerdictIs picks n (record { number = 0; currency = getD picks base noPick .currency; unit = unit .0; amounts = l .amounts })
+      pub has-price : {unit : Cents} → l .total ≡ InRange unit → VerdictIs picks n (record { number = 0; currency = getD picks base noPick .currency; unit = unit; amounts = l .amounts })
       has-price {unit} u =
           record {
             each-in = is .each-in;

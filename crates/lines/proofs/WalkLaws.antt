@@ -2,7 +2,7 @@
 use Prim.Native.Nat.{ℕ, _+_, _≤_, _<_}
 use mathlib.Core.Path.{_≡_, refl, sym, ap, _∙_}
 use mathlib.Core.Bool.{Bool, true, _&&_, and-true, and-assoc}
-use mathlib.Core.List.{List, [], _∷_}
+use mathlib.Core.List.{List, [], _∷_, map}
 use native.Mathlib.Omega.{arith}
 use native.Mathlib.Numerals.{add-one}
 use native.Mathlib.Nat.{le-refl}
@@ -17,19 +17,30 @@ use Rattle.rules.specs.declared.Hundredths.{Hundredths}
 use Rattle.rules.specs.declared.Value.the-variants.{Fixed, Percent}
 use Rattle.layout.specs.Ensures.{Says}
 use Rattle.lines.specs.declared.Pick.{Pick}
-use Rattle.lines.specs.Views.{viewIn, viewsIn, noPick, letters, isBase, fits, oneCurrency}
+use Rattle.lines.specs.Views.{viewIn, viewsIn, noPick, letters, isBase, fits, oneCurrency, amountsIn, noCents}
 use Rattle.lines.specs.Contracts.{FirstBase}
 
 -- ---- the next of the first n
 
-module _ {A : Type 0} (xs : List A) (n i : ℕ) (d : A) (h : i < n) (k : n ≤ length xs) where
-  pub next-in : drop i (take n xs) ≡ getD xs i d ∷ drop (i + 1) (take n xs)
-  next-in =
-      let l : i < length (take n xs) = rw (length-take-le n xs k) h in
-      drop-cons (take n xs) i d l ∙ rw (getD-take n xs i d h, add-one)
+-- seen by a function of each
+module _ {A B : Type 0} (f : A → B) (xs : List A) (n : ℕ) (k : n ≤ length xs) where
+  seen-count : length (map f (take n xs)) ≡ n
+  seen-count = length-map (take n xs) f ∙ length-take-le n xs k
+
+  next-seen : (i : ℕ) (d : A) → i < n → drop i (map f (take n xs)) ≡ f (getD xs i d) ∷ drop (i + 1) (map f (take n xs))
+  next-seen i d h =
+      let l : i < length (map f (take n xs)) = rw seen-count h in
+      drop-cons (map f (take n xs)) i (f d) l
+      ∙ rw (List·getD-map f (take n xs) i d, getD-take n xs i d h, add-one)
 
 pub views-count : (picks : List Pick) (n : ℕ) → n ≤ length picks → length (viewsIn picks n) ≡ n
-views-count picks n k = length-map (take n picks) viewIn ∙ length-take-le n picks k
+views-count picks n k = seen-count viewIn picks n k
+
+pub amounts-count : (cs : List Cents) (n : ℕ) → n ≤ length cs → length (amountsIn cs n) ≡ n
+amounts-count cs n k = seen-count (λ c. c .0) cs n k
+
+pub next-amount : (cs : List Cents) (n i : ℕ) → i < n → n ≤ length cs → drop i (amountsIn cs n) ≡ getD cs i noCents .0 ∷ drop (i + 1) (amountsIn cs n)
+next-amount cs n i h k = next-seen (λ c. c .0) cs n k i noCents h
 
 pub views-end : (picks : List Pick) (n i : ℕ) → n ≤ length picks → n ≤ i → drop i (viewsIn picks n) ≡ []
 views-end picks n i k h =
@@ -38,10 +49,7 @@ views-end picks n i k h =
 
 module _ (picks : List Pick) (n i : ℕ) (h : i < n) (k : n ≤ length picks) where
   pub next-view : drop i (viewsIn picks n) ≡ viewIn (getD picks i noPick) ∷ drop (i + 1) (viewsIn picks n)
-  next-view =
-      let l : i < length (viewsIn picks n) = rw (views-count picks n k) h in
-      drop-cons (viewsIn picks n) i (viewIn noPick) l
-      ∙ rw (List·getD-map viewIn (take n picks) i noPick, getD-take n picks i noPick h, add-one)
+  next-view = next-seen viewIn picks n k i noPick h
 
 -- ---- the first base row
 

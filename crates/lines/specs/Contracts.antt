@@ -4,8 +4,8 @@ use mathlib.Core.Path.{_≡_}
 use mathlib.Core.Bool.{Bool, true, cond}
 use mathlib.Core.List.{List, map}
 use lib.Dec.{ltb}
-use lib.IntN.{ℤ, pos, natAbs}
-use lib.ListN.{length, take, getD}
+use lib.IntN.{ℤ, natAbs}
+use lib.ListN.{length, getD, replicate}
 use Rattle.rules.specs.Lists.{first}
 use Rattle.rules.specs.BookLayout.{inBounds}
 use Rattle.rules.specs.Book.{Record, rows, roundings}
@@ -13,12 +13,12 @@ use Rattle.rules.specs.Question.{Question}
 use Rattle.rules.specs.Lines.{chosen, totalOf}
 use Rattle.rules.specs.declared.Cents.{Cents}
 use Rattle.rules.specs.declared.Rounding.{Rounding}
-use Rattle.rules.specs.declared.Total.the-variants.{InRange}
+use Rattle.rules.specs.declared.Total.the-variants.{InRange, OutOfRange}
 use Rattle.rules.proofs.ListLaws.{All}
 use Rattle.layout.specs.Reads.{only}
 use Rattle.lines.specs.declared.Pick.{Pick}
 use Rattle.lines.specs.declared.Listed.{Listed}
-use Rattle.lines.specs.Views.{View, viewOf, viewIn, viewsIn, noPick, isBase, baseFirst, amountOn, amountsOf}
+use Rattle.lines.specs.Views.{View, viewOf, viewIn, viewsIn, noPick, isBase, baseFirst, amountOn, amountsOf, amountsIn, noCents}
 
 -- the first n picks are the chosen rows of a question, with their roundings looked up
 pub record StandFor (book : List Record) (q : Question) (picks : List Pick) (n : ℕ) : Type 0 where
@@ -68,13 +68,15 @@ pub record Listable (picks : List Pick) (n : ℕ) : Type 0 where
   pub base-first : baseFirst (viewsIn picks n) ≡ true
 
 pub record ListedIs (picks : List Pick) (n : ℕ) (r : Listed) : Type 0 where
-  pub each-in : (i : ℕ) → natAbs (getD (r .amounts) i (pos 0)) ≤ mostAmount
+  pub each-in : (i : ℕ) → natAbs (getD (r .amounts) i noCents .0) ≤ mostAmount
   pub total : r .total ≡ totalOf (amountsOf (viewsIn picks n))
-  pub amounts : (c : Cents) → r .total ≡ InRange c → take n (r .amounts) ≡ amountsOf (viewsIn picks n)
+  pub amounts : (c : Cents) → r .total ≡ InRange c → amountsIn (r .amounts) n ≡ amountsOf (viewsIn picks n)
+  pub behind : (i : ℕ) → n ≤ i → getD (r .amounts) i noCents ≡ noCents
+  pub none : r .total ≡ OutOfRange → r .amounts ≡ replicate 99 noCents
 
 -- ---- bytes
 
-pub record Writable (out : List ℕ) (amounts : List ℤ) (n : ℕ) : Type 0 where
+pub record Writable (out : List ℕ) (amounts : List Cents) (n : ℕ) : Type 0 where
   pub few : n ≤ 99
   pub room : 14 * n ≤ length out
-  pub each-in : (i : ℕ) → natAbs (getD amounts i (pos 0)) ≤ mostAmount
+  pub each-in : (i : ℕ) → natAbs (getD amounts i noCents .0) ≤ mostAmount

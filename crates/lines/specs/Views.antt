@@ -11,6 +11,7 @@ use Rattle.rules.specs.Book.{base, roundingFor}
 use Rattle.rules.specs.Choice.{isPercent}
 use Rattle.rules.specs.Amounts.{exact, rounded}
 use Rattle.rules.specs.Lines.{Chosen}
+use Rattle.rules.specs.declared.Cents.{Cents}
 use Rattle.rules.specs.declared.Value.{Value}
 use Rattle.rules.specs.declared.Value.the-variants.{Fixed}
 use Rattle.rules.specs.declared.Way.the-variants.{Down}
@@ -102,6 +103,14 @@ amountsFrom base total (v ∷ vs) =
 
 abbrev pub amountsOf : List View → List ℤ
 amountsOf vs = amountsFrom (pos 0) (pos 0) vs
+
+-- of amounts in the code, the first n as the definitions have them
+abbrev pub amountsIn : List Cents → ℕ → List ℤ
+amountsIn cs n = map (λ c. c .0) (take n cs)
+
+-- what is read behind the last of them
+abbrev pub noCents : Cents
+noCents = record { 0 = pos 0 }
 
 -- ---- bytes
 

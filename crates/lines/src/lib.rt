@@ -11,9 +11,9 @@ use rules::Total;
 use rules::Value;
 ghost use Prim.Native.Nat.{_+_, _≤_};
 ghost use mathlib.Core.List.{[], _∷_};
-ghost use lib.ListN.{length, take};
+ghost use lib.ListN.{length};
 ghost use Rattle.layout.specs.Ensures.{Says, Puts};
-ghost use Rattle.lines.specs.Views.{viewIn, viewsIn, letters, fits, oneCurrency, viewBytes, viewsBytes};
+ghost use Rattle.lines.specs.Views.{viewIn, viewsIn, letters, fits, oneCurrency, amountsIn, viewBytes, viewsBytes};
 ghost use Rattle.lines.specs.Contracts.{FirstBase, OneOfTwo, LineOn, LineAmount, Listable, ListedIs, Writable};
 
 // A chosen row and the rounding that its record names: all that its line needs. Place 0: no granted name brought it.
@@ -27,9 +27,9 @@ pub struct Pick {
     pub rounding: Rounding,
 }
 
-// The amounts of the lines, in cents, and what they come to. Where the total left its range the amounts mean nothing.
+// The amounts of the lines and what they come to, with zeros behind them. Where the total left its range all are zeros.
 pub struct Listed {
-    pub amounts: [i64; 99],
+    pub amounts: [Cents; 99],
     pub total: Total,
 }
 
@@ -104,7 +104,7 @@ pub fn list_amounts(picks: [Pick; 99], n: usize) -> Listed
     requires { ⌜ Listable picks n ⌝ }
     ensures { λ r. ⌜ ListedIs picks n r ⌝ }
 {
-    let mut listed = [0i64; 99];
+    let mut listed = [Cents(0); 99];
     let mut base = Cents(0);
     let mut total = Cents(0);
     let mut i = 0;
@@ -114,14 +114,13 @@ pub fn list_amounts(picks: [Pick; 99], n: usize) -> Listed
         let next = amounts::add_line(total, amount);
         let Total::InRange(after) = next else {
             return Listed {
-                amounts: listed,
+                amounts: [Cents(0); 99],
                 total: Total::OutOfRange,
             };
         };
         base = either(pick.level == b'B', after, base);
         total = after;
-        let cents = amount.0;
-        listed[i] = cents;
+        listed[i] = amount;
         i += 1;
     }
     Listed {
@@ -141,19 +140,19 @@ fn put_pair(out: &mut [u8], at: usize, first: u8, second: u8)
 }
 
 // The 14 bytes of a line: the text's number, the level's letter, the place of the granted name, the amount.
-fn write_line(out: &mut [u8], at: usize, pick: Pick, amount: i64)
+fn write_line(out: &mut [u8], at: usize, pick: Pick, amount: Cents)
     requires { ⌜ at + 14 ≤ length (now out) ⌝ }
-    ensures { λ _. ⌜ Puts (now (out .entry)) at (viewBytes (viewIn pick) amount) (now (out .exit)) ⌝ }
+    ensures { λ _. ⌜ Puts (now (out .entry)) at (viewBytes (viewIn pick) (amount .0)) (now (out .exit)) ⌝ }
 {
     put_four(out, at, pick.text);
     put_pair(out, at + 4, pick.level, pick.place);
-    put_signed_eight(out, at + 6, amount);
+    put_signed_eight(out, at + 6, amount.0);
 }
 
 // The first n lines, one behind the other, to the front of `out`.
-pub fn write_lines(out: &mut [u8], picks: [Pick; 99], amounts: [i64; 99], n: usize)
+pub fn write_lines(out: &mut [u8], picks: [Pick; 99], amounts: [Cents; 99], n: usize)
     requires { ⌜ Writable (now out) amounts n ⌝ }
-    ensures { λ _. ⌜ Puts (now (out .entry)) 0 (viewsBytes (viewsIn picks n) (take n amounts)) (now (out .exit)) ⌝ }
+    ensures { λ _. ⌜ Puts (now (out .entry)) 0 (viewsBytes (viewsIn picks n) (amountsIn amounts n)) (now (out .exit)) ⌝ }
 {
     let mut i = 0;
     while i < n {

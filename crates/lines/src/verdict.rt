@@ -3,18 +3,19 @@ use crate::Pick;
 use crate::first_base;
 use crate::in_one_currency;
 use crate::list_amounts;
+use rules::Cents;
 use rules::Currency;
 use rules::Total;
 ghost use mathlib.Core.Path.{_≡_};
 ghost use Rattle.lines.specs.Contracts.{Listable};
 ghost use Rattle.lines.specs.Verdict.{refusedBy, VerdictIs};
 
-// The number of the refusal, with zeros; or 0, the currency, what one piece costs in cents, and the amounts of the lines.
+// The number of the refusal, with zeros; or 0, the currency, what one piece costs, and the amounts of the lines.
 pub struct Verdict {
     pub number: u8,
     pub currency: Currency,
-    pub unit: i64,
-    pub amounts: [i64; 99],
+    pub unit: Cents,
+    pub amounts: [Cents; 99],
 }
 
 fn refused(number: u8) -> Verdict
@@ -24,8 +25,8 @@ fn refused(number: u8) -> Verdict
     Verdict {
         number,
         currency,
-        unit: 0,
-        amounts: [0i64; 99],
+        unit: Cents(0),
+        amounts: [Cents(0); 99],
     }
 }
 
@@ -52,7 +53,7 @@ pub fn judge(picks: [Pick; 99], n: usize) -> Verdict
     Verdict {
         number: 0,
         currency,
-        unit: unit.0,
+        unit,
         amounts,
     }
 }

@@ -8,7 +8,7 @@ use native.Mathlib.Omega.{arith}
 use lib.Count.{ones}
 use lib.Dec.{leb}
 use lib.IntN.{pos, _*ℤ_}
-use lib.ListN.{length, take, drop}
+use lib.ListN.{length}
 use borrow.Author.Tests.{le-leb, lt-leb}
 use Rattle.rules.specs.Lists.{isSome}
 use Rattle.rules.proofs.ListLaws.{absent}
@@ -32,7 +32,7 @@ use Rattle.survey.specs.declared.Surveyed.{Surveyed}
 use Rattle.survey.specs.Survey.{SurveyIs}
 use Rattle.lines.specs.declared.Pick.{Pick}
 use Rattle.lines.specs.declared.verdict.Verdict.{Verdict}
-use Rattle.lines.specs.Views.{viewsIn, viewsBytes, letters, baseFirst}
+use Rattle.lines.specs.Views.{viewsIn, viewsBytes, letters, baseFirst, amountsIn}
 use Rattle.lines.specs.Contracts.{StandFor, Listable, Writable}
 use Rattle.lines.specs.Verdict.{VerdictIs}
 use Rattle.lines.proofs.PricedLaws.{line-count, line-places, bytes-count}
@@ -146,7 +146,7 @@ module _ (b s lent : List ℕ) {ask : Ask} (a : AskIs s ask) {w : Surveyed} (tol
 
     -- with room, the lines go to the front, and what is read is the definition's
     pub has-answer : {set : ℕ} → UnusedIs (askIn s ask .granted) (map (λ v. v .place) (viewsIn picks n)) set → 14 * n ≤ length lent
-        → {after : List ℕ} → Puts lent 0 (viewsBytes (viewsIn picks n) (take n (v .amounts))) after
+        → {after : List ℕ} → Puts lent 0 (viewsBytes (viewsIn picks n) (amountsIn (v .amounts) n)) after
         → {r : PriceAnswer} → r ≡ answered (ask .quantity) n v set → PriceIs b s lent r after
     unfolding answerOf shown lentAfter
     has-answer {set} u h {after} put {r} e =
@@ -159,7 +159,7 @@ module _ (b s lent : List ℕ) {ask : Ask} (a : AskIs s ask) {w : Surveyed} (tol
         let count : length ls ≡ n = line-count book q picks n (stand picked) (omega (arith, picked .few, picked .long)) in
         let set′ : set ≡ setOf (unusedOf q ls) = set-is picked u in
         let ones′ : ones set ≡ length (unusedOf q ls) = ap ones set′ ∙ unused-count q ls in
-        let bytes : viewsBytes (viewsIn picks n) (take n (v .amounts)) ≡ linesBytes ls = sym (x .bytes) in
+        let bytes : viewsBytes (viewsIn picks n) (amountsIn (v .amounts) n) ≡ linesBytes ls = sym (x .bytes) in
         record {
           answer = e ∙ (λ i. record {
             unit = sym (x .unit) i;

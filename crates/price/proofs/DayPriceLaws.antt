@@ -19,7 +19,7 @@ use Rattle.price.specs.Day.{DayPriceIs}
 use Rattle.price.proofs.CallLaws.{stand}
 
 abbrev saidOf : Verdict → Outcome
-saidOf v = record { refusal = v .number; currency = letters (v .currency); unit = v .unit }
+saidOf v = record { refusal = v .number; currency = letters (v .currency); unit = v .unit .0 }
 
 module _ {b : List ℕ} {q : Question} {picks : List Pick} {n : ℕ} (picked : PickedAre b q picks n) {v : Verdict} (j : VerdictIs picks n v) where
   said : saidOf v ≡ outcome (recordsLeft b 5) q (q .date)

@@ -14,8 +14,8 @@ use Rattle.lines.specs.Views.{letters}
 abbrev pub answered : ℕ → ℕ → Verdict → ℕ → PriceAnswer
 answered quantity n v set =
     record {
-      unit = v .unit;
-      total = pos quantity *ℤ v .unit;
+      unit = v .unit .0;
+      total = pos quantity *ℤ v .unit .0;
       lines = n;
       unused = set;
       «unused_count» = ones set;

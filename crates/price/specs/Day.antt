@@ -7,4 +7,4 @@ use Rattle.price.specs.declared.day.DayPrice.{DayPrice}
 pub record DayPriceIs (o : Outcome) (r : DayPrice) : Type 0 where
   pub number : r .number ≡ o .refusal
   pub currency : letters (r .currency) ≡ o .currency
-  pub unit : r .unit ≡ o .unit
+  pub unit : r .unit .0 ≡ o .unit

@@ -27,11 +27,11 @@ pub fn refusal(number: u8) -> PriceAnswer
 // The price of so many pieces, with n lines and the granted places that brought none.
 pub fn answer(quantity: u32, n: usize, v: Verdict, idle: Places) -> PriceAnswer
     requires { ⌜ quantity ≤ 100_000 ⌝ }
-    requires { ⌜ natAbs (v .unit) ≤ 1_000_000_000 ⌝ }
+    requires { ⌜ natAbs (v .unit .0) ≤ 1_000_000_000 ⌝ }
     ensures { λ r. ⌜ r ≡ answered quantity n v (idle .0) ⌝ }
 {
     let currency = v.currency;
-    let unit = v.unit;
+    let unit = v.unit.0;
     let count = idle.count();
     PriceAnswer {
         unit,

@@ -3,6 +3,7 @@ use crate::picks::picks_within;
 use choice::span::Window;
 use lines::verdict::judge;
 use question::Ask;
+use rules::Cents;
 use rules::Currency;
 ghost use Rattle.rules.specs.Calendar.{outcome};
 ghost use Rattle.book.specs.Records.{recordsLeft};
@@ -11,11 +12,11 @@ ghost use Rattle.choice.specs.Span.{Windows};
 ghost use Rattle.choice.specs.Walk.{Asking};
 ghost use Rattle.price.specs.Day.{DayPriceIs};
 
-// The number of the refusal, with zeros; or 0, the currency, and what one piece costs in cents.
+// The number of the refusal, with zeros; or 0, the currency, and what one piece costs.
 pub struct DayPrice {
     pub number: u8,
     pub currency: Currency,
-    pub unit: i64,
+    pub unit: Cents,
 }
 
 // On the question's day.
@@ -28,9 +29,10 @@ pub fn day_price(b: &[u8], w: Window, q: &[u8], ask: Ask) -> DayPrice
     let rows = picks.rows;
     let v = judge(rows, picks.n);
     let currency = v.currency;
+    let unit = v.unit;
     DayPrice {
         number: v.number,
         currency,
-        unit: v.unit,
+        unit,
     }
 }

@@ -6,10 +6,6 @@ use mathlib.Core.List.{List, [], _∷_, _++_, map, append-nil, append-assoc}
 use native.Mathlib.Omega.{arith}
 use native.Mathlib.Numerals.{add-one}
 use lib.Dec.{eqb, leb}
-use lib.IntN.{ℤ}
-use mir.Syntax.{w64}
-use mir.Val.{SFits, toZ, ofZ}
-use mir.ValLaws.{toZ-ofZ}
 use lib.ListN.{length, take, drop, getD, length-drop, length-map, List·getD-map}
 use lib.Seq.{sets, take-suc, take-all, getD-take, length-take-le, take-at}
 use borrow.Author.Tests.{eq-eqb, ne-eqb, le-leb, lt-leb}
@@ -27,18 +23,11 @@ use Rattle.calendar.specs.Listing.{listing, finished, stretchesIn, listed, List
 use Rattle.calendar.proofs.ByteLaws.{runs-count, bytes-length}
 use Rattle.calendar.proofs.CallLaws.{two-parts}
 use Rattle.printing.specs.declared.output.Printed.{Printed}
-use Rattle.printing.specs.Contracts.{stretchOf, Prints}
+use Rattle.printing.specs.Contracts.{Prints}
 use Rattle.printing.specs.Input.{FrontIs}
 use Rattle.printing.specs.Output.{linesText, listedText, Few, Printable, Printing, OutputIs}
 use Rattle.printing.proofs.DigitLaws.{prints-none, prints-then, few-digits}
 use Rattle.printing.proofs.LineLaws.{line-short}
-
--- ---- a line
-
-pub run-prints : (run : Run) {out new : List ℕ} {at r : ℕ} → SFits w64 (run .unit)
-    → Prints out at (stretchText (stretchOf (run .first) (run .last) (run .refusal) (run .currency) (toZ w64 (ofZ w64 (run .unit))))) new r → Prints out at (stretchText (asStretch run)) new r
-run-prints run {out} {new} {at} {r} f p =
-    subst (λ (z : ℤ). Prints out at (stretchText (stretchOf (run .first) (run .last) (run .refusal) (run .currency) z)) new r) (toZ-ofZ w64 (run .unit) f) p
 
 -- ---- line after line
 
@@ -75,7 +64,7 @@ module _ {old : List ℕ} {r : Runs} where
         record {
           place = omega arith;
           printable = w .printable;
-          short = omega (arith, w .short, p .end, line-short (run .first) (run .last) (run .refusal) (run .currency) (run .unit));
+          short = omega (arith, w .short, p .end, line-short (run .first) (run .last) (run .refusal) (run .currency) (run .unit .0));
           so-far = subst (λ (bs : List ℕ). Prints old 0 bs new end)
               (sym (ap (λ (ss : List Stretch). join (map stretchText ss)) (taken h) ∙ ap join (map-append stretchText (take i (stretchesIn r)) (asStretch run)) ∙ join-append (map stretchText (take i (stretchesIn r))) (stretchText (asStretch run))))
               (prints-then (w .so-far) p);

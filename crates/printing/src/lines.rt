@@ -1,6 +1,7 @@
 // A stretch on a line of its own.
 use crate::decimal::put_digits;
 use crate::decimal::put_signed;
+use rules::Cents;
 use rules::Currency;
 ghost use Prim.Native.Nat.{_+_, _≤_, _<_};
 ghost use mathlib.Core.Path.{_≡_};
@@ -57,16 +58,16 @@ pub fn put_stretch(
     last: u32,
     refusal: u8,
     currency: Currency,
-    unit: i64,
+    unit: Cents,
 ) -> usize
     requires { ⌜ at + 89 ≤ length (now out) ⌝ }
-    ensures { λ r. ⌜ Prints (now (out .entry)) at (stretchText (stretchOf first last refusal currency unit)) (now (out .exit)) r ⌝ }
+    ensures { λ r. ⌜ Prints (now (out .entry)) at (stretchText (stretchOf first last refusal currency (unit .0))) (now (out .exit)) r ⌝ }
 {
     let word = word_of(refusal, currency);
     let a = put_number(out, at, first as u64);
     let b = put_number(out, a, last as u64);
     let c = put_number(out, b, refusal as u64);
     let d = put_word(out, c, word);
-    let e = put_signed(out, d, unit);
+    let e = put_signed(out, d, unit.0);
     put_byte(out, e, b'\n')
 }

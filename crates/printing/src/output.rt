@@ -30,15 +30,8 @@ fn put_run(out: &mut [u8], at: usize, run: Run) -> usize
     ensures { λ r. ⌜ Prints (now (out .entry)) at (stretchText (asStretch run)) (now (out .exit)) r ⌝ }
 {
     let currency = run.currency;
-    put_stretch(
-        out,
-        at,
-        run.first,
-        run.last,
-        run.refusal,
-        currency,
-        run.unit,
-    )
+    let unit = run.unit;
+    put_stretch(out, at, run.first, run.last, run.refusal, currency, unit)
 }
 
 // Each stretch on its line.

@@ -7,8 +7,7 @@ use native.Mathlib.Omega.{arith}
 use lib.Dec.{eqb}
 use lib.IntN.{ℤ, pos, negsuc}
 use mir.Syntax.{w64}
-use mir.Val.{toZ, ofZ, SFits}
-use mir.ValLaws.{toZ-ofZ}
+use mir.Val.{ofZ, SFits}
 use borrow.Author.Tests.{eq-eqb, ne-eqb, eqb-true, eqb-false}
 use Rattle.rules.specs.Calendar.{Outcome, sameInt, sameOutcome, outcome}
 use Rattle.rules.specs.Question.{Question, on}
@@ -45,15 +44,15 @@ int-bits (negsuc a) (negsuc b) f g = go (eqb a b) refl
     go true e = sym (eq-eqb (18446744073709551616 - suc a) (18446744073709551616 - suc b) (ap (λ (n : ℕ). 18446744073709551616 - suc n) (eqb-true a b e)))
     go false e = sym (ne-eqb (18446744073709551616 - suc a) (18446744073709551616 - suc b) (λ h. eqb-false a b e (omega (arith, f .sfits, g .sfits))))
 
-pub outcome-same : (a b : Run) → SFits w64 (a .unit) → SFits w64 (b .unit)
+pub outcome-same : (a b : Run) → SFits w64 (a .unit .0) → SFits w64 (b .unit .0)
     → Says (sameOutcome (asStretch a .outcome) (asStretch b .outcome))
-    (eqb (a .refusal) (b .refusal) && ((eqb (a .currency .0) (b .currency .0) && (eqb (a .currency .1) (b .currency .1) && eqb (a .currency .2) (b .currency .2))) && eqb (ofZ w64 (a .unit)) (ofZ w64 (b .unit))))
+    (eqb (a .refusal) (b .refusal) && ((eqb (a .currency .0) (b .currency .0) && (eqb (a .currency .1) (b .currency .1) && eqb (a .currency .2) (b .currency .2))) && eqb (ofZ w64 (a .unit .0)) (ofZ w64 (b .unit .0))))
 unfolding sameOutcome
 outcome-same a b f g = record {
   is = λ i.
       eqb (a .refusal) (b .refusal)
       && ((eqb (a .currency .0) (b .currency .0) && (eqb (a .currency .1) (b .currency .1) && and-true (eqb (a .currency .2) (b .currency .2)) i))
-      && int-bits (a .unit) (b .unit) f g i);
+      && int-bits (a .unit .0) (b .unit .0) f g i);
 }
 
 -- ---- a stretch that begins, or grows
@@ -75,16 +74,13 @@ module _ (b q : List ℕ) {ask : Ask} {d : ℕ} {then : Ask} (a : AskedOn ask d 
   unfolding outcome on
   same-day = λ i. outcome (recordsLeft b 5) (asked-is i) (a .is i .date)
 
-  pub opened-is : {p : DayPrice} → DayPriceIs (outcome (recordsLeft b 5) (askIn q then) (then .date)) p → SFits w64 (p .unit)
-      → Opened (outcome (recordsLeft b 5) (askIn q ask)) d (record { first = d; last = d; refusal = p .number; currency = p .currency; unit = toZ w64 (ofZ w64 (p .unit)) })
-  opened-is {p} h f = record {
+  pub opened-is : {p : DayPrice} → DayPriceIs (outcome (recordsLeft b 5) (askIn q then) (then .date)) p
+      → Opened (outcome (recordsLeft b 5) (askIn q ask)) d (record { first = d; last = d; refusal = p .number; currency = p .currency; unit = p .unit })
+  opened-is h = record {
     is =
-        (λ i. record { first = d; last = d; outcome = record { refusal = h .number i; currency = h .currency i; unit = (toZ-ofZ w64 (p .unit) f ∙ h .unit) i } })
+        (λ i. record { first = d; last = d; outcome = record { refusal = h .number i; currency = h .currency i; unit = h .unit i } })
         ∙ ap (Walk.opened d) same-day;
   }
-
-pub longer-is : (run : Run) (d : ℕ) → SFits w64 (run .unit) → Longer run d (record { first = run .first; last = d; refusal = run .refusal; currency = run .currency; unit = toZ w64 (ofZ w64 (run .unit)) })
-longer-is run d f = record { is = λ i. record { first = run .first; last = d; outcome = record { refusal = run .refusal; currency = asStretch run .outcome .currency; unit = toZ-ofZ w64 (run .unit) f i } } }
 
 -- ---- the turn
 

@@ -16,10 +16,10 @@ use Rattle.stretches.specs.declared.runs.Runs.{Runs}
 
 -- the definition's stretch
 abbrev pub asStretch : Run → Stretch
-asStretch r = record { first = r .first; last = r .last; outcome = record { refusal = r .refusal; currency = lettersOf (r .currency); unit = r .unit } }
+asStretch r = record { first = r .first; last = r .last; outcome = record { refusal = r .refusal; currency = lettersOf (r .currency); unit = r .unit .0 } }
 
 abbrev pub noRun : Run
-noRun = record { first = 0; last = 0; refusal = 0; currency = record { 0 = 0; 1 = 0; 2 = 0 }; unit = pos 0 }
+noRun = record { first = 0; last = 0; refusal = 0; currency = record { 0 = 0; 1 = 0; 2 = 0 }; unit = record { 0 = pos 0 } }
 
 -- ---- a day more
 

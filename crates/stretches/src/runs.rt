@@ -4,6 +4,7 @@ use crate::turns::opened;
 use crate::turns::turn;
 use choice::span::Window;
 use question::Ask;
+use rules::Cents;
 use rules::Currency;
 ghost use Rattle.rules.specs.Calendar.{outcome, stretches};
 ghost use Rattle.book.specs.Records.{recordsLeft};
@@ -23,7 +24,7 @@ pub const NO_RUN: Run = Run {
     last: 0,
     refusal: 0,
     currency: Currency(0, 0, 0),
-    unit: 0,
+    unit: Cents(0),
 };
 
 // The stretch in hand is the last of the list.

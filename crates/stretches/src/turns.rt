@@ -2,6 +2,7 @@
 use choice::span::Window;
 use price::day::day_price;
 use question::Ask;
+use rules::Cents;
 use rules::Currency;
 ghost use Rattle.rules.specs.Calendar.{outcome, sameOutcome};
 ghost use Rattle.layout.specs.Ensures.{Says};
@@ -17,7 +18,7 @@ pub struct Run {
     pub last: u32,
     pub refusal: u8,
     pub currency: Currency,
-    pub unit: i64,
+    pub unit: Cents,
 }
 
 // The stretch in hand after a day; `fresh` is 1 if it begins on that day, else 0.
@@ -31,7 +32,8 @@ fn same_outcome(a: Run, b: Run) -> bool
 {
     let x = a.currency;
     let y = b.currency;
-    (a.refusal == b.refusal) & ((x.0 == y.0) & ((x.1 == y.1) & (x.2 == y.2)) & (a.unit == b.unit))
+    (a.refusal == b.refusal)
+        & ((x.0 == y.0) & ((x.1 == y.1) & (x.2 == y.2)) & (a.unit.0 == b.unit.0))
 }
 
 // The same question on another day.
@@ -61,12 +63,13 @@ pub fn opened(b: &[u8], w: Window, q: &[u8], ask: Ask, d: u32) -> Run
 {
     let price = day_price(b, w, q, ask_on(ask, d));
     let currency = price.currency;
+    let unit = price.unit;
     Run {
         first: d,
         last: d,
         refusal: price.number,
         currency,
-        unit: price.unit,
+        unit,
     }
 }
 
@@ -74,12 +77,13 @@ fn longer(run: Run, d: u32) -> Run
     ensures { λ r. ⌜ Longer run d r ⌝ }
 {
     let currency = run.currency;
+    let unit = run.unit;
     Run {
         first: run.first,
         last: d,
         refusal: run.refusal,
         currency,
-        unit: run.unit,
+        unit,
     }
 }
 

@@ -3,9 +3,6 @@ use Prim.Native.Nat.{_-_}
 use mathlib.Core.Path.{sym, _∙_}
 use native.Mathlib.Omega.{arith}
 use borrow.Author.Needs.{needs}
-use mir.ValLaws.{toZ-ofZ}
-use Rattle.integers.proofs.Signed.{within64}
-use Rattle.lines.specs.Contracts.{mostAmount}
 use Rattle.lines.proofs.AmountLaws.{Listing, can-add, list-start, list-end, list-line, list-out, list-again}
 use Rattle.lines.proofs.list_amounts.Statement.{statement}
 use Rattle.lines.proofs.list_amounts.Tie as tie
@@ -36,13 +33,12 @@ returns c =
 
 loop-again : tie.Need-loop-again Inv-loop μ-loop
 loop-again c =
-    let next = c .before .before .before .before in
+    let next = c .before .before .before in
     let added = next .before .before in
     let amount = added .before in
     let l = amount .before .before .before in
     let r = amount .amount-of .result in
-    simp (toZ-ofZ, within64 (r .0) mostAmount (amount .amount-of .ensures .near) tt)
-    (list-again _ _ _ _ _ _ (l .loop .inv) (omega arith) r (amount .amount-of .ensures) (next .next .given .0 .0) (sym (added .add-line .ensures) ∙ next .next .given .1) _ (c .before .either .ensures))
+    list-again _ _ _ _ _ _ (l .loop .inv) (omega arith) r (amount .amount-of .ensures) (next .next .given .0 .0) (sym (added .add-line .ensures) ∙ next .next .given .1) _ (c .either .ensures)
 
 returns-2 : tie.Need-returns-2 Inv-loop μ-loop
 returns-2 c = list-end _ _ _ _ _ _ (c .before .loop .inv) (omega arith)

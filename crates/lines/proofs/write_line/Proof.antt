@@ -1,5 +1,7 @@
 -- `lines::write_line` meets its contract: three fields, one behind the other, by `line-puts`.
 use borrow.Author.Needs.{needs}
+use mir.Syntax.{w64}
+use mir.Val.{SFits}
 use mir.ValLaws.{toZ-ofZ}
 use Rattle.lines.specs.Views.{viewIn}
 use Rattle.lines.proofs.ByteLaws.{line-puts}
@@ -9,11 +11,11 @@ use Rattle.lines.proofs.write_line.Tie as tie
 returns : tie.Need-returns
 returns c =
     let eight = c .before .before in
-    let pair = eight .before .before .before .before in
+    let pair = eight .before .before .before .before .before in
     let four = pair .before .before .before .before in
     let s = four .before .before .before in
-    line-puts (viewIn (s .args .pick)) (s .args .amount) (four .put-four .ensures) (pair .put-pair .ensures)
-    (simp (toZ-ofZ, s .fits .amount) at (eight .put-signed-eight .ensures))
+    line-puts (viewIn (s .args .pick)) (s .args .amount .0) (four .put-four .ensures) (pair .put-pair .ensures)
+    (let fits : SFits w64 (s .args .amount .0) = search needs in simp (toZ-ofZ, fits) at (eight .put-signed-eight .ensures))
 
 pub write-line-spec : {M : Type 1} → statement M
 write-line-spec =

@@ -2,11 +2,6 @@
 use Prim.Native.Nat.{_-_}
 use native.Mathlib.Omega.{arith}
 use borrow.Author.Needs.{needs}
-use lib.IntN.{ℤ, pos}
-use lib.ListN.{getD}
-use mir.ValLaws.{toZ-ofZ}
-use Rattle.integers.proofs.Signed.{within64}
-use Rattle.lines.specs.Contracts.{mostAmount}
 use Rattle.lines.proofs.ByteLaws.{Writing, write-start, write-again, write-end}
 use Rattle.lines.proofs.write_lines.Statement.{statement}
 use Rattle.lines.proofs.write_lines.Tie as tie
@@ -24,9 +19,7 @@ loop-again c =
     let written = c .before .before in
     let l = written .before .before .before .before .before in
     let s = l .before .before in
-    let amount : ℤ = getD (s .args .t3) (l .loop .i) (pos 0) in
-    write-again _ (s .args .t2) (s .args .t3) (s .args .n) _ (l .loop .i) (l .loop .inv) (omega arith)
-    (simp (toZ-ofZ, within64 amount mostAmount (s .pre .each-in (l .loop .i)) tt) at (written .write-line .ensures))
+    write-again _ (s .args .t2) (s .args .t3) (s .args .n) _ (l .loop .i) (l .loop .inv) (omega arith) (written .write-line .ensures)
 
 pub write-lines-spec : {M : Type 1} → statement M
 write-lines-spec =

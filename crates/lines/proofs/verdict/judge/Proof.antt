@@ -1,8 +1,5 @@
 -- `lines::verdict::judge` meets its contract: each way out by its law.
 use borrow.Author.Needs.{needs}
-use mir.ValLaws.{toZ-ofZ}
-use Rattle.rules.specs.Lines.{mostTotal}
-use Rattle.integers.proofs.Signed.{within64}
 use Rattle.lines.proofs.VerdictLaws.{no-base, two-currencies, out-of-range, has-price}
 use Rattle.lines.proofs.verdict.judge.Statement.{statement}
 use Rattle.lines.proofs.verdict.judge.Tie as tie
@@ -11,12 +8,11 @@ ruleset laws = (needs, no-base, two-currencies, out-of-range, has-price)
 
 returns-4 : tie.Need-returns-4
 returns-4 c =
-    let priced = c .before .before .before in
+    let priced = c .before .before in
     let listed = priced .before .before in
     let asked = listed .before .before in
     let found = asked .before .before .before .before in
-    let is = has-price (found .first-base .ensures) (search needs) (asked .in-one-currency .ensures) (search needs) (listed .list-amounts .ensures) (priced .total .given .1) in
-    simp (toZ-ofZ, within64 (priced .total .given .0 .0 .0) mostTotal (is .unit-in) tt) is
+    has-price (found .first-base .ensures) (search needs) (asked .in-one-currency .ensures) (search needs) (listed .list-amounts .ensures) (priced .total .given .1)
 
 pub judge-spec : {M : Type 1} → statement M
 judge-spec =

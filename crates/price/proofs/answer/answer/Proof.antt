@@ -14,11 +14,11 @@ module _ (s : tie.Start) where
   cast : toZ w64 (s .args .quantity) ≡ pos (s .args .quantity)
   cast = cast64 (s .args .quantity) 100_000 (s .pre .0) tt
 
-  unit-fits : SFits w64 (s .args .v .unit)
-  unit-fits = within64 (s .args .v .unit) 1_000_000_000 (s .pre .1) tt
+  unit-fits : SFits w64 (s .args .v .unit .0)
+  unit-fits = within64 (s .args .v .unit .0) 1_000_000_000 (s .pre .1) tt
 
-  total-fits : SFits w64 (pos (s .args .quantity) *ℤ s .args .v .unit)
-  total-fits = mul64 (pos (s .args .quantity)) (s .args .v .unit) 100_000 1_000_000_000 (s .pre .0) (s .pre .1) tt
+  total-fits : SFits w64 (pos (s .args .quantity) *ℤ s .args .v .unit .0)
+  total-fits = mul64 (pos (s .args .quantity)) (s .args .v .unit .0) 100_000 1_000_000_000 (s .pre .0) (s .pre .1) tt
 
 mul-t9 : tie.Need-mul-t9
 mul-t9 c = let s = c .before .before .before in simp (toZ-ofZ, cast s, unit-fits s) (total-fits s)
