@@ -35,7 +35,7 @@ unit-puts z {a} {b} {at} f p = subst (λ (x : ℤ). Puts a at (signedBytesOf 8 x
 stretch-length : (r : Run) → length (stretchBytes (asStretch r)) ≡ 20
 stretch-length r = refl
 
-pub run-puts : (r : Run) {a b c d e : List ℕ} {at : ℕ} → Puts a at (bytesOf 4 (r .first)) b → Puts b (at + 4) (bytesOf 4 (r .last)) c
+pub run-puts : (r : Run) {a b c d e : List ℕ} {at : ℕ} → Puts a at (bytesOf 4 (r .first .0)) b → Puts b (at + 4) (bytesOf 4 (r .last .0)) c
     → Puts c (at + 8) (r .refusal ∷ r .currency .0 ∷ r .currency .1 ∷ r .currency .2 ∷ []) d → Puts d (at + 12) (signedBytesOf 8 (r .unit .0)) e → Puts a at (stretchBytes (asStretch r)) e
 run-puts r p q s t = puts-then p refl (puts-then q (omega arith) (puts-then s (omega arith) t))
 

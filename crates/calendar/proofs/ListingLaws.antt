@@ -83,7 +83,7 @@ article-there : (o : Option Article) (ss : List Stretch) {b : Bool} → b ≡ is
 article-there none ss e f = absurd (false≢true (sym e ∙ f))
 article-there (some a) ss e f = refl
 
-module _ (b s : List ℕ) (ask : Ask) {end : ℕ} {p : Period} (h : PeriodIs (ask .date) end p) where
+module _ (b s : List ℕ) (ask : Ask) {end : ℕ} {p : Period} (h : PeriodIs (ask .date .0) end p) where
   abbrev listed-within : Result (List Stretch)
   listed-within = within (recordsLeft b 5) (askIn s ask) end
 
@@ -95,7 +95,7 @@ module _ (b s : List ℕ) (ask : Ask) {end : ℕ} {p : Period} (h : PeriodIs (as
   within-9 z r = record { long = r .long; few = r .few; is = rw (h .none-is z) (sym (r .is)) }
 
   module _ (n : p .n ≡ 0 → ⊥) where
-    is-period : periodTo (ask .date) end ≡ some days
+    is-period : periodTo (ask .date .0) end ≡ some days
     is-period = h .some-is (omega arith)
 
     pub within-3 : {k : Surveyed} → SurveyIs b (askIn s ask) k → k .ok ≡ true → k .found ≡ false → {r : Listing} → Refused 3 r → ListingIs listed-within r

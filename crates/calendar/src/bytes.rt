@@ -35,8 +35,8 @@ fn write_run(out: &mut [u8], at: usize, run: Run)
     requires { ⌜ at + 20 ≤ length (now out) ⌝ }
     ensures { λ _. ⌜ Puts (now (out .entry)) at (stretchBytes (asStretch run)) (now (out .exit)) ⌝ }
 {
-    put_four(out, at, run.first);
-    put_four(out, at + 4, run.last);
+    put_four(out, at, run.first.0);
+    put_four(out, at + 4, run.last.0);
     put_currency(out, at + 8, run.refusal, run.currency);
     put_unit(out, at + 12, run);
 }

@@ -31,8 +31,8 @@ pub fn record_at(listing: Listing, i: usize) -> Stretch
     let run = list[i];
     let letters = run.currency;
     Stretch {
-        first: run.first,
-        last: run.last,
+        first: run.first.0,
+        last: run.last.0,
         unit: run.unit.0,
         refusal: run.refusal,
         currency: [letters.0, letters.1, letters.2],

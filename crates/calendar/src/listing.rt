@@ -59,7 +59,7 @@ fn runs_in(book: &[u8], question: &[u8], ask: Ask, window: Window, dates: &[u32]
 // For an accepted book and question.
 fn listing_within(book: &[u8], surveyed: Surveyed, question: &[u8], ask: Ask, end: u32) -> Listing
     requires { ⌜ Asking (now question) ask ⌝ }
-    requires { ⌜ isDay (ask .date) ≡ true ⌝ }
+    requires { ⌜ isDay (ask .date .0) ≡ true ⌝ }
     requires { ⌜ SurveyIs (now book) (askIn (now question) ask) surveyed ⌝ }
     requires { ⌜ surveyed .ok ≡ true ⌝ }
     ensures { λ r. ⌜ ListingIs (within (recordsLeft (now (book .entry)) 5) (askIn (now (question .entry)) ask) end) r ⌝ }

@@ -150,8 +150,8 @@ in-asked none r = refl
 in-asked (some c) r = refl
 
 module _ (t : List ℕ) (row : PriceRow) (at end : ℕ) (q : List ℕ) (ask : Ask) {percent holds : Bool} (p : Says (isPercent (row .value)) percent)
-    (h : Says (isDay (row .from) && (isDay (row .to) && between (row .from) (row .to) (ask .date))) holds) where
-  counts : stands (ask .date) (rowIn t row) ≡ (not (eqb (row .level) 66 && percent) && holds)
+    (h : Says (isDay (row .from) && (isDay (row .to) && between (row .from) (row .to) (ask .date .0))) holds) where
+  counts : stands (ask .date .0) (rowIn t row) ≡ (not (eqb (row .level) 66 && percent) && holds)
   unfolding rowIn
   counts = λ i. not (eqb (row .level) 66 && p .is i) && h .is i
 

@@ -34,7 +34,7 @@ askOn ask d = record {
   article = ask .article;
   sort = ask .sort;
   currency = ask .currency;
-  date = d;
+  date = record { 0 = d };
   quantity = ask .quantity;
   granted = ask .granted;
   conditions = ask .conditions;

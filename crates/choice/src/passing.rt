@@ -3,6 +3,7 @@ use crate::hands::Hand;
 use crate::hands::Passing;
 use crate::slots::level_of;
 use crate::slots::place_of;
+use days::Day;
 use question::Ask;
 use records::is_article;
 use records::is_row_of;
@@ -62,16 +63,16 @@ fn is_percent(value: Value) -> bool
 }
 
 // Whether a row of these dates holds that day. Few do, so whether the dates are days comes last.
-fn holds(from: u32, to: u32, date: u32) -> bool
-    ensures { λ r. ⌜ Says (isDay from && (isDay to && between from to date)) r ⌝ }
+fn holds(from: u32, to: u32, date: Day) -> bool
+    ensures { λ r. ⌜ Says (isDay from && (isDay to && between from to (date .0))) r ⌝ }
 {
-    if date < from {
+    if date.0 < from {
         return false;
     }
-    if to < date {
+    if to < date.0 {
         return false;
     }
-    days::Day::is_day(from) & days::Day::is_day(to)
+    Day::is_day(from) & Day::is_day(to)
 }
 
 // Whether a row is in the asked currency. With three zeros none is asked.

@@ -1,5 +1,5 @@
 -- The marks of a walk over the records are the days of change of the definition.
-use Prim.Native.Nat.{ℕ, _+_, _-_, _≤_, _<_}
+use Prim.Native.Nat.{ℕ, zero, suc, _+_, _-_, _≤_, _<_}
 use mathlib.Core.Path.{_≡_, refl, sym, _∙_, ap, ap₂}
 use mathlib.Core.Bool.{Bool, true, false, _&&_, _||_, and-assoc}
 use mathlib.Core.List.{List, _∷_}
@@ -15,6 +15,7 @@ use Rattle.rules.specs.Layout.{whole}
 use Rattle.rules.specs.Book.{Row, Record, ArticleRecord, PriceRecord, RoundingRecord, PackagingRecord, SchemeRecord, rows}
 use Rattle.rules.specs.BookLayout.{kinded}
 use Rattle.rules.specs.Question.{Question}
+use Rattle.rules.specs.Calendar.{mostDays}
 use Rattle.rules.specs.Changes.{dated, movingRows, daysOfChange, changes, isChange}
 use Rattle.rules.specs.declared.PriceRow.{PriceRow}
 use Rattle.rules.proofs.TestLaws.{or-assoc, or-false, and-right}
@@ -111,12 +112,27 @@ moved false true false r = refl
 moved false false true r = refl
 moved false false false r = refl
 
+none-marked : (n i : ℕ) → getD (replicate n false) i false ≡ false
+none-marked zero i = refl
+none-marked (suc n) zero = refl
+none-marked (suc n) (suc i) = none-marked n i
+
+-- a mark at a day's place is no mark behind the dates
+still-unmarked : {dates : List ℕ} {d j : ℕ} (marks : List Bool) → PlaceIn dates d j → (i : ℕ) → length dates ≤ i → (i ≡ mostDays → ⊥) → getD marks i false ≡ false
+    → getD (set marks j true) i false ≡ false
+still-unmarked {dates} {d} {j} marks p i l n e = getD-set-other marks j i true false (λ x. n (at-end (eqb j mostDays) refl x)) ∙ e
+  where
+    at-end : (t : Bool) → eqb j mostDays ≡ t → i ≡ j → i ≡ mostDays
+    at-end true f x = x ∙ eqb-true j mostDays f
+    at-end false f x = absurd (omega (arith, p .inside (eqb-false j mostDays f)))
+
 module _ (w : List ℕ) (from : ℕ) (q : Question) (dates : List ℕ) where
   pub mark-start : Between w from → Dates dates → Marking w from q dates (replicate 1097 false) from
   mark-start b h = record {
     between = b;
     dates-are = h;
     long = length-replicate 1097 false;
+    unmarked = λ i l n. none-marked 1097 i;
     is = λ i l. ap (λ (x : Bool). x || isChange (recordsLeft w from) q (getD dates i 0)) (getD-replicate 1097 i false false (omega (arith, h .few)));
   }
 
@@ -137,6 +153,7 @@ module _ (w : List ℕ) (from : ℕ) (q : Question) (dates : List ℕ) where
         between = pass-next (inv .between) h stop;
         dates-are = inv .dates-are;
         long = length-set (set marks i true) j true ∙ length-set marks i true ∙ inv .long;
+        unmarked = λ k l n. still-unmarked (set marks i true) second k l n (still-unmarked marks first k l n (inv .unmarked k l n));
         is = λ k l.
             let d : ℕ = getD dates k 0 in
             let rest : Bool = isChange (recordsLeft w end) q d in
@@ -149,9 +166,16 @@ module _ (w : List ℕ) (from : ℕ) (q : Question) (dates : List ℕ) where
             ∙ inv .is k l;
       }
 
-    pub mark-end : length w ≤ at → MarksAre w from q dates marks
+    -- the place that is nobody's is unmarked again
+    pub mark-end : length w ≤ at → MarksAre w from q dates (set marks 1096 false)
     unfolding isChange changes movingRows daysOfChange
     mark-end h = record {
-      long = inv .long;
-      is = λ i l. sym (or-false (getD marks i false)) ∙ ap (λ rs. getD marks i false || isChange rs q (getD dates i 0)) (sym (pass-end (inv .between) h)) ∙ inv .is i l;
+      long = length-set marks 1096 false ∙ inv .long;
+      behind = λ i l. last i l (eqb i mostDays) refl;
+      is = λ i l. getD-set-other marks 1096 i false false (λ x. omega (arith, inv .dates-are .few)) ∙ sym (or-false (getD marks i false)) ∙ ap (λ rs. getD marks i false || isChange rs q (getD dates i 0)) (sym (pass-end (inv .between) h)) ∙ inv .is i l;
     }
+      where
+        last : (i : ℕ) → length dates ≤ i → (t : Bool) → eqb i mostDays ≡ t → getD (set marks 1096 false) i false ≡ false
+        last i l true e =
+            ap (λ (k : ℕ). getD (set marks 1096 false) k false) (eqb-true i mostDays e) ∙ getD-set-same marks 1096 false false (omega (arith, inv .long))
+        last i l false e = getD-set-other marks 1096 i false false (eqb-false i mostDays e) ∙ inv .unmarked i l (eqb-false i mostDays e)

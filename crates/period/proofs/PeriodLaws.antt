@@ -1,13 +1,13 @@
 -- The days of a period by steps: each day written down, until the end is met or there would be too many.
-use Prim.Native.Nat.{ℕ, suc, _+_, _-_, _≤_, _<_}
+use Prim.Native.Nat.{ℕ, zero, suc, _+_, _-_, _≤_, _<_}
 use mathlib.Core.Path.{_≡_, refl, sym, _∙_, ap, subst}
 use mathlib.Core.Bool.{true, false}
 use mathlib.Core.List.{List, [], _∷_, _++_, append-assoc}
 use mathlib.Core.Option.{Option, some, none}
 use native.Mathlib.Omega.{arith}
 use native.Mathlib.Numerals.{add-one}
-use lib.ListN.{length, take, set, length-set}
-use lib.Seq.{take-suc-set}
+use lib.ListN.{length, take, getD, set, replicate, length-set, length-replicate}
+use lib.Seq.{take-suc-set, getD-set-other}
 use borrow.Author.Tests.{eq-eqb, ne-eqb, le-leb, lt-leb}
 use Rattle.rules.specs.Days.{isDay, next, daysTo, also}
 use Rattle.rules.specs.Calendar.{mostDays, periodTo}
@@ -35,22 +35,30 @@ behind-also xs d (some ys) = ap some (sym (append-assoc xs (d ∷ []) ys))
 
 -- ---- the three refusals
 
-module _ {start end : ℕ} {dates : List ℕ} (long : length dates ≡ mostDays) where
-  refused : periodTo start end ≡ none → PeriodIs start end (record { dates = dates; n = 0 })
-  refused e = record { long = long; few = omega arith; none-is = λ z. e; some-is = λ l. absurd (omega arith) }
+zeros : (n i : ℕ) → _≡_ {A = ℕ} (getD (replicate n 0) i 0) 0
+zeros zero i = refl
+zeros (suc n) zero = refl
+zeros (suc n) (suc i) = zeros n i
 
-  pub no-end : {r : _} → r ≡ isDay end → r ≡ false → PeriodIs start end (record { dates = dates; n = 0 })
+module _ {start end : ℕ} where
+  refused : periodTo start end ≡ none → PeriodIs start end (record { dates = replicate 1096 0; n = 0 })
+  refused e = record { long = length-replicate {A = ℕ} 1096 0; few = omega arith; none-is = λ z. e; some-is = λ l. absurd (omega arith); behind = λ i l. zeros 1096 i }
+
+  pub no-end : {r : _} → r ≡ isDay end → r ≡ false → PeriodIs start end (record { dates = replicate 1096 0; n = 0 })
   no-end e f = refused (unfold periodTo in rw (sym e ∙ f))
 
-  pub end-before : end < start → PeriodIs start end (record { dates = dates; n = 0 })
+  pub end-before : end < start → PeriodIs start end (record { dates = replicate 1096 0; n = 0 })
   end-before l = refused (unfold periodTo in rw (lt-leb start end l, and-false (isDay end)))
 
 -- ---- the loop
 
-pub count-start : {start end : ℕ} {dates : List ℕ} {r : _} → length dates ≡ mostDays → isDay start ≡ true → r ≡ isDay end → r ≡ true → start ≤ end
-    → Counting start end dates start 0
-count-start {start} {end} long e f g l =
-    record { end-day = sym f ∙ g; order = l; is-day = e; low = l; most = omega arith; long = long; is = behind-none (daysTo mostDays start end) }
+-- one more is written, and what stands behind it is as it was
+rest-empty : (dates : List ℕ) (n d : ℕ) → ((i : ℕ) → n ≤ i → getD dates i 0 ≡ 0) → (i : ℕ) → n + 1 ≤ i → getD (set dates n d) i 0 ≡ 0
+rest-empty dates n d h i l = getD-set-other dates n i d 0 (λ e. omega arith) ∙ h i (omega arith)
+
+pub count-start : {start end : ℕ} {r : _} → isDay start ≡ true → r ≡ isDay end → r ≡ true → start ≤ end → Counting start end (replicate 1096 0) start 0
+count-start {start} {end} e f g l =
+    record { end-day = sym f ∙ g; order = l; is-day = e; low = l; most = omega arith; long = length-replicate {A = ℕ} 1096 0; empty = λ i z. zeros 1096 i; is = behind-none (daysTo mostDays start end) }
 
 module _ {start end : ℕ} {dates : List ℕ} {d n : ℕ} (w : Counting start end dates d n) where
   period-is : periodTo start end ≡ daysTo mostDays start end
@@ -77,12 +85,13 @@ module _ {start end : ℕ} {dates : List ℕ} {d n : ℕ} (w : Counting start en
           low = subst (λ (x : ℕ). x ≤ end) (sym e) (next-least d end (w .is-day) (w .end-day) before-end);
           most = omega (arith, w .most);
           long = length-set dates n d ∙ w .long;
+          empty = rest-empty dates n d (w .empty);
           is = written (mostDays - (n + 1)) (omega (arith, w .most)) h ∙ ap (λ (x : ℕ). behind (take (n + 1) (set dates n d)) (daysTo (mostDays - (n + 1)) x end)) (sym e);
         }
 
-    pub count-over : n ≡ 1095 → PeriodIs start end (record { dates = dates; n = 0 })
+    pub count-over : n ≡ 1095 → PeriodIs start end (record { dates = replicate 1096 0; n = 0 })
     unfolding daysTo
-    count-over e = refused (w .long) (period-is ∙ written 0 (omega arith) h)
+    count-over e = refused (period-is ∙ written 0 (omega arith) h)
 
   pub count-met : d ≡ end → PeriodIs start end (record { dates = set dates n d; n = n + 1 })
   count-met h =
@@ -95,4 +104,5 @@ module _ {start end : ℕ} {dates : List ℕ} {d n : ℕ} (w : Counting start en
             period-is ∙ w .is
             ∙ ap (behind (take n dates)) (ap (λ (k : ℕ). daysTo k d end) s ∙ days-met (1095 - n) d end h)
             ∙ ap some (sym (ap (λ (k : ℕ). take k (set dates n d)) (add-one n) ∙ take-suc-set dates n d (omega (arith, w .most, w .long))));
+        behind = rest-empty dates n d (w .empty);
       }

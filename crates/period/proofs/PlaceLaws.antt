@@ -124,7 +124,7 @@ module _ {dates : List ℕ} {d : ℕ} {b : Bounds} (w : Narrowing dates d b) whe
 
   module _ (z : b .high ≤ b .low) where
     pub place-found : b .low < length dates → getD dates (b .low) 0 ≡ d → PlaceIn dates d (b .low)
-    place-found l e = record { most = omega (arith, w .dates-are .few); is = λ i h. go i h (decLt i (b .low)) (decLt (b .low) i) }
+    place-found l e = record { most = omega (arith, w .dates-are .few); inside = λ n. l; is = λ i h. go i h (decLt i (b .low)) (decLt (b .low) i) }
       where
         go : (i : ℕ) → i < length dates → Dec (i < b .low) → Dec (b .low < i) → eqb i (b .low) ≡ eqb (getD dates i 0) d
         go i h (yes k) f = ne-eqb i (b .low) (λ x. omega arith) ∙ sym (ne-eqb (getD dates i 0) d (λ x. omega (arith, w .below i k)))
@@ -138,6 +138,7 @@ module _ {dates : List ℕ} {d : ℕ} {b : Bounds} (w : Narrowing dates d b) whe
     missing n =
         record {
           most = omega arith;
+          inside = λ x. absurd (x refl);
           is = λ i h. ne-eqb i mostDays (λ x. omega (arith, w .dates-are .few)) ∙ sym (ne-eqb (getD dates i 0) d (n i h));
         }
 

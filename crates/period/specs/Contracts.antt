@@ -4,17 +4,18 @@ use mathlib.Core.Path.{_≡_}
 use mathlib.Core.Bool.{true}
 use mathlib.Core.List.{List, _++_}
 use mathlib.Core.Option.{Option, some, none}
-use lib.ListN.{length, take}
+use lib.ListN.{length, take, getD}
 use Rattle.rules.specs.Days.{isDay, daysTo}
 use Rattle.rules.specs.Calendar.{periodTo, mostDays}
 use Rattle.period.specs.declared.Period.{Period}
 
--- `r` has the days of the period, or none where it is refused
+-- `r` has the days of the period, or none where it is refused; behind them stand zeros
 pub record PeriodIs (start end : ℕ) (r : Period) : Type 0 where
   pub long : length (r .dates) ≡ mostDays
   pub few : r .n ≤ mostDays
   pub none-is : r .n ≡ 0 → periodTo start end ≡ none
   pub some-is : 0 < r .n → periodTo start end ≡ some (take (r .n) (r .dates))
+  pub behind : (i : ℕ) → r .n ≤ i → getD (r .dates) i 0 ≡ 0
 
 -- days, and then others
 abbrev pub behind : List ℕ → Option (List ℕ) → Option (List ℕ)
@@ -29,4 +30,5 @@ pub record Counting (start end : ℕ) (dates : List ℕ) (d n : ℕ) : Type 0 wh
   pub low : d ≤ end
   pub most : n < mostDays
   pub long : length dates ≡ mostDays
+  pub empty : (i : ℕ) → n ≤ i → getD dates i 0 ≡ 0
   pub is : daysTo mostDays start end ≡ behind (take n dates) (daysTo (mostDays - n) d end)

@@ -1,5 +1,5 @@
 -- Which days a record changes, and the marks that a walk over the records leaves.
-use Prim.Native.Nat.{ℕ, _<_}
+use Prim.Native.Nat.{ℕ, _≤_, _<_}
 use mathlib.Core.Path.{_≡_}
 use mathlib.Core.Bool.{Bool, true, false, _&&_, _||_}
 use mathlib.Core.List.{List}
@@ -10,6 +10,7 @@ use Rattle.rules.specs.Lists.{consSome}
 use Rattle.rules.specs.Days.{isDay, next}
 use Rattle.rules.specs.Book.{Record}
 use Rattle.rules.specs.Question.{Question}
+use Rattle.rules.specs.Calendar.{mostDays}
 use Rattle.rules.specs.Changes.{isChange}
 use Rattle.book.specs.Records.{recordsLeft}
 use Rattle.book.specs.Ensures.{Between}
@@ -27,15 +28,17 @@ pub record DatesChange (counts : Bool) (from to : ℕ) (r : Change) : Type 0 whe
 pub record RecordChanges (q : Question) (o : Option Record) (r : Change) : Type 0 where
   pub is : (rest : List Record) (d : ℕ) → isDay d ≡ true → isChange (consSome o rest) q d ≡ (changesOn r d || isChange rest q d)
 
--- each date is marked if it is a day of change
+-- each date is marked if it is a day of change, and nothing behind the dates is
 pub record MarksAre (w : List ℕ) (from : ℕ) (q : Question) (dates : List ℕ) (marks : List Bool) : Type 0 where
   pub long : length marks ≡ 1097
   pub is : (i : ℕ) → i < length dates → getD marks i false ≡ isChange (recordsLeft w from) q (getD dates i 0)
+  pub behind : (i : ℕ) → length dates ≤ i → getD marks i false ≡ false
 
 -- by the records before `at`; those from there on are still to come
 pub record Marking (w : List ℕ) (from : ℕ) (q : Question) (dates : List ℕ) (marks : List Bool) (at : ℕ) : Type 0 where
   pub between : Between w at
   pub dates-are : Dates dates
   pub long : length marks ≡ 1097
+  pub unmarked : (i : ℕ) → length dates ≤ i → (i ≡ mostDays → ⊥) → getD marks i false ≡ false
   pub is : (i : ℕ) → i < length dates
       → (getD marks i false || isChange (recordsLeft w at) q (getD dates i 0)) ≡ isChange (recordsLeft w from) q (getD dates i 0)

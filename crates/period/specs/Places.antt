@@ -29,7 +29,8 @@ pub record Narrowed (dates : List ℕ) (d : ℕ) (b r : Bounds) : Type 0 where
   pub narrowing : Narrowing dates d r
   pub less : r .high - r .low < b .high - b .low
 
--- d is the date at `r` and no other
+-- d is the date at `r` and no other; where it is none of them `r` is the place behind all that a period can have
 pub record PlaceIn (dates : List ℕ) (d r : ℕ) : Type 0 where
   pub most : r ≤ mostDays
+  pub inside : (r ≡ mostDays → ⊥) → r < length dates
   pub is : (i : ℕ) → i < length dates → eqb i r ≡ eqb (getD dates i 0) d

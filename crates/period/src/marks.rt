@@ -53,7 +53,8 @@ fn change_of(t: &[u8], q: &[u8], ask: Ask) -> Change
     }
 }
 
-// A mark for each of the dates, in their order. The last one is nobody's: changes that are on none of the dates go there.
+// A mark for each of the dates, in their order. The last one is nobody's: changes that are on none of the dates go there, and in the end
+// it is taken away.
 pub fn marks_of(w: &[u8], from: usize, q: &[u8], ask: Ask, dates: &[u32]) -> [bool; 1097]
     requires { ⌜ Between (now w) from ⌝ }
     requires { ⌜ Asking (now q) ask ⌝ }
@@ -72,5 +73,6 @@ pub fn marks_of(w: &[u8], from: usize, q: &[u8], ask: Ask, dates: &[u32]) -> [bo
         marks[second] = true;
         at = end;
     }
+    marks[1096] = false;
     marks
 }

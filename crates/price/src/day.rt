@@ -23,7 +23,7 @@ pub struct DayPrice {
 pub fn day_price(b: &[u8], w: Window, q: &[u8], ask: Ask) -> DayPrice
     requires { ⌜ Asking (now q) ask ⌝ }
     requires { ⌜ Windows (now b) 5 (askIn (now q) ask) w ⌝ }
-    ensures { λ r. ⌜ DayPriceIs (outcome (recordsLeft (now (b .entry)) 5) (askIn (now (q .entry)) ask) (ask .date)) r ⌝ }
+    ensures { λ r. ⌜ DayPriceIs (outcome (recordsLeft (now (b .entry)) 5) (askIn (now (q .entry)) ask) (ask .date .0)) r ⌝ }
 {
     let picks = picks_within(b, w, q, ask);
     let rows = picks.rows;

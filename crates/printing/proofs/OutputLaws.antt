@@ -64,7 +64,7 @@ module _ {old : List ℕ} {r : Runs} where
         record {
           place = omega arith;
           printable = w .printable;
-          short = omega (arith, w .short, p .end, line-short (run .first) (run .last) (run .refusal) (run .currency) (run .unit .0));
+          short = omega (arith, w .short, p .end, line-short (run .first .0) (run .last .0) (run .refusal) (run .currency) (run .unit .0));
           so-far = subst (λ (bs : List ℕ). Prints old 0 bs new end)
               (sym (ap (λ (ss : List Stretch). join (map stretchText ss)) (taken h) ∙ ap join (map-append stretchText (take i (stretchesIn r)) (asStretch run)) ∙ join-append (map stretchText (take i (stretchesIn r))) (stretchText (asStretch run))))
               (prints-then (w .so-far) p);

@@ -1,6 +1,7 @@
 // A stretch on a line of its own.
 use crate::decimal::put_digits;
 use crate::decimal::put_signed;
+use days::Day;
 use rules::Cents;
 use rules::Currency;
 ghost use Prim.Native.Nat.{_+_, _≤_, _<_};
@@ -54,18 +55,18 @@ fn put_word(out: &mut [u8], at: usize, word: Currency) -> usize
 pub fn put_stretch(
     out: &mut [u8],
     at: usize,
-    first: u32,
-    last: u32,
+    first: Day,
+    last: Day,
     refusal: u8,
     currency: Currency,
     unit: Cents,
 ) -> usize
     requires { ⌜ at + 89 ≤ length (now out) ⌝ }
-    ensures { λ r. ⌜ Prints (now (out .entry)) at (stretchText (stretchOf first last refusal currency (unit .0))) (now (out .exit)) r ⌝ }
+    ensures { λ r. ⌜ Prints (now (out .entry)) at (stretchText (stretchOf (first .0) (last .0) refusal currency (unit .0))) (now (out .exit)) r ⌝ }
 {
     let word = word_of(refusal, currency);
-    let a = put_number(out, at, first as u64);
-    let b = put_number(out, a, last as u64);
+    let a = put_number(out, at, first.0 as u64);
+    let b = put_number(out, a, last.0 as u64);
     let c = put_number(out, b, refusal as u64);
     let d = put_word(out, c, word);
     let e = put_signed(out, d, unit.0);

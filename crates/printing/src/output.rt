@@ -29,9 +29,11 @@ fn put_run(out: &mut [u8], at: usize, run: Run) -> usize
     requires { ⌜ at + 89 ≤ length (now out) ⌝ }
     ensures { λ r. ⌜ Prints (now (out .entry)) at (stretchText (asStretch run)) (now (out .exit)) r ⌝ }
 {
+    let first = run.first;
+    let last = run.last;
     let currency = run.currency;
     let unit = run.unit;
-    put_stretch(out, at, run.first, run.last, run.refusal, currency, unit)
+    put_stretch(out, at, first, last, run.refusal, currency, unit)
 }
 
 // Each stretch on its line.

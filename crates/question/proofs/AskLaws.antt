@@ -103,7 +103,7 @@ module _ {s : List ℕ} {a g : ℕ} (p : AskAt s a g) where
         article = record { at = 6; size = a - 6 };
         sort = getD s a 0;
         currency = record { 0 = getD s (a + 1) 0; 1 = getD s (a + 2) 0; 2 = getD s (a + 3) 0 };
-        date = date;
+        date = record { 0 = date };
         quantity = quantity;
         granted = a + 12 + 1;
         conditions = conditions;

@@ -56,7 +56,7 @@ askIn s r = record {
   article = take (r .article .size) (drop (r .article .at) s);
   sort = r .sort;
   currency = askedOf (lettersOf (r .currency));
-  date = r .date;
+  date = r .date .0;
   quantity = r .quantity;
   granted = namesAt s (r .granted) (r .conditions);
   properties = propertiesAt s (r .properties) (r .count);
@@ -70,7 +70,7 @@ pub record AskIs (s : List ℕ) (r : Ask) : Type 0 where
   pub inside : r .article .at + r .article .size ≤ length s
   pub sort : any (eqb (r .sort)) (sale ∷ purchase ∷ []) ≡ true
   pub currency : currencyOk (lettersOf (r .currency)) ≡ true
-  pub day : isDay (r .date) ≡ true
+  pub day : isDay (r .date .0) ≡ true
   pub least : 1 ≤ r .quantity
   pub most : r .quantity ≤ 100000
   pub conditions : r .conditions ≤ 32

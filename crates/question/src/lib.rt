@@ -5,6 +5,7 @@ pub mod properties;
 use crate::names::granted_end;
 use crate::names::names_stop;
 use crate::properties::properties_end;
+use days::Day;
 use layout::names::name_end;
 use layout::numbers::four_at;
 use layout::numbers::is_capital;
@@ -28,7 +29,7 @@ pub struct Ask {
     pub article: rules::Part,
     pub sort: u8,
     pub currency: rules::Currency,
-    pub date: u32,
+    pub date: Day,
     pub quantity: u32,
     pub granted: usize,
     pub conditions: usize,
@@ -61,7 +62,7 @@ fn terms_ok(s: &[u8], a: usize) -> bool
     let quantity = four_at(s, a + 8);
     is_either(s[a], b'S', b'P')
         & currency_ok(s[a + 1], s[a + 2], s[a + 3])
-        & days::Day::is_day(date as u32)
+        & Day::is_day(date as u32)
         & (1 <= quantity)
         & (quantity <= 100000)
 }
@@ -101,7 +102,7 @@ fn ask_from(s: &[u8], a: usize, g: usize) -> Ask
         article,
         sort: s[a],
         currency,
-        date: four_at(s, a + 4) as u32,
+        date: Day(four_at(s, a + 4) as u32),
         quantity: four_at(s, a + 8) as u32,
         granted: a + 12 + 1,
         conditions: wide(s[a + 12]),

@@ -70,12 +70,12 @@ module _ (b q : List ℕ) {ask : Ask} {d : ℕ} {then : Ask} (a : AskedOn ask d 
   pub window-then : {w : Window} → Windows b 5 (askIn q ask) w → Windows b 5 (askIn q then) w
   window-then {w} h = subst (λ (x : Question). Windows b 5 x w) (sym asked-is) (window-on h d)
 
-  same-day : outcome (recordsLeft b 5) (askIn q then) (then .date) ≡ outcome (recordsLeft b 5) (askIn q ask) d
+  same-day : outcome (recordsLeft b 5) (askIn q then) (then .date .0) ≡ outcome (recordsLeft b 5) (askIn q ask) d
   unfolding outcome on
-  same-day = λ i. outcome (recordsLeft b 5) (asked-is i) (a .is i .date)
+  same-day = λ i. outcome (recordsLeft b 5) (asked-is i) (a .is i .date .0)
 
-  pub opened-is : {p : DayPrice} → DayPriceIs (outcome (recordsLeft b 5) (askIn q then) (then .date)) p
-      → Opened (outcome (recordsLeft b 5) (askIn q ask)) d (record { first = d; last = d; refusal = p .number; currency = p .currency; unit = p .unit })
+  pub opened-is : {p : DayPrice} → DayPriceIs (outcome (recordsLeft b 5) (askIn q then) (then .date .0)) p
+      → Opened (outcome (recordsLeft b 5) (askIn q ask)) d (record { first = record { 0 = d }; last = record { 0 = d }; refusal = p .number; currency = p .currency; unit = p .unit })
   opened-is h = record {
     is =
         (λ i. record { first = d; last = d; outcome = record { refusal = h .number i; currency = h .currency i; unit = h .unit i } })
@@ -89,7 +89,7 @@ module _ {f : ℕ → Outcome} {run : Run} {d : ℕ} where
   unfolding Walk.turned
   grown l e =
       let s : sameOutcome (asStretch run .outcome) (f d) ≡ true = same-outcome (asStretch run .outcome) (f d) e in
-      record { most = omega arith; fresh = rw s; is = rw s (l .is ∙ (λ i. record { first = run .first; last = d; outcome = e i })) }
+      record { most = omega arith; fresh = rw s; is = rw s (l .is ∙ (λ i. record { first = run .first .0; last = d; outcome = e i })) }
 
   pub turned-quiet : {due : Bool} {r : Run} → Steady f run d due → due ≡ false → Longer run d r → Turned f run d (record { run = r; fresh = 0 })
   turned-quiet s e l = grown l (s .stays e)

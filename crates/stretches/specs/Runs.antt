@@ -16,10 +16,10 @@ use Rattle.stretches.specs.declared.runs.Runs.{Runs}
 
 -- the definition's stretch
 abbrev pub asStretch : Run → Stretch
-asStretch r = record { first = r .first; last = r .last; outcome = record { refusal = r .refusal; currency = lettersOf (r .currency); unit = r .unit .0 } }
+asStretch r = record { first = r .first .0; last = r .last .0; outcome = record { refusal = r .refusal; currency = lettersOf (r .currency); unit = r .unit .0 } }
 
 abbrev pub noRun : Run
-noRun = record { first = 0; last = 0; refusal = 0; currency = record { 0 = 0; 1 = 0; 2 = 0 }; unit = record { 0 = pos 0 } }
+noRun = record { first = record { 0 = 0 }; last = record { 0 = 0 }; refusal = 0; currency = record { 0 = 0; 1 = 0; 2 = 0 }; unit = record { 0 = pos 0 } }
 
 -- ---- a day more
 
@@ -33,7 +33,7 @@ pub record Opened (f : ℕ → Outcome) (d : ℕ) (r : Run) : Type 0 where
 
 -- `r` is the stretch grown to the day d
 pub record Longer (run : Run) (d : ℕ) (r : Run) : Type 0 where
-  pub is : asStretch r ≡ record { first = run .first; last = d; outcome = asStretch run .outcome }
+  pub is : asStretch r ≡ record { first = run .first .0; last = d; outcome = asStretch run .outcome }
 
 -- a day that is not due has the outcome in hand
 pub record Steady (f : ℕ → Outcome) (run : Run) (d : ℕ) (due : Bool) : Type 0 where

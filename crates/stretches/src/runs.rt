@@ -3,6 +3,7 @@ use crate::turns::Run;
 use crate::turns::opened;
 use crate::turns::turn;
 use choice::span::Window;
+use days::Day;
 use question::Ask;
 use rules::Cents;
 use rules::Currency;
@@ -20,8 +21,8 @@ pub struct Runs {
 }
 
 pub const NO_RUN: Run = Run {
-    first: 0,
-    last: 0,
+    first: Day(0),
+    last: Day(0),
     refusal: 0,
     currency: Currency(0, 0, 0),
     unit: Cents(0),
@@ -35,11 +36,11 @@ pub fn runs_of(b: &[u8], w: Window, q: &[u8], ask: Ask, dates: &[u32], marks: [b
     ensures { λ r. ⌜ RunsAre (stretches (outcome (recordsLeft (now (b .entry)) 5) (askIn (now (q .entry)) ask)) (now (dates .entry))) r ⌝ }
 {
     let mut list = [NO_RUN; 1096];
-    list[0] = opened(b, w, q, ask, dates[0]);
+    list[0] = opened(b, w, q, ask, Day(dates[0]));
     let mut n = 0;
     let mut i = 1;
     while i < dates.len() {
-        let t = turn(b, w, q, ask, list[n], dates[i], marks[i]);
+        let t = turn(b, w, q, ask, list[n], Day(dates[i]), marks[i]);
         let run = t.run;
         n = n + t.fresh;
         list[n] = run;

@@ -1,5 +1,6 @@
 // The stretch in hand, and what a day makes of it: it grows by that day, or another stretch begins.
 use choice::span::Window;
+use days::Day;
 use price::day::day_price;
 use question::Ask;
 use rules::Cents;
@@ -14,8 +15,8 @@ ghost use Rattle.stretches.specs.Runs.{asStretch, AskedOn, Opened, Longe
 
 // Days in a row with one outcome.
 pub struct Run {
-    pub first: u32,
-    pub last: u32,
+    pub first: Day,
+    pub last: Day,
     pub refusal: u8,
     pub currency: Currency,
     pub unit: Cents,
@@ -37,8 +38,8 @@ fn same_outcome(a: Run, b: Run) -> bool
 }
 
 // The same question on another day.
-fn ask_on(ask: Ask, d: u32) -> Ask
-    ensures { λ r. ⌜ AskedOn ask d r ⌝ }
+fn ask_on(ask: Ask, d: Day) -> Ask
+    ensures { λ r. ⌜ AskedOn ask (d .0) r ⌝ }
 {
     let article = ask.article;
     let currency = ask.currency;
@@ -56,10 +57,10 @@ fn ask_on(ask: Ask, d: u32) -> Ask
 }
 
 // A stretch that begins: the day is priced.
-pub fn opened(b: &[u8], w: Window, q: &[u8], ask: Ask, d: u32) -> Run
+pub fn opened(b: &[u8], w: Window, q: &[u8], ask: Ask, d: Day) -> Run
     requires { ⌜ Asking (now q) ask ⌝ }
     requires { ⌜ Windows (now b) 5 (askIn (now q) ask) w ⌝ }
-    ensures { λ r. ⌜ Opened (outcome (recordsLeft (now (b .entry)) 5) (askIn (now (q .entry)) ask)) d r ⌝ }
+    ensures { λ r. ⌜ Opened (outcome (recordsLeft (now (b .entry)) 5) (askIn (now (q .entry)) ask)) (d .0) r ⌝ }
 {
     let price = day_price(b, w, q, ask_on(ask, d));
     let currency = price.currency;
@@ -73,13 +74,14 @@ pub fn opened(b: &[u8], w: Window, q: &[u8], ask: Ask, d: u32) -> Run
     }
 }
 
-fn longer(run: Run, d: u32) -> Run
-    ensures { λ r. ⌜ Longer run d r ⌝ }
+fn longer(run: Run, d: Day) -> Run
+    ensures { λ r. ⌜ Longer run (d .0) r ⌝ }
 {
+    let first = run.first;
     let currency = run.currency;
     let unit = run.unit;
     Run {
-        first: run.first,
+        first,
         last: d,
         refusal: run.refusal,
         currency,
@@ -88,11 +90,11 @@ fn longer(run: Run, d: u32) -> Run
 }
 
 // One day more. Only a day of change is priced; on any other the outcome stays.
-pub fn turn(b: &[u8], w: Window, q: &[u8], ask: Ask, run: Run, d: u32, due: bool) -> Turning
+pub fn turn(b: &[u8], w: Window, q: &[u8], ask: Ask, run: Run, d: Day, due: bool) -> Turning
     requires { ⌜ Asking (now q) ask ⌝ }
     requires { ⌜ Windows (now b) 5 (askIn (now q) ask) w ⌝ }
-    requires { ⌜ Steady (outcome (recordsLeft (now b) 5) (askIn (now q) ask)) run d due ⌝ }
-    ensures { λ r. ⌜ Turned (outcome (recordsLeft (now (b .entry)) 5) (askIn (now (q .entry)) ask)) run d r ⌝ }
+    requires { ⌜ Steady (outcome (recordsLeft (now b) 5) (askIn (now q) ask)) run (d .0) due ⌝ }
+    ensures { λ r. ⌜ Turned (outcome (recordsLeft (now (b .entry)) 5) (askIn (now (q .entry)) ask)) run (d .0) r ⌝ }
 {
     if due {
         let new = opened(b, w, q, ask, d);

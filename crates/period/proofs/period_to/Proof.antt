@@ -9,10 +9,10 @@ use Rattle.period.proofs.period_to.Tie as tie
 ruleset laws = (needs, no-end, end-before, count-start, count-turn, count-over, count-met)
 
 abbrev Inv-loop : tie.InvT-loop
-Inv-loop start end dates₀ d₀ n₀ dates d n = Counting start end dates d n
+Inv-loop end dates₀ start n₀ dates d n = Counting (start .0) end dates (d .0) n
 
 abbrev μ-loop : tie.MeasureT-loop
-μ-loop start end dates₀ d₀ n₀ dates d n = 1096 - n
+μ-loop end dates₀ start n₀ dates d n = 1096 - n
 
 pub period-to-spec : {M : Type 1} → statement M
 period-to-spec =

@@ -36,4 +36,5 @@ marks-of-spec =
     (λ c. search needs)  -- array-write-marks-2
     (λ c. search laws)  -- loop-less
     (λ c. search laws)  -- loop-again
+    (λ c. search needs)  -- array-write-marks-3
     (λ c. search laws))  -- returns

@@ -13,36 +13,36 @@ unit-fits s = search needs
 
 put-number-requires-2 : tie.Need-put-number-requires-2
 put-number-requires-2 c κs =
-    let first = c .before .before .before in
-    let s = first .before .before .before .before in
-    omega (arith, room₁ (s .args .first) (s .args .last) (s .args .refusal) (s .args .currency) (s .args .unit .0) (s .pre) (first .put-number .ensures))
+    let first = c .before .before .before .before in
+    let s = first .before .before .before .before .before in
+    omega (arith, room₁ (s .args .first .0) (s .args .last .0) (s .args .refusal) (s .args .currency) (s .args .unit .0) (s .pre) (first .put-number .ensures))
 
 put-number-requires-3 : tie.Need-put-number-requires-3
 put-number-requires-3 c κs =
     let last = c .before .before .before in
-    let first = last .before .before .before .before in
-    let s = first .before .before .before .before in
-    omega (arith, room₂ (s .args .first) (s .args .last) (s .args .refusal) (s .args .currency) (s .args .unit .0) (s .pre) (first .put-number .ensures) (last .put-number2 .ensures))
+    let first = last .before .before .before .before .before in
+    let s = first .before .before .before .before .before in
+    omega (arith, room₂ (s .args .first .0) (s .args .last .0) (s .args .refusal) (s .args .currency) (s .args .unit .0) (s .pre) (first .put-number .ensures) (last .put-number2 .ensures))
 
 put-word-requires : tie.Need-put-word-requires
 put-word-requires c κs =
     let refusal = c .before .before .before in
     let last = refusal .before .before .before .before in
-    let first = last .before .before .before .before in
-    let s = first .before .before .before .before in
-    omega (arith, room₃ (s .args .first) (s .args .last) (s .args .refusal) (s .args .currency) (s .args .unit .0) (s .pre) (first .put-number .ensures) (last .put-number2 .ensures) (refusal .put-number3 .ensures))
+    let first = last .before .before .before .before .before in
+    let s = first .before .before .before .before .before in
+    omega (arith, room₃ (s .args .first .0) (s .args .last .0) (s .args .refusal) (s .args .currency) (s .args .unit .0) (s .pre) (first .put-number .ensures) (last .put-number2 .ensures) (refusal .put-number3 .ensures))
 
 put-signed-requires : tie.Need-put-signed-requires
 put-signed-requires c κs =
     let word = c .before .before .before .before in
     let refusal = word .before .before .before .before in
     let last = refusal .before .before .before .before in
-    let first = last .before .before .before .before in
-    let s = first .before .before .before .before in
+    let first = last .before .before .before .before .before in
+    let s = first .before .before .before .before .before in
     omega (
       arith,
-      room₄ (s .args .first) (s .args .last) (s .args .refusal) (s .args .currency) (s .args .unit .0) (s .pre) (first .put-number .ensures) (last .put-number2 .ensures) (refusal .put-number3 .ensures)
-          (first .before .before .word-of .ensures) (word .put-word .ensures),
+      room₄ (s .args .first .0) (s .args .last .0) (s .args .refusal) (s .args .currency) (s .args .unit .0) (s .pre) (first .put-number .ensures) (last .put-number2 .ensures) (refusal .put-number3 .ensures)
+          (first .before .before .before .word-of .ensures) (word .put-word .ensures),
     )
 
 put-byte-requires : tie.Need-put-byte-requires
@@ -51,10 +51,10 @@ put-byte-requires c κs =
     let word = unit .before .before .before .before .before in
     let refusal = word .before .before .before .before in
     let last = refusal .before .before .before .before in
-    let first = last .before .before .before .before in
-    let s = first .before .before .before .before in
-    room₅ (s .args .first) (s .args .last) (s .args .refusal) (s .args .currency) (s .args .unit .0) (s .pre) (first .put-number .ensures) (last .put-number2 .ensures) (refusal .put-number3 .ensures)
-    (first .before .before .word-of .ensures) (word .put-word .ensures) (simp (toZ-ofZ, unit-fits s) at (unit .put-signed .ensures))
+    let first = last .before .before .before .before .before in
+    let s = first .before .before .before .before .before in
+    room₅ (s .args .first .0) (s .args .last .0) (s .args .refusal) (s .args .currency) (s .args .unit .0) (s .pre) (first .put-number .ensures) (last .put-number2 .ensures) (refusal .put-number3 .ensures)
+    (first .before .before .before .word-of .ensures) (word .put-word .ensures) (simp (toZ-ofZ, unit-fits s) at (unit .put-signed .ensures))
 
 returns : tie.Need-returns
 returns c =
@@ -63,17 +63,19 @@ returns c =
     let word = unit .before .before .before .before .before in
     let refusal = word .before .before .before .before in
     let last = refusal .before .before .before .before in
-    let first = last .before .before .before .before in
-    let s = first .before .before .before .before in
-    line-prints (s .args .first) (s .args .last) (s .args .refusal) (s .args .currency) (s .args .unit .0) (s .pre) (first .put-number .ensures) (last .put-number2 .ensures) (refusal .put-number3 .ensures)
-    (first .before .before .word-of .ensures) (word .put-word .ensures) (simp (toZ-ofZ, unit-fits s) at (unit .put-signed .ensures)) (line .put-byte .ensures)
+    let first = last .before .before .before .before .before in
+    let s = first .before .before .before .before .before in
+    line-prints (s .args .first .0) (s .args .last .0) (s .args .refusal) (s .args .currency) (s .args .unit .0) (s .pre) (first .put-number .ensures) (last .put-number2 .ensures) (refusal .put-number3 .ensures)
+    (first .before .before .before .word-of .ensures) (word .put-word .ensures) (simp (toZ-ofZ, unit-fits s) at (unit .put-signed .ensures)) (line .put-byte .ensures)
 
 pub put-stretch-spec : {M : Type 1} → statement M
 put-stretch-spec =
     tie.close
     (tie.spec
     (λ c κs. search needs)  -- word-of-requires
+    (λ c. search needs)  -- cast-put-number
     (λ c κs. search needs)  -- put-number-requires
+    (λ c. search needs)  -- cast-put-number-2
     put-number-requires-2
     put-number-requires-3
     put-word-requires
