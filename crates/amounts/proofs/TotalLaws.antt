@@ -3,11 +3,8 @@ use Prim.Native.Nat.{ℕ, suc, _+_, _≤_, _<_}
 use mathlib.Core.Path.{_≡_, refl, sym, ap, _∙_}
 use mathlib.Core.Bool.{Bool, true, false, _&&_, cond, true≢false}
 use mathlib.Core.List.{List, [], _∷_, _++_}
-use native.Mathlib.Numerals.{add-one}
 use native.Mathlib.Omega.{arith}
 use lib.IntN.{ℤ, pos, negsuc, natAbs, _+ℤ_, +ℤ-idl, +ℤ-idr, +ℤ-assoc}
-use lib.ListN.{take, drop, length, getD, drop-of-length-le}
-use lib.Seq.{drop-cons, getD-take, length-take-le}
 use borrow.Author.Tests.{lt-leb}
 use lib.Signed.{leZ}
 use Rattle.integers.proofs.Signed.{abs-le, abs-parts, sum-parts, le-in, lt-in, leZ-true, leZ-false}
@@ -17,7 +14,7 @@ use Rattle.rules.specs.Lines.{sum, running, mostTotal, totalOf}
 use Rattle.rules.specs.declared.Cents.{Cents}
 use Rattle.rules.specs.declared.Total.{Total}
 use Rattle.rules.specs.declared.Total.the-variants.{InRange, OutOfRange}
-use Rattle.amounts.specs.Contracts.{totalAfter, addTo}
+use Rattle.amounts.specs.Contracts.{totalAfter}
 use Rattle.rules.proofs.RangeLaws.{either-is, either-in, in-either}
 use Rattle.rules.proofs.ListLaws.{All}
 use Rattle.rules.proofs.TestLaws.{and-left, and-right}
@@ -147,72 +144,6 @@ module _ (zs : List ℤ) (c : Cents) (is : totalOf zs ≡ InRange c) where
   pub total-stays : staysInRange (pos 0) zs ≡ true
   unfolding totalOf
   total-stays = by-total (staysInRange (pos 0) zs) (record { 0 = sum zs }) c is .0
-
-by-none : (t : Bool) (d : Cents) → cond t (InRange d) OutOfRange ≡ OutOfRange → t ≡ false
-by-none true d e = absurd (never e)
-by-none false d e = refl
-
--- Where it is out of range, one of them left it.
-pub total-leaves : (zs : List ℤ) → totalOf zs ≡ OutOfRange → staysInRange (pos 0) zs ≡ false
-unfolding totalOf
-total-leaves zs e = by-none (staysInRange (pos 0) zs) (record { 0 = sum zs }) e
-
--- ---- one more line behind those that are added up
-
-from-one : (from z : ℤ) → totalFrom from (z ∷ []) ≡ totalAfter from z
-unfolding totalAfter
-from-one from z = from-cons from z [] ∙ rw (from-end (from +ℤ z))
-
-one-more-by : (from y z : ℤ) (zs : List ℤ) (t : Total) → totalAfter from y ≡ t
-    → ((d : ℤ) → totalFrom d (zs ++ (z ∷ [])) ≡ addTo (totalFrom d zs) z)
-    → totalFrom from (y ∷ (zs ++ (z ∷ []))) ≡ addTo (totalFrom from (y ∷ zs)) z
-unfolding addTo
-one-more-by from y z zs (InRange d) i rest = from-in from y (zs ++ (z ∷ [])) d i ∙ rw (from-in from y zs d i) (rest (d .0))
-one-more-by from y z zs OutOfRange i rest = from-out from y (zs ++ (z ∷ [])) i ∙ rw (from-out from y zs i)
-
-from-one-more : (from z : ℤ) (zs : List ℤ) → totalFrom from (zs ++ (z ∷ [])) ≡ addTo (totalFrom from zs) z
-unfolding addTo
-from-one-more from z [] = from-one from z ∙ rw (from-end from)
-from-one-more from z (y ∷ zs) = one-more-by from y z zs (totalAfter from y) refl (λ d. from-one-more d z zs)
-
-pub total-one-more : (zs : List ℤ) (z : ℤ) → totalOf (zs ++ (z ∷ [])) ≡ addTo (totalOf zs) z
-total-one-more zs z = sym (from-zero (zs ++ (z ∷ []))) ∙ from-one-more (pos 0) z zs ∙ ap (λ (t : Total). addTo t z) (from-zero zs)
-
--- ---- the loop over an array
-
--- before line i: what is left, added to the total so far, gives the whole
-pub record Adding (xs : List ℤ) (n : ℕ) (so-far : ℤ) (i : ℕ) : Type 0 where
-  pub place : i ≤ n
-  pub so-far-in : natAbs so-far ≤ 1_000_000_000
-  pub left : totalFrom so-far (drop i (take n xs)) ≡ totalOf (take n xs)
-
-module _ (xs : List ℤ) (n : ℕ) where
-  pub adding-starts : Adding xs n (pos 0) 0
-  adding-starts = record { place = omega arith; so-far-in = omega arith; left = from-zero (take n xs) }
-
-  module _ (so-far : ℤ) (i : ℕ) (here : Adding xs n so-far i) where
-    pub adding-ends : n ≤ i → n ≤ length xs → InRange (record { 0 = so-far }) ≡ totalOf (take n xs)
-    adding-ends h k =
-        let l : length (take n xs) ≤ i = rw (length-take-le n xs k) h in
-        sym (from-end so-far) ∙ ap (totalFrom so-far) (sym (drop-of-length-le (take n xs) l)) ∙ here .left
-
-    module _ (h : i < n) (k : n ≤ length xs) where
-      next-is : drop i (take n xs) ≡ getD xs i (pos 0) ∷ drop (i + 1) (take n xs)
-      next-is =
-          let l : i < length (take n xs) = rw (length-take-le n xs k) h in
-          drop-cons (take n xs) i (pos 0) l ∙ rw (getD-take n xs i (pos 0) h, add-one)
-
-      pub adding-stops : totalAfter so-far (getD xs i (pos 0)) ≡ OutOfRange → OutOfRange ≡ totalOf (take n xs)
-      adding-stops e =
-          sym (from-out so-far (getD xs i (pos 0)) (drop (i + 1) (take n xs)) e) ∙ ap (totalFrom so-far) (sym next-is) ∙ here .left
-
-      pub adding-goes-on : (c : Cents) → totalAfter so-far (getD xs i (pos 0)) ≡ InRange c → Adding xs n (c .0) (i + 1)
-      adding-goes-on c e =
-          record {
-            place = omega arith;
-            so-far-in = after-in-range so-far (getD xs i (pos 0)) c e;
-            left = sym (from-in so-far (getD xs i (pos 0)) (drop (i + 1) (take n xs)) c e) ∙ ap (totalFrom so-far) (sym next-is) ∙ here .left;
-          }
 
 -- ---- where no total leaves the range, no line is longer than it is wide
 

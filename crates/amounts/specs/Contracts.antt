@@ -2,9 +2,7 @@
 use Prim.Native.Nat.{ℕ, _+_, _<_, _≤_}
 use mathlib.Core.Path.{_≡_}
 use mathlib.Core.Bool.{true, cond}
-use mathlib.Core.List.{List}
-use lib.IntN.{ℤ, pos, natAbs, _+ℤ_}
-use lib.ListN.{getD}
+use lib.IntN.{ℤ, natAbs, _+ℤ_}
 use Rattle.rules.specs.Amounts.{exact, rounded}
 use Rattle.rules.specs.Bytes.{eitherSide}
 use Rattle.rules.specs.BookLayout.{inBounds}
@@ -57,16 +55,6 @@ pub record Addable (total amount : ℤ) : Type 0 where
   pub total-in : natAbs total ≤ 1_000_000_000
   pub amount-in : natAbs amount ≤ 1_000_000_000_003_000_000
 
--- the first n amounts of a list that has room for 99
-pub record Addends (amounts : List ℤ) (n : ℕ) : Type 0 where
-  pub few : n ≤ 99
-  pub each-in : (i : ℕ) → natAbs (getD amounts i (pos 0)) ≤ 1_000_000_000_003_000_000
-
 -- the total after one more line
 unfoldable pub totalAfter : ℤ → ℤ → Total
 totalAfter total amount = cond (eitherSide 1_000_000_000 (total +ℤ amount)) (InRange (record { 0 = total +ℤ amount })) OutOfRange
-
--- the same where lines before it may have left the range: none brings it back
-unfoldable pub addTo : Total → ℤ → Total
-addTo (InRange c) amount = totalAfter (c .0) amount
-addTo OutOfRange amount = OutOfRange

@@ -7,11 +7,9 @@ use rules::Value;
 use rules::Way;
 ghost use mathlib.Core.Path.{_≡_};
 ghost use Prim.Native.Nat.{_<_};
-ghost use lib.ListN.{take};
 ghost use Rattle.integers.specs.Floor.{floor};
 ghost use Rattle.rules.specs.Amounts.{ceiling, nearest, stepsBy};
-ghost use Rattle.rules.specs.Lines.{totalOf};
-ghost use Rattle.amounts.specs.Contracts.{BookValue, ExactAmount, InSteps, Roundable, RoundedCents, Addable, Addends, totalAfter};
+ghost use Rattle.amounts.specs.Contracts.{BookValue, ExactAmount, InSteps, Roundable, RoundedCents, Addable, totalAfter};
 
 // ---- the exact amount
 
@@ -103,22 +101,4 @@ pub fn add_line(total: Cents, amount: Cents) -> Total
     } else {
         Total::OutOfRange
     }
-}
-
-// What the first n amounts come to. The total is tested after each of them, so that a later one does not bring it back, and no sum is too great to hold.
-pub fn add_up(amounts: [i64; 99], n: usize) -> Total
-    requires { ⌜ Addends amounts n ⌝ }
-    ensures { λ r. ⌜ r ≡ totalOf (take n amounts) ⌝ }
-{
-    let mut sum: i64 = 0;
-    let mut i = 0;
-    while i < n {
-        let next = add_line(Cents(sum), Cents(amounts[i]));
-        let Total::InRange(total) = next else {
-            return Total::OutOfRange;
-        };
-        sum = total.0;
-        i += 1;
-    }
-    Total::InRange(Cents(sum))
 }

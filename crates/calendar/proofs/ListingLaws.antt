@@ -6,7 +6,7 @@ use mathlib.Core.List.{List}
 use mathlib.Core.Option.{Option, some, none}
 use native.Mathlib.Omega.{arith}
 use lib.Dec.{eqb}
-use lib.ListN.{length, take, getD}
+use lib.ListN.{length, take, getD, replicate, length-replicate}
 use lib.Seq.{length-take-le}
 use borrow.Author.Tests.{ne-eqb}
 use Rattle.rules.specs.Lists.{any, keep, isSome}
@@ -19,6 +19,7 @@ use Rattle.rules.specs.Calendar.{Stretch, stretches, outcome, periodTo, mostDay
 use Rattle.rules.specs.Changes.{dated, movingRows, daysOfChange, changes, isChange}
 use Rattle.rules.proofs.StaysLaws.{stays-next}
 use Rattle.rules.proofs.CalendarLaws.{period-days, period-end, period-count}
+use Rattle.layout.proofs.StoreLaws.{all-same}
 use Rattle.book.specs.Records.{recordsLeft}
 use Rattle.book.specs.Ensures.{Between}
 use Rattle.book.proofs.WalkLaws.{book-left}
@@ -35,7 +36,7 @@ use Rattle.stretches.specs.declared.runs.Runs.{Runs}
 use Rattle.calendar.specs.declared.listing.Listing.{Listing}
 use Rattle.survey.specs.declared.Surveyed.{Surveyed}
 use Rattle.survey.specs.Survey.{SurveyIs}
-use Rattle.stretches.specs.Runs.{Marked, RunsAre}
+use Rattle.stretches.specs.Runs.{noRun, Marked, RunsAre}
 use Rattle.calendar.specs.Listing.{within, listing, listed, ListingIs, Refused}
 
 -- ---- the marks
@@ -69,8 +70,8 @@ module _ {b : List ℕ} {q : Question} {w : Window} (h : Windows b 5 q w) where
 
 -- ---- refusals
 
-pub refused-is : {number : ℕ} {r : Runs} → 0 < number → length (r .list) ≡ mostDays → r .n ≤ mostDays → Refused number (record { runs = r; number = number })
-refused-is {number} h l f = record { long = l; few = f; is = rw (ne-eqb number 0 (λ e. omega arith)) }
+pub refused-is : {number : ℕ} → 0 < number → Refused number (record { runs = record { list = replicate 1096 noRun; n = 0 }; number = number })
+refused-is {number} h = record { long = length-replicate 1096 noRun; few = omega arith; behind = λ i l. all-same 1096 i noRun; empty = λ z. refl; is = rw (ne-eqb number 0 (λ e. omega arith)) }
 
 -- ---- an accepted book and question
 
@@ -92,7 +93,7 @@ module _ (b s : List ℕ) (ask : Ask) {end : ℕ} {p : Period} (h : PeriodIs (as
 
   pub within-9 : {r : Listing} → p .n ≡ 0 → Refused 9 r → ListingIs listed-within r
   unfolding within
-  within-9 z r = record { long = r .long; few = r .few; is = rw (h .none-is z) (sym (r .is)) }
+  within-9 z r = record { long = r .long; few = r .few; behind = r .behind; empty = r .empty; is = rw (h .none-is z) (sym (r .is)) }
 
   module _ (n : p .n ≡ 0 → ⊥) where
     is-period : periodTo (ask .date .0) end ≡ some days
@@ -100,12 +101,12 @@ module _ (b s : List ℕ) (ask : Ask) {end : ℕ} {p : Period} (h : PeriodIs (as
 
     pub within-3 : {k : Surveyed} → SurveyIs b (askIn s ask) k → k .ok ≡ true → k .found ≡ false → {r : Listing} → Refused 3 r → ListingIs listed-within r
     unfolding within
-    within-3 k t f w = record { long = w .long; few = w .few; is = rw is-period (article-3 (articleOf (recordsLeft b 5) (askIn s ask .article)) (stretches (outcome (recordsLeft b 5) (askIn s ask)) days) (k .found t) f ∙ sym (w .is)) }
+    within-3 k t f w = record { long = w .long; few = w .few; behind = w .behind; empty = w .empty; is = rw is-period (article-3 (articleOf (recordsLeft b 5) (askIn s ask .article)) (stretches (outcome (recordsLeft b 5) (askIn s ask)) days) (k .found t) f ∙ sym (w .is)) }
 
     pub within-done : {k : Surveyed} → SurveyIs b (askIn s ask) k → k .ok ≡ true → k .found ≡ true → {r : Runs} → RunsAre (stretches (outcome (recordsLeft b 5) (askIn s ask)) days) r
         → ListingIs listed-within (record { runs = r; number = 0 })
     unfolding within
-    within-done k t f w = record { long = w .long; few = w .few; is = rw is-period (article-there (articleOf (recordsLeft b 5) (askIn s ask .article)) (stretches (outcome (recordsLeft b 5) (askIn s ask)) days) (k .found t) f ∙ ap done (sym (w .is))) }
+    within-done k t f w = record { long = w .long; few = w .few; behind = w .behind; empty = λ z. absurd (z refl); is = rw is-period (article-there (articleOf (recordsLeft b 5) (askIn s ask .article)) (stretches (outcome (recordsLeft b 5) (askIn s ask)) days) (k .found t) f ∙ ap done (sym (w .is))) }
 
 module _ {start end : ℕ} {p : Period} (h : PeriodIs start end p) where
   pub days-size : p .n ≡ length (take (p .n) (p .dates))
@@ -132,7 +133,7 @@ surveyed-window k t = k .window t
 module _ (b s : List ℕ) (end : ℕ) {x : Bool} (e : x ≡ isSome (records b)) where
   pub listing-1 : x ≡ false → {r : Listing} → Refused 1 r → ListingIs (listing b s end) r
   unfolding listing
-  listing-1 f w = record { long = w .long; few = w .few; is = go (records b) (sym e ∙ f) ∙ sym (w .is) }
+  listing-1 f w = record { long = w .long; few = w .few; behind = w .behind; empty = w .empty; is = go (records b) (sym e ∙ f) ∙ sym (w .is) }
     where
       go : (o : Option (List Record)) → isSome o ≡ false → (orRefuse 1 o >>= λ book. orRefuse 2 (questionOf s) >>= λ q. within book q end) ≡ refused 1
       go none g = refl
@@ -144,7 +145,7 @@ module _ (b s : List ℕ) (end : ℕ) {x : Bool} (e : x ≡ isSome (records b)) 
 
     pub listing-2 : {y : Bool} → y ≡ isSome (questionOf s) → y ≡ false → {r : Listing} → Refused 2 r → ListingIs (listing b s end) r
     unfolding listing
-    listing-2 g k w = record { long = w .long; few = w .few; is = rw book-is (go (questionOf s) (sym g ∙ k) ∙ sym (w .is)) }
+    listing-2 g k w = record { long = w .long; few = w .few; behind = w .behind; empty = w .empty; is = rw book-is (go (questionOf s) (sym g ∙ k) ∙ sym (w .is)) }
       where
         go : (o : Option Question) → isSome o ≡ false → (orRefuse 2 o >>= λ q. within (recordsLeft b 5) q end) ≡ refused 2
         go none g = refl
@@ -152,7 +153,7 @@ module _ (b s : List ℕ) (end : ℕ) {x : Bool} (e : x ≡ isSome (records b)) 
 
     listing-is : {ask : Ask} → AskIs s ask → {r : Listing} → ListingIs (within (recordsLeft b 5) (askIn s ask) end) r → ListingIs (listing b s end) r
     unfolding listing
-    listing-is a w = record { long = w .long; few = w .few; is = rw (book-is, a .is) (w .is) }
+    listing-is a w = record { long = w .long; few = w .few; behind = w .behind; empty = w .empty; is = rw (book-is, a .is) (w .is) }
 
 module _ (b s : List ℕ) (end : ℕ) {ask : Ask} (a : AskIs s ask) {k : Surveyed} (told : SurveyIs b (askIn s ask) k) where
   pub surveyed-1 : k .ok ≡ false → {r : Listing} → Refused 1 r → ListingIs (listing b s end) r

@@ -50,15 +50,20 @@ stretchesIn r = map asStretch (take (r .n) (r .list))
 abbrev pub listed : Listing → Result (List Stretch)
 listed r = cond (eqb (r .number) 0) (done (stretchesIn (r .runs))) (refused (r .number))
 
+-- `r` lists what it should, or refuses; nothing stands behind what is listed
 pub record ListingIs (o : Result (List Stretch)) (r : Listing) : Type 0 where
   pub long : length (r .runs .list) ≡ mostDays
   pub few : r .runs .n ≤ mostDays
+  pub behind : (i : ℕ) → r .runs .n ≤ i → getD (r .runs .list) i noRun ≡ noRun
+  pub empty : (r .number ≡ 0 → ⊥) → r .runs .n ≡ 0
   pub is : o ≡ listed r
 
 -- `r` refuses with this number
 pub record Refused (number : ℕ) (r : Listing) : Type 0 where
   pub long : length (r .runs .list) ≡ mostDays
   pub few : r .runs .n ≤ mostDays
+  pub behind : (i : ℕ) → r .runs .n ≤ i → getD (r .runs .list) i noRun ≡ noRun
+  pub empty : (r .number ≡ 0 → ⊥) → r .runs .n ≡ 0
   pub is : listed r ≡ refused number
 
 -- ---- whether they fit

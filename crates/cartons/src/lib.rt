@@ -1,6 +1,6 @@
 // Packaging data of an article: which packaging records a question uses, what their values come to, and in which units.
-pub mod places;
-pub mod sums;
+mod places;
+mod sums;
 
 use crate::places::Place;
 use crate::places::walk;

@@ -68,10 +68,6 @@ module _ (s : List ℕ) (at : ℕ) where
       → Number (big (take 4 (drop at s))) 4294967296 (x * 65536 + y)
   four-is h p q = record { is = omega (arith, halves 2 2 h); below = omega arith }
 
-  pub eight-is : {x y : ℕ} → at + 8 ≤ length s → Number (big (take 4 (drop at s))) 4294967296 x → Number (big (take 4 (drop (at + 4) s))) 4294967296 y
-      → Number (big (take 8 (drop at s))) 18446744073709551616 (x * 4294967296 + y)
-  eight-is h p q = record { is = omega (arith, halves 4 4 h); below = omega arith }
-
 -- ---- signed numbers
 
 -- as code reads them, by the greatest number of the width

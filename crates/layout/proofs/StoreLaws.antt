@@ -8,7 +8,7 @@ use native.Mathlib.Nat.{add-zero, zero-add, zero-mul, add-suc, suc-add, add-comm
 use lib.Arith.{mod-mul, digits-div, digits-mod}
 use lib.Pow.{pow-add}
 use lib.ListN.{length, take, drop, getD, set, replicate, length-append, length-set, length-replicate, getD-replicate, drop-of-length-le}
-use lib.Seq.{sets, sets-eq, length-sets, take-at, drop-at, drop-cons, length-take-le}
+use lib.Seq.{getD-set-other, sets, sets-eq, length-sets, take-at, drop-at, drop-cons, length-take-le}
 use lib.IntN.{ℤ, pos, negsuc, natAbs, _-ℤ_}
 use lib.Signed.{mag, _≤ℤ_, _<ℤ_}
 use lib.Dec.{ltb}
@@ -20,6 +20,18 @@ use Rattle.rules.specs.Refusals.{over}
 use Rattle.rules.specs.Bytes.{bigFrom, big, bytesOf, twos, signedOf, signedBytesOf}
 use Rattle.layout.specs.Ensures.{Number, FitsSigned, Puts, PutsTo, twosIn}
 use Rattle.layout.proofs.NumberLaws.{digit}
+
+-- ---- what stands behind that which counts
+
+-- one and the same at every place, and behind the last
+pub all-same : {A : Type 0} (n i : ℕ) (x : A) → getD (replicate n x) i x ≡ x
+all-same zero i x = refl
+all-same (suc n) zero x = refl
+all-same (suc n) (suc i) x = all-same n i x
+
+-- a store leaves what stands behind it
+pub behind-store : {A : Type 0} (l : List A) (n : ℕ) (a x : A) → ((i : ℕ) → n < i → getD l i x ≡ x) → (i : ℕ) → n < i → getD (set l n a) i x ≡ x
+behind-store l n a x h i k = getD-set-other l n i a x (λ e. omega arith) ∙ h i k
 
 -- ---- stores, one after the other
 

@@ -6,7 +6,7 @@ ghost use lib.ListN.{length, take, drop};
 ghost use lib.Signed.{mag};
 ghost use Rattle.rules.specs.Lists.{any, between};
 ghost use Rattle.rules.specs.Bytes.{big, signedOf, bytesOf, signedBytesOf, eitherSide};
-ghost use Rattle.layout.specs.Ensures.{Says, Number, SignedNumber, FitsSigned, Puts, signedIn, twosIn};
+ghost use Rattle.layout.specs.Ensures.{Says, Number, SignedNumber, Puts, signedIn, twosIn};
 
 // ---- read
 
@@ -16,7 +16,7 @@ pub fn wide(b: u8) -> usize
     b as usize
 }
 
-// A number of two, four or eight bytes is that of its two halves.
+// A number of four bytes is that of its two halves, as one of two is.
 pub fn two_at(s: &[u8], at: usize) -> usize
     requires { ⌜ at + 2 ≤ length (now s) ⌝ }
     ensures { λ r. ⌜ Number (big (take 2 (drop at (now (s .entry))))) 65536 r ⌝ }
@@ -29,13 +29,6 @@ pub fn four_at(s: &[u8], at: usize) -> usize
     ensures { λ r. ⌜ Number (big (take 4 (drop at (now (s .entry))))) 4294967296 r ⌝ }
 {
     two_at(s, at) * 65536 + two_at(s, at + 2)
-}
-
-fn eight_at(s: &[u8], at: usize) -> usize
-    requires { ⌜ at + 8 ≤ length (now s) ⌝ }
-    ensures { λ r. ⌜ Number (big (take 8 (drop at (now (s .entry))))) 18446744073709551616 r ⌝ }
-{
-    four_at(s, at) * 4294967296 + four_at(s, at + 4)
 }
 
 // The signed number that n stands for, where `top` is the greatest number of its width: the upper half is below zero.
@@ -57,16 +50,9 @@ pub fn signed_four_at(s: &[u8], at: usize) -> i64
     signed_in(four_at(s, at), 4294967295)
 }
 
-pub fn signed_eight_at(s: &[u8], at: usize) -> i64
-    requires { ⌜ at + 8 ≤ length (now s) ⌝ }
-    ensures { λ r. ⌜ SignedNumber (signedOf 8 (big (take 8 (drop at (now (s .entry)))))) 9223372036854775808 r ⌝ }
-{
-    signed_in(eight_at(s, at), 18446744073709551615)
-}
-
 // ---- written
 
-pub fn put_two(out: &mut [u8], at: usize, n: u16)
+fn put_two(out: &mut [u8], at: usize, n: u16)
     requires { ⌜ at + 2 ≤ length (now out) ⌝ }
     ensures { λ _. ⌜ Puts (now (out .entry)) at (bytesOf 2 n) (now (out .exit)) ⌝ }
 {
@@ -100,15 +86,6 @@ fn twos_in(v: i64, top: u64) -> u64
     } else {
         top - ((-1 - v) as u64)
     }
-}
-
-pub fn put_signed_four(out: &mut [u8], at: usize, v: i64)
-    requires { ⌜ at + 4 ≤ length (now out) ⌝ }
-    requires { ⌜ FitsSigned 4 v ⌝ }
-    ensures { λ _. ⌜ Puts (now (out .entry)) at (signedBytesOf 4 v) (now (out .exit)) ⌝ }
-{
-    let n = twos_in(v, 4294967295);
-    put_four(out, at, n as u32);
 }
 
 pub fn put_signed_eight(out: &mut [u8], at: usize, v: i64)

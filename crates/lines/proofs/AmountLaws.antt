@@ -16,6 +16,7 @@ use Rattle.rules.specs.declared.Cents.{Cents}
 use Rattle.rules.specs.declared.Fraction.{Fraction}
 use Rattle.rules.specs.declared.Total.the-variants.{InRange, OutOfRange}
 use Rattle.rules.proofs.ListLaws.{All}
+use Rattle.layout.proofs.StoreLaws.{all-same, behind-store}
 use Rattle.amounts.specs.Contracts.{BookValue, ExactAmount, Roundable, RoundedCents, Addable, totalAfter}
 use Rattle.amounts.proofs.TotalLaws.{totalFrom, from-zero, from-end, from-in, from-out, after-sum, after-in-range}
 use Rattle.lines.specs.declared.Pick.{Pick}
@@ -95,13 +96,8 @@ first-on false false f n e = n refl
 
 -- ---- amounts in bounds
 
-zeros-behind : (n k : ℕ) → getD (replicate n noCents) k noCents ≡ noCents
-zeros-behind zero k = refl
-zeros-behind (suc n) zero = refl
-zeros-behind (suc n) (suc k) = zeros-behind n k
-
 pub zeros-in : (n k : ℕ) → natAbs (getD (replicate n noCents) k noCents .0) ≤ mostAmount
-zeros-in n k = rw (zeros-behind n k) (omega arith)
+zeros-in n k = rw (all-same n k noCents) (omega arith)
 
 stored-in : (l : List Cents) (i : ℕ) (c : Cents) → ((k : ℕ) → natAbs (getD l k noCents .0) ≤ mostAmount) → natAbs (c .0) ≤ mostAmount
     → (k : ℕ) → natAbs (getD (set l i c) k noCents .0) ≤ mostAmount
@@ -110,13 +106,6 @@ stored-in (x ∷ l) zero c h b zero = b
 stored-in (x ∷ l) zero c h b (suc k) = h (suc k)
 stored-in (x ∷ l) (suc i) c h b zero = h zero
 stored-in (x ∷ l) (suc i) c h b (suc k) = stored-in l i c (λ j. h (suc j)) b k
-
-stored-behind : (l : List Cents) (i : ℕ) (c : Cents) → ((k : ℕ) → i ≤ k → getD l k noCents ≡ noCents) → (k : ℕ) → i + 1 ≤ k → getD (set l i c) k noCents ≡ noCents
-stored-behind [] i c h k e = refl
-stored-behind (x ∷ l) zero c h zero e = absurd (omega arith)
-stored-behind (x ∷ l) zero c h (suc k) e = h (suc k) (omega arith)
-stored-behind (x ∷ l) (suc i) c h zero e = absurd (omega arith)
-stored-behind (x ∷ l) (suc i) c h (suc k) e = stored-behind l i c (λ j f. h (suc j) (omega arith)) k (omega arith)
 
 -- the amounts with one more stored behind them
 stored-last : (l : List Cents) (i : ℕ) (c : Cents) → i < length l → amountsIn (set l i c) (i + 1) ≡ amountsIn l i ++ (c .0 ∷ [])
@@ -164,7 +153,7 @@ module _ (picks : List Pick) (n : ℕ) where
         long = k;
         room = refl;
         each-in = zeros-in 99;
-        behind = λ k h. zeros-behind 99 k;
+        behind = λ k h. all-same 99 k noCents;
         base-in = omega arith;
         total-in = omega arith;
         sound = ok .sound;
@@ -203,8 +192,8 @@ module _ (picks : List Pick) (n : ℕ) where
               each-in = zeros-in 99;
               total = out;
               amounts = λ c f. let z : _≡_ {A = ℕ} 0 1 = cc f in absurd (omega arith);
-              behind = λ k f. zeros-behind 99 k;
-              none = λ f. refl;
+              behind = λ k f. all-same 99 k noCents;
+              zeros = λ f. refl;
             }
 
         module _ (after : Cents) (e : totalAfter total (r .0) ≡ InRange after) (base′ : ℤ) (o : OneOfTwo (isBase here) (after .0) base base′) where
@@ -227,7 +216,7 @@ module _ (picks : List Pick) (n : ℕ) where
                 long = inv .long;
                 room = length-set listed i r ∙ inv .room;
                 each-in = stored-in listed i r (inv .each-in) (a .near);
-                behind = stored-behind listed i r (inv .behind);
+                behind = λ k g. behind-store listed i r noCents (λ j f. inv .behind j (omega arith)) k (omega arith);
                 base-in = one-in (isBase here) (after .0) base base′ 1_000_000_000 o (after-in-range total (r .0) after e) (inv .base-in);
                 total-in = after-in-range total (r .0) after e;
                 sound = subst (All Sound) next (inv .sound) .1;
@@ -251,5 +240,5 @@ module _ (picks : List Pick) (n : ℕ) where
           total = sym (from-end total) ∙ ap (totalFrom total) (sym f) ∙ inv .to-add;
           amounts = λ c r. ap (amountsIn listed) (sym e) ∙ sym (append-nil (amountsIn listed i)) ∙ ap (λ zs. amountsIn listed i ++ zs) (sym f) ∙ inv .left;
           behind = λ k g. inv .behind k (omega arith);
-          none = λ g. let z : _≡_ {A = ℕ} 0 1 = cc g in absurd (omega arith);
+          zeros = λ g. let z : _≡_ {A = ℕ} 0 1 = cc g in absurd (omega arith);
         }

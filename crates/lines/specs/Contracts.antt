@@ -72,7 +72,7 @@ pub record ListedIs (picks : List Pick) (n : ℕ) (r : Listed) : Type 0 where
   pub total : r .total ≡ totalOf (amountsOf (viewsIn picks n))
   pub amounts : (c : Cents) → r .total ≡ InRange c → amountsIn (r .amounts) n ≡ amountsOf (viewsIn picks n)
   pub behind : (i : ℕ) → n ≤ i → getD (r .amounts) i noCents ≡ noCents
-  pub none : r .total ≡ OutOfRange → r .amounts ≡ replicate 99 noCents
+  pub zeros : r .total ≡ OutOfRange → r .amounts ≡ replicate 99 noCents
 
 -- ---- bytes
 

@@ -28,15 +28,15 @@ pub struct Pick {
 }
 
 // The amounts of the lines and what they come to, with zeros behind them. Where the total left its range all are zeros.
-pub struct Listed {
-    pub amounts: [Cents; 99],
-    pub total: Total,
+struct Listed {
+    amounts: [Cents; 99],
+    total: Total,
 }
 
 // ---- base and currency
 
 // The place of the first base row among the first n, or n.
-pub fn first_base(picks: [Pick; 99], n: usize) -> usize
+fn first_base(picks: [Pick; 99], n: usize) -> usize
     requires { ⌜ n ≤ 99 ⌝ }
     ensures { λ r. ⌜ FirstBase picks n r ⌝ }
 {
@@ -64,7 +64,7 @@ fn is_in(pick: Pick, c: Currency) -> bool
 }
 
 // Whether each of the first n rows is in the currency c.
-pub fn in_one_currency(picks: [Pick; 99], n: usize, c: Currency) -> bool
+fn in_one_currency(picks: [Pick; 99], n: usize, c: Currency) -> bool
     requires { ⌜ n ≤ 99 ⌝ }
     ensures { λ r. ⌜ Says (oneCurrency (letters c) (viewsIn picks n)) r ⌝ }
 {
@@ -100,7 +100,7 @@ fn amount_of(pick: Pick, base: Cents, total: Cents) -> Cents
 
 // The amounts of the first n rows' lines. Base lines come first, so what they come to is the total behind the last of them.
 // The total is tested behind each line: one that has left its range is not brought back by a later line.
-pub fn list_amounts(picks: [Pick; 99], n: usize) -> Listed
+fn list_amounts(picks: [Pick; 99], n: usize) -> Listed
     requires { ⌜ Listable picks n ⌝ }
     ensures { λ r. ⌜ ListedIs picks n r ⌝ }
 {

@@ -1,5 +1,5 @@
 -- The marks of a walk over the records are the days of change of the definition.
-use Prim.Native.Nat.{ℕ, zero, suc, _+_, _-_, _≤_, _<_}
+use Prim.Native.Nat.{ℕ, _+_, _-_, _≤_, _<_}
 use mathlib.Core.Path.{_≡_, refl, sym, _∙_, ap, ap₂}
 use mathlib.Core.Bool.{Bool, true, false, _&&_, _||_, and-assoc}
 use mathlib.Core.List.{List, _∷_}
@@ -21,6 +21,7 @@ use Rattle.rules.specs.declared.PriceRow.{PriceRow}
 use Rattle.rules.proofs.TestLaws.{or-assoc, or-false, and-right}
 use Rattle.rules.proofs.DayLaws.{day-least}
 use Rattle.layout.specs.Ensures.{Says}
+use Rattle.layout.proofs.StoreLaws.{all-same}
 use Rattle.book.specs.Records.{recordsLeft}
 use Rattle.book.specs.Ensures.{Between, RecordHere, StopIs}
 use Rattle.book.proofs.WalkLaws.{pass-here, pass-less, pass-next, pass-record, pass-end}
@@ -112,11 +113,6 @@ moved false true false r = refl
 moved false false true r = refl
 moved false false false r = refl
 
-none-marked : (n i : ℕ) → getD (replicate n false) i false ≡ false
-none-marked zero i = refl
-none-marked (suc n) zero = refl
-none-marked (suc n) (suc i) = none-marked n i
-
 -- a mark at a day's place is no mark behind the dates
 still-unmarked : {dates : List ℕ} {d j : ℕ} (marks : List Bool) → PlaceIn dates d j → (i : ℕ) → length dates ≤ i → (i ≡ mostDays → ⊥) → getD marks i false ≡ false
     → getD (set marks j true) i false ≡ false
@@ -132,7 +128,7 @@ module _ (w : List ℕ) (from : ℕ) (q : Question) (dates : List ℕ) where
     between = b;
     dates-are = h;
     long = length-replicate 1097 false;
-    unmarked = λ i l n. none-marked 1097 i;
+    unmarked = λ i l n. all-same 1097 i false;
     is = λ i l. ap (λ (x : Bool). x || isChange (recordsLeft w from) q (getD dates i 0)) (getD-replicate 1097 i false false (omega (arith, h .few)));
   }
 

@@ -1,18 +1,19 @@
 -- The days of a period by steps: each day written down, until the end is met or there would be too many.
-use Prim.Native.Nat.{ℕ, zero, suc, _+_, _-_, _≤_, _<_}
+use Prim.Native.Nat.{ℕ, suc, _+_, _-_, _≤_, _<_}
 use mathlib.Core.Path.{_≡_, refl, sym, _∙_, ap, subst}
 use mathlib.Core.Bool.{true, false}
 use mathlib.Core.List.{List, [], _∷_, _++_, append-assoc}
 use mathlib.Core.Option.{Option, some, none}
 use native.Mathlib.Omega.{arith}
 use native.Mathlib.Numerals.{add-one}
-use lib.ListN.{length, take, getD, set, replicate, length-set, length-replicate}
-use lib.Seq.{take-suc-set, getD-set-other}
+use lib.ListN.{length, take, set, replicate, length-set, length-replicate}
+use lib.Seq.{take-suc-set}
 use borrow.Author.Tests.{eq-eqb, ne-eqb, le-leb, lt-leb}
 use Rattle.rules.specs.Days.{isDay, next, daysTo, also}
 use Rattle.rules.specs.Calendar.{mostDays, periodTo}
 use Rattle.rules.proofs.TestLaws.{and-false}
 use Rattle.rules.proofs.DayLaws.{next-least, next-is-day, day-most}
+use Rattle.layout.proofs.StoreLaws.{all-same, behind-store}
 use Rattle.period.specs.Contracts.{PeriodIs, behind, Counting}
 
 -- ---- the definition's days, one at a time
@@ -35,14 +36,9 @@ behind-also xs d (some ys) = ap some (sym (append-assoc xs (d ∷ []) ys))
 
 -- ---- the three refusals
 
-zeros : (n i : ℕ) → _≡_ {A = ℕ} (getD (replicate n 0) i 0) 0
-zeros zero i = refl
-zeros (suc n) zero = refl
-zeros (suc n) (suc i) = zeros n i
-
 module _ {start end : ℕ} where
   refused : periodTo start end ≡ none → PeriodIs start end (record { dates = replicate 1096 0; n = 0 })
-  refused e = record { long = length-replicate {A = ℕ} 1096 0; few = omega arith; none-is = λ z. e; some-is = λ l. absurd (omega arith); behind = λ i l. zeros 1096 i }
+  refused e = record { long = length-replicate {A = ℕ} 1096 0; few = omega arith; none-is = λ z. e; some-is = λ l. absurd (omega arith); behind = λ i l. all-same 1096 i 0 }
 
   pub no-end : {r : _} → r ≡ isDay end → r ≡ false → PeriodIs start end (record { dates = replicate 1096 0; n = 0 })
   no-end e f = refused (unfold periodTo in rw (sym e ∙ f))
@@ -52,13 +48,9 @@ module _ {start end : ℕ} where
 
 -- ---- the loop
 
--- one more is written, and what stands behind it is as it was
-rest-empty : (dates : List ℕ) (n d : ℕ) → ((i : ℕ) → n ≤ i → getD dates i 0 ≡ 0) → (i : ℕ) → n + 1 ≤ i → getD (set dates n d) i 0 ≡ 0
-rest-empty dates n d h i l = getD-set-other dates n i d 0 (λ e. omega arith) ∙ h i (omega arith)
-
 pub count-start : {start end : ℕ} {r : _} → isDay start ≡ true → r ≡ isDay end → r ≡ true → start ≤ end → Counting start end (replicate 1096 0) start 0
 count-start {start} {end} e f g l =
-    record { end-day = sym f ∙ g; order = l; is-day = e; low = l; most = omega arith; long = length-replicate {A = ℕ} 1096 0; empty = λ i z. zeros 1096 i; is = behind-none (daysTo mostDays start end) }
+    record { end-day = sym f ∙ g; order = l; is-day = e; low = l; most = omega arith; long = length-replicate {A = ℕ} 1096 0; empty = λ i z. all-same 1096 i 0; is = behind-none (daysTo mostDays start end) }
 
 module _ {start end : ℕ} {dates : List ℕ} {d n : ℕ} (w : Counting start end dates d n) where
   period-is : periodTo start end ≡ daysTo mostDays start end
@@ -85,7 +77,7 @@ module _ {start end : ℕ} {dates : List ℕ} {d n : ℕ} (w : Counting start en
           low = subst (λ (x : ℕ). x ≤ end) (sym e) (next-least d end (w .is-day) (w .end-day) before-end);
           most = omega (arith, w .most);
           long = length-set dates n d ∙ w .long;
-          empty = rest-empty dates n d (w .empty);
+          empty = λ i l. behind-store dates n d 0 (λ j f. w .empty j (omega arith)) i (omega arith);
           is = written (mostDays - (n + 1)) (omega (arith, w .most)) h ∙ ap (λ (x : ℕ). behind (take (n + 1) (set dates n d)) (daysTo (mostDays - (n + 1)) x end)) (sym e);
         }
 
@@ -104,5 +96,5 @@ module _ {start end : ℕ} {dates : List ℕ} {d n : ℕ} (w : Counting start en
             period-is ∙ w .is
             ∙ ap (behind (take n dates)) (ap (λ (k : ℕ). daysTo k d end) s ∙ days-met (1095 - n) d end h)
             ∙ ap some (sym (ap (λ (k : ℕ). take k (set dates n d)) (add-one n) ∙ take-suc-set dates n d (omega (arith, w .most, w .long))));
-        behind = rest-empty dates n d (w .empty);
+        behind = λ i l. behind-store dates n d 0 (λ j f. w .empty j (omega arith)) i (omega arith);
       }

@@ -1,7 +1,7 @@
 // A set of granted places, 1 to 32, as the bits of a number ("From rows to a total": the granted names that brought no line).
 ghost use Prim.Native.Nat.{_+_, _-_, _^_, _≤_, _<_};
 ghost use mathlib.Core.Path.{_≡_};
-ghost use Rattle.places.specs.PlaceSet.{isIn, Counts};
+ghost use Rattle.places.specs.PlaceSet.{Counts};
 
 // The lowest bit stands for place 1.
 pub struct Places(pub u32);
@@ -15,14 +15,6 @@ impl Places {
         ensures { λ r. ⌜ r .0 ≡ 2 ^ (place - 1) + self .0 ⌝ }
     {
         Places(self.0 | 1u32 << (place - 1))
-    }
-
-    // Whether a place is in the set.
-    pub fn has(self, place: u8) -> bool
-        requires { ⌜ (1 ≤ place) × (place ≤ 32) ⌝ }
-        ensures { λ r. ⌜ r ≡ isIn (self .0) place ⌝ }
-    {
-        (self.0 >> (place - 1)) % 2 == 1
     }
 
     // How many places are in the set.

@@ -13,13 +13,10 @@ use Rattle.book.specs.Records.{recordsLeft}
 use Rattle.lines.specs.declared.Pick.{Pick}
 use Rattle.lines.specs.declared.verdict.Verdict.{Verdict}
 use Rattle.lines.specs.Views.{letters}
-use Rattle.lines.specs.Verdict.{VerdictIs}
+use Rattle.lines.specs.Verdict.{saidOf, VerdictIs}
 use Rattle.price.specs.Picks.{PickedAre}
 use Rattle.price.specs.Day.{DayPriceIs}
 use Rattle.price.proofs.CallLaws.{stand}
-
-abbrev saidOf : Verdict → Outcome
-saidOf v = record { refusal = v .number; currency = letters (v .currency); unit = v .unit .0 }
 
 module _ {b : List ℕ} {q : Question} {picks : List Pick} {n : ℕ} (picked : PickedAre b q picks n) {v : Verdict} (j : VerdictIs picks n v) where
   said : saidOf v ≡ outcome (recordsLeft b 5) q (q .date)

@@ -1,7 +1,7 @@
 // The itemised price of one article.
-pub mod answer;
+mod answer;
 pub mod call;
 pub mod day;
-pub mod numbers;
-pub mod picks;
-pub mod unused;
+mod numbers;
+mod picks;
+mod unused;

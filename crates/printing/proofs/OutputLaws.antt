@@ -6,14 +6,14 @@ use mathlib.Core.List.{List, [], _∷_, _++_, map, append-nil, append-assoc}
 use native.Mathlib.Omega.{arith}
 use native.Mathlib.Numerals.{add-one}
 use lib.Dec.{eqb, leb}
-use lib.ListN.{length, take, drop, getD, length-drop, length-map, List·getD-map}
+use lib.ListN.{length, take, drop, getD, replicate, length-drop, length-map, List·getD-map}
 use lib.Seq.{sets, take-suc, take-all, getD-take, length-take-le, take-at}
 use borrow.Author.Tests.{eq-eqb, ne-eqb, le-leb, lt-leb}
 use Rattle.rules.specs.Lists.{join}
 use Rattle.rules.specs.Letters.{text}
 use Rattle.rules.specs.Calendar.{Stretch, calendar, stretchesBytes, mostDays}
 use Rattle.rules.specs.Program.{digits, decimal, stretchText, ownLength, endOf, asked, printed, output, mostInput}
-use Rattle.rules.specs.Refusals.{Result, done, refused, _>>=_, refuseUnless}
+use Rattle.rules.specs.Refusals.{Result, done, refused, _>>=_, refuseUnless, over}
 use Rattle.layout.proofs.StoreLaws.{puts-of, puts-front}
 use Rattle.stretches.specs.declared.turns.Run.{Run}
 use Rattle.stretches.specs.declared.runs.Runs.{Runs}
@@ -139,7 +139,7 @@ front-size {s} {r} f = sym (length-take-le r s (f .fits))
 module _ (input : List ℕ) where
   pub too-long : mostInput < length input → {l : Listing} → Refused 1 l → ListingIs (asked input) l
   unfolding asked
-  too-long h r = let e : leb (length input) mostInput ≡ false = lt-leb (length input) mostInput h in record { long = r .long; few = r .few; is = rw e (sym (r .is)) }
+  too-long h r = let e : leb (length input) mostInput ≡ false = lt-leb (length input) mostInput h in record { long = r .long; few = r .few; behind = r .behind; empty = r .empty; is = rw e (sym (r .is)) }
 
   module _ (h : length input ≤ mostInput) {b : ℕ} (f : FrontIs input b) {q : ℕ} (g : FrontIs (rest input b) q) {end : ℕ} (e : end ≡ endOf (rest (rest input b) q)) where
     pub asks-listing : {l : Listing} → ListingIs (listing (take b input) (take q (rest input b)) end) l → ListingIs (asked input) l
@@ -154,16 +154,18 @@ module _ (input : List ℕ) where
         record {
           long = i .long;
           few = i .few;
+          behind = i .behind;
+          empty = i .empty;
           is = rw t ((λ j. calendar (sym (f .front) j) (sym question j) (sym last j) (20 * mostDays)) ∙ two-parts stretchesBytes (take b input) (take q (rest input b)) end (20 * mostDays) ∙ whole);
         }
 
 -- ---- all of it
 
-pub output-is : (input : List ℕ) {l : Listing} → ListingIs (asked input) l → {old new : List ℕ} {n : ℕ} → Prints old 0 (listedText l) new n → OutputIs input (record { bytes = new; n = n })
+pub output-is : (input : List ℕ) {l : Listing} → ListingIs (asked input) l → {new : List ℕ} {n : ℕ} → Prints (replicate 97544 0) 0 (listedText l) new n → OutputIs input (record { bytes = new; n = n })
 unfolding output
-output-is input {l} i {old} {new} {n} p =
+output-is input {l} i {new} {n} p =
     let e : n ≡ length (listedText l) = p .end ∙ omega arith in
-    record { is = ap (take n) (puts-front (p .puts)) ∙ take-at (listedText l) _ n (sym e) ∙ ap printed (sym (i .is)); within = omega (arith, p .end, p .puts .room, p .puts .long) }
+    record { all = puts-front (p .puts) ∙ ap (λ (bs : List ℕ). over bs (replicate 97544 0)) (ap printed (sym (i .is))); is = ap (take n) (puts-front (p .puts)) ∙ take-at (listedText l) _ n (sym e) ∙ ap printed (sym (i .is)); within = omega (arith, p .end, p .puts .room, p .puts .long) }
 
 -- so many bytes there are to write
 pub printed-size : {input : List ℕ} {r : Printed} → OutputIs input r → r .n ≡ length (take (r .n) (r .bytes))

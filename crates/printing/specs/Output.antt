@@ -2,8 +2,9 @@
 use Prim.Native.Nat.{ℕ, _*_, _≤_}
 use mathlib.Core.Path.{_≡_}
 use mathlib.Core.List.{List, map}
-use lib.ListN.{length, take}
+use lib.ListN.{length, take, replicate}
 use Rattle.rules.specs.Lists.{join}
+use Rattle.rules.specs.Refusals.{over}
 use Rattle.rules.specs.Calendar.{mostDays}
 use Rattle.rules.specs.Program.{stretchText, printed, output}
 use Rattle.stretches.specs.declared.runs.Runs.{Runs}
@@ -38,7 +39,8 @@ pub record Printing (old : List ℕ) (r : Runs) (out : List ℕ) (at i : ℕ) : 
   pub short : at ≤ 89 * i
   pub so-far : Prints old 0 (join (map stretchText (take i (stretchesIn r)))) out at
 
--- the first n bytes are the program's output
+-- the first n bytes are the program's output, and zeros stand behind them
 pub record OutputIs (input : List ℕ) (r : Printed) : Type 0 where
   pub is : take (r .n) (r .bytes) ≡ output input
   pub within : r .n ≤ length (r .bytes)
+  pub all : r .bytes ≡ over (output input) (replicate 97544 0)

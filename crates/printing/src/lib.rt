@@ -1,5 +1,5 @@
 // What the calendar program prints for the bytes that it reads.
 pub mod decimal;
-pub mod input;
-pub mod lines;
+mod input;
+mod lines;
 pub mod output;

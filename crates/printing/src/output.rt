@@ -19,7 +19,7 @@ ghost use Rattle.calendar.specs.Listing.{ListingIs};
 ghost use Rattle.printing.specs.Contracts.{Prints};
 ghost use Rattle.printing.specs.Output.{linesText, listedText, Few, Printable, OutputIs};
 
-// The first n bytes count. A line takes at most 89, and there are at most 1,096.
+// The first n bytes count; behind them stand zeros. A line takes at most 89, and there are at most 1,096.
 pub struct Printed {
     pub bytes: [u8; 97544],
     pub n: usize,

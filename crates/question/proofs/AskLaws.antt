@@ -1,6 +1,6 @@
 -- An accepted question: where its parts stand, and the question by value.
 use Prim.Native.Nat.{ℕ, _+_, _-_, _≤_, _<_}
-use mathlib.Core.Path.{_≡_, refl, sym, _∙_, subst}
+use mathlib.Core.Path.{_≡_, refl, sym, _∙_, ap, subst}
 use mathlib.Core.Bool.{true, false, false≢true}
 use mathlib.Core.List.{List, [], _∷_}
 use mathlib.Core.Logic.{_⊎_, inl, inr}
@@ -32,7 +32,7 @@ module _ (s : List ℕ) (ok : isSome (questionOf s) ≡ true) where
   not-it e = absurd (false≢true (e ∙ ok))
 
   pub ask-parts : AskAt s (nameStop s 5) (countedStop nameStop s (nameStop s 5 + 12))
-  unfolding questionOf
+  unfolding questionOf countedStop
   ask-parts = long (decLt (length s) 5)
     where
       a : ℕ
@@ -57,6 +57,7 @@ module _ (s : List ℕ) (ok : isSome (questionOf s) ≡ true) where
             terms = and-left (termsOk s a) _ t;
             names = x .2 i;
             properties = y .2 k;
+            names-end = x .1 .stops i;
             is = accepted-is (questionLayout (length s)) (question-reads s h p l (x .1) (y .1)) (omega arith) ok;
           }
 
@@ -119,6 +120,9 @@ module _ {s : List ℕ} {a g : ℕ} (p : AskAt s a g) where
       let b : between 1 100000 quantity ≡ true = rw (q .is) (and-right (isDay (big (take 4 (drop (a + 4) s)))) _ u) in
       record {
         is = p .is ∙ rw (c, d .is, q .is, n .is, k .is);
+        article-at = refl;
+        granted-at = omega (arith, p .low);
+        properties-at = ap (λ (k : ℕ). k + 1) (p .names-end ∙ ap (stopAfter nameStop s (a + 12 + 1)) (sym (n .is)));
         named = omega (arith, p .low);
         short = omega (arith, p .high);
         inside = omega (arith, p .low, p .middle, p .fits);

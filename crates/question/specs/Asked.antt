@@ -13,6 +13,7 @@ use Rattle.rules.specs.Question.{Question, askedOf, questionOf}
 use Rattle.rules.specs.declared.Currency.{Currency}
 use Rattle.layout.specs.Reads.{part, nameStop}
 use Rattle.question.specs.declared.Ask.{Ask}
+use Rattle.question.specs.Counted.{stopAfter}
 use Rattle.question.specs.Parts.{nameAt, propertyAt, propertyStop, namesAt, propertiesAt, NamesStand, PropertiesStand, currencyOk, termsOk, questionAt}
 
 -- the end `r` of the granted name at `at`, which has 1 to 20 bytes
@@ -45,6 +46,7 @@ pub record AskAt (s : List ℕ) (a g : ℕ) : Type 0 where
   pub terms : termsOk s a ≡ true
   pub names : NamesStand s (a + 12 + 1) (getD s (a + 12) 0)
   pub properties : PropertiesStand s (g + 1) (getD s g 0)
+  pub names-end : g ≡ stopAfter nameStop s (a + 12 + 1) (getD s (a + 12) 0)
   pub is : questionOf s ≡ some (questionAt s a g)
 
 abbrev pub lettersOf : Currency → List ℕ
@@ -62,9 +64,12 @@ askIn s r = record {
   properties = propertiesAt s (r .properties) (r .count);
 }
 
--- `r` is the question that s is
+-- `r` is the question that s is, and its places are where the layout has them
 pub record AskIs (s : List ℕ) (r : Ask) : Type 0 where
   pub is : questionOf s ≡ some (askIn s r)
+  pub article-at : r .article .at ≡ 6
+  pub granted-at : r .granted ≡ r .article .at + r .article .size + 13
+  pub properties-at : r .properties ≡ stopAfter nameStop s (r .granted) (r .conditions) + 1
   pub named : 1 ≤ r .article .size
   pub short : r .article .size ≤ 40
   pub inside : r .article .at + r .article .size ≤ length s

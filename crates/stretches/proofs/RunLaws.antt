@@ -5,11 +5,12 @@ use mathlib.Core.Bool.{Bool, true, false, not, cond}
 use mathlib.Core.List.{List, [], _∷_, _++_, map, append-assoc}
 use native.Mathlib.Omega.{arith}
 use native.Mathlib.Numerals.{add-one}
-use lib.ListN.{length, take, drop, getD, set, length-set, drop-of-length-le}
+use lib.ListN.{length, take, drop, getD, set, replicate, length-set, length-replicate, drop-of-length-le}
 use lib.Seq.{take-suc, drop-cons, take-set-le, getD-set-same}
 use Rattle.rules.specs.Lists.{consIf}
 use Rattle.rules.specs.Calendar.{Outcome, Stretch, sameOutcome, stretches, mostDays}
 use Rattle.rules.proofs.WalkLaws as Walk
+use Rattle.layout.proofs.StoreLaws.{all-same, behind-store}
 use Rattle.stretches.specs.declared.turns.Run.{Run}
 use Rattle.stretches.specs.declared.turns.Turning.{Turning}
 use Rattle.stretches.specs.Runs.{asStretch, noRun, Opened, Steady, Turned, Marked, RunsAre, Going}
@@ -23,8 +24,10 @@ front-more : (list : List Run) (n : ℕ) → n < length list → map asStretch (
 front-more list n h = ap (λ (k : ℕ). map asStretch (take k list)) (add-one n) ∙ ap (map asStretch) (take-suc list n noRun h) ∙ map-snoc (take n list) (getD list n noRun)
 
 module _ {f : ℕ → Outcome} {dates : List ℕ} {marks : List Bool} where
-  pub go-start : (list : List Run) {r : Run} → Marked f dates marks → length list ≡ mostDays → Opened f (getD dates 0 0) r → Going f dates marks (set list 0 r) 0 1
-  go-start list {r} m l o =
+  pub go-start : {r : Run} → Marked f dates marks → Opened f (getD dates 0 0) r → Going f dates marks (set (replicate 1096 noRun) 0 r) 0 1
+  go-start {r} m o =
+      let list : List Run = replicate 1096 noRun in
+      let l : length list ≡ mostDays = length-replicate 1096 noRun in
       let here : getD (set list 0 r) 0 noRun ≡ r = getD-set-same list 0 r noRun (omega arith) in
       let begun : asStretch (getD (set list 0 r) 0 noRun) ≡ Walk.opened (getD dates 0 0) (f (getD dates 0 0)) = ap asStretch here ∙ o .is in
       record {
@@ -33,6 +36,7 @@ module _ {f : ℕ → Outcome} {dates : List ℕ} {marks : List Bool} where
         place = omega arith;
         most = m .some-day;
         long = length-set list 0 r ∙ l;
+        behind = behind-store list 0 r noRun (λ i k. all-same 1096 i noRun);
         hand = ap (λ s. s .outcome) begun;
         goes =
             ap (λ s. Walk.walked f s (drop 1 dates)) begun
@@ -92,6 +96,7 @@ module _ {f : ℕ → Outcome} {dates : List ℕ} {marks : List Bool} where
           place = omega (arith, w .most, g .place);
           most = omega arith;
           long = length-set list (n + t .fresh) (t .run) ∙ g .long;
+          behind = behind-store list (n + t .fresh) (t .run) noRun (λ i k. g .behind i (omega arith));
           hand =
               let k : i + 1 - 1 ≡ i = omega arith in
               ap (λ r. asStretch r .outcome) here ∙ ap (λ s. s .outcome) (w .is) ∙ turned-outcome ∙ ap (λ (j : ℕ). f (getD dates j 0)) (sym k);
@@ -115,4 +120,5 @@ module _ {f : ℕ → Outcome} {dates : List ℕ} {marks : List Bool} where
           front-more list n (omega (arith, g .place, g .most, g .long, g .marked .few))
           ∙ ap (λ ds. map asStretch (take n list) ++ Walk.walked f (asStretch run) ds) (sym (drop-of-length-le dates h))
           ∙ g .goes;
+      behind = λ i k. g .behind i (omega arith);
     }

@@ -52,11 +52,12 @@ pub record Marked (f : ℕ → Outcome) (dates : List ℕ) (marks : List Bool) :
   pub few : length dates ≤ mostDays
   pub stays : (i : ℕ) → i + 1 < length dates → getD marks (i + 1) false ≡ false → f (getD dates i 0) ≡ f (getD dates (i + 1) 0)
 
--- `r` has these stretches
+-- `r` has these stretches, and none behind them
 pub record RunsAre (ss : List Stretch) (r : Runs) : Type 0 where
   pub long : length (r .list) ≡ mostDays
   pub few : r .n ≤ mostDays
   pub is : map asStretch (take (r .n) (r .list)) ≡ ss
+  pub behind : (i : ℕ) → r .n ≤ i → getD (r .list) i noRun ≡ noRun
 
 -- the days before i have gone by: the stretches before n are closed, that at n is in hand, and the days from i on are still to come
 pub record Going (f : ℕ → Outcome) (dates : List ℕ) (marks : List Bool) (list : List Run) (n i : ℕ) : Type 0 where
@@ -65,5 +66,6 @@ pub record Going (f : ℕ → Outcome) (dates : List ℕ) (marks : List Bool) (l
   pub place : n < i
   pub most : i ≤ length dates
   pub long : length list ≡ mostDays
+  pub behind : (i : ℕ) → n < i → getD list i noRun ≡ noRun
   pub hand : asStretch (getD list n noRun) .outcome ≡ f (getD dates (i - 1) 0)
   pub goes : map asStretch (take n list) ++ Walk.walked f (asStretch (getD list n noRun)) (drop i dates) ≡ stretches f dates

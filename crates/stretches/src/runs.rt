@@ -14,7 +14,7 @@ ghost use Rattle.choice.specs.Walk.{Asking};
 ghost use Rattle.choice.specs.Span.{Windows};
 ghost use Rattle.stretches.specs.Runs.{Marked, RunsAre};
 
-// The first n of the list count.
+// The first n of the list count; behind them stand empty ones, which are no stretch of any days.
 pub struct Runs {
     pub list: [Run; 1096],
     pub n: usize,

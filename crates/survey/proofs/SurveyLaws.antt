@@ -33,7 +33,7 @@ use Rattle.choice.proofs.PassingLaws.{numberIn, says}
 use Rattle.choice.proofs.SpanLaws.{Spanning, rows-gather, roundings-gather, roundings-outside, span-start, span-turn, span-end, windows}
 use Rattle.choice.proofs.WalkLaws.{article-turn}
 use Rattle.survey.specs.declared.Surveyed.{Surveyed}
-use Rattle.survey.specs.Survey.{ownRow, SurveyIs}
+use Rattle.survey.specs.Survey.{ownRow, noBook, SurveyIs}
 
 -- ---- a row of the asked article and sort
 
@@ -80,11 +80,11 @@ pub record Surveying (b : List ℕ) (q : Question) (found : Bool) (window : Wind
 
 module _ (b : List ℕ) (q : Question) where
   -- what a survey tells of no book
-  refuses : {found : Bool} {window : Window} → false ≡ isSome (records b) → SurveyIs b q (record { ok = false; found = found; window = window })
-  refuses e = record { ok = e; found = λ t. absurd (false≢true t); window = λ t. absurd (false≢true t) }
+  refuses : false ≡ isSome (records b) → SurveyIs b q noBook
+  refuses e = record { ok = e; found = λ t. absurd (false≢true t); window = λ t. absurd (false≢true t); empty = λ t. refl }
 
   module _ {r : Bool} (header : Says (headerOk b) r) where
-    pub survey-header : not r ≡ true → {found : Bool} {window : Window} → SurveyIs b q (record { ok = false; found = found; window = window })
+    pub survey-header : not r ≡ true → SurveyIs b q noBook
     survey-header e = refuses (book-not b header (not-so r e))
 
     pub survey-start : not r ≡ false → Surveying b q false (record { first = 5; last = 5; from = 5; to = 5 }) 5
@@ -112,10 +112,11 @@ module _ (b : List ℕ) (q : Question) where
           ok = ok;
           found = λ t. sym (or-false found) ∙ ap (λ (rs : List Record). found || isSome (articleOf rs (q .article))) (sym none-left) ∙ p .article;
           window = λ t. windows (span-end (rows-gather q) (p .rows-span) (p .between .fits) none-left) (span-end roundings-gather (p .roundings-span) (p .between .fits) none-left);
+          empty = λ t. absurd (false≢true (sym t));
         }
 
     module _ (h : at < length b) {end : ℕ} (e : RecordEnd b at end) where
-      pub survey-bad : end < 1 → {found : Bool} {window : Window} → SurveyIs b q (record { ok = false; found = found; window = window })
+      pub survey-bad : end < 1 → SurveyIs b q noBook
       survey-bad g = refuses (walk-bad (inv .decides) h e g)
 
       module _ (g : 1 ≤ end) where

@@ -22,8 +22,13 @@ ownRow q (some (RoundingRecord r)) = false
 ownRow q (some (PackagingRecord p)) = false
 ownRow q (some (SchemeRecord s)) = false
 
+-- what is told of bytes that are no book: nothing found, and the window still empty behind a header
+abbrev pub noBook : Surveyed
+noBook = record { ok = false; found = false; window = record { first = 5; last = 5; from = 5; to = 5 } }
+
 -- whether b is a book; and of one: whether it has the asked article, and the window of the question
 pub record SurveyIs (b : List ℕ) (q : Question) (r : Surveyed) : Type 0 where
   pub ok : r .ok ≡ isSome (records b)
   pub found : r .ok ≡ true → r .found ≡ isSome (articleOf (recordsLeft b 5) (q .article))
   pub window : r .ok ≡ true → Windows b 5 q (r .window)
+  pub empty : r .ok ≡ false → r ≡ noBook

@@ -69,7 +69,7 @@ fn first_of(found: Looked, next: Looked) -> Looked
 }
 
 // One pass both looks for the number and judges the whole book: a book that is broken behind the text found is broken.
-pub fn look(s: &[u8], number: u32) -> Looked
+fn look(s: &[u8], number: u32) -> Looked
     ensures { λ r. ⌜ Looks (looked number (entries (now (s .entry)))) r ⌝ }
 {
     if s.len() < 5 {
