@@ -11,7 +11,7 @@ use lib.Dec.{eqb}
 use lib.IntN.{ℤ, pos, negℤ, natAbs, _*ℤ_}
 use lib.ListN.{length, drop}
 use Rattle.rules.specs.Lists.{any}
-use Rattle.rules.specs.Book.{Record, Article, Row, base, surcharge, discount, articleOf}
+use Rattle.rules.specs.Book.{Record, Article, base, surcharge, discount, articleOf}
 use Rattle.rules.specs.BookLayout.{records}
 use Rattle.rules.specs.Question.{Question, grants, questionOf, noCurrency}
 use Rattle.rules.specs.Lines.{Line, sum, amounts, total, slotsAt, linesOf, linesBytes}
@@ -27,20 +27,13 @@ use Rattle.rules.proofs.RowLaws.{RowFor}
 use Rattle.rules.proofs.BookK.{EUR, bookK, P1, P2, elmAsked, price-1, price-2, price-elm}
 use Rattle.amounts.proofs.TotalLaws.{amounts-near}
 use Rattle.price.specs.Call.{PriceIs}
-use Rattle.price.specs.Read.{WrittenLine, linesIn, amountsIn}
+use Rattle.price.specs.Read.{WrittenLine, linesIn, amountsIn, LineOf}
 use Rattle.price.proofs.ReadLaws.{writtenLine, lines-back, amounts-back}
 use Rattle.price.proofs.TextNumberLaws.{Bytes, text-below}
 
 -- zeros beside a number
 abbrev zeros : ℕ → PriceAnswer
 zeros n = record { unit = pos 0; total = pos 0; lines = 0; unused = 0; «unused_count» = 0; number = n; currency = noCurrency }
-
--- a line as it is read, and a row that stands behind it
-pub record LineOf (book : List Record) (q : Question) (l : WrittenLine) : Type 0 where
-  pub row : Row
-  pub stands : RowFor book q (l .place) row
-  pub text : l .text ≡ row .text
-  pub level : l .level ≡ row .level
 
 -- ---- what an answer rests on
 

@@ -1,9 +1,13 @@
--- What a caller reads in the lent output: the lines, 14 bytes each.
+-- What a caller reads in the lent output: the lines, 14 bytes each, and whose row a line is of.
 use Prim.Native.Nat.{ℕ, zero, suc}
+use mathlib.Core.Path.{_≡_}
 use mathlib.Core.List.{List, [], _∷_, map}
 use lib.IntN.{ℤ}
 use lib.ListN.{take, drop, getD}
 use Rattle.rules.specs.Bytes.{big, signedOf}
+use Rattle.rules.specs.Book.{Record, Row}
+use Rattle.rules.specs.Question.{Question}
+use Rattle.rules.proofs.RowLaws.{RowFor}
 
 pub record WrittenLine : Type 0 where
   pub text : ℕ
@@ -22,3 +26,10 @@ linesIn (suc n) bytes = lineIn bytes ∷ linesIn n (drop 14 bytes)
 
 abbrev pub amountsIn : ℕ → List ℕ → List ℤ
 amountsIn n bytes = map (λ l. l .amount) (linesIn n bytes)
+
+-- a line that shows the text number and the level of a row that may stand behind it
+pub record LineOf (book : List Record) (q : Question) (l : WrittenLine) : Type 0 where
+  pub row : Row
+  pub stands : RowFor book q (l .place) row
+  pub text : l .text ≡ row .text
+  pub level : l .level ≡ row .level
