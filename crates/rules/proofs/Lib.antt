@@ -14,6 +14,7 @@ pub mod LinesLaws
 pub mod RoomLaws
 pub mod NoPriceLaws
 pub mod RowLaws
+pub mod KindLaws
 pub mod UnusedLaws
 pub mod RoundingLaws
 pub mod CalendarLaws

@@ -76,57 +76,59 @@ pub data Record : Type 0 where
   PackagingRecord : Pack → Record
   SchemeRecord : Scheme → Record
 
+-- ---- a record read as one of a kind: what it holds, or nothing where it is of another
+
+abbrev pub asArticle : Record → Option Article
+asArticle (ArticleRecord a) = some a
+asArticle (PriceRecord r) = none
+asArticle (RoundingRecord r) = none
+asArticle (PackagingRecord p) = none
+asArticle (SchemeRecord s) = none
+
+abbrev pub asRow : Record → Option Row
+asRow (ArticleRecord a) = none
+asRow (PriceRecord r) = some r
+asRow (RoundingRecord r) = none
+asRow (PackagingRecord p) = none
+asRow (SchemeRecord s) = none
+
+abbrev pub asRounding : Record → Option Rounding
+asRounding (ArticleRecord a) = none
+asRounding (PriceRecord r) = none
+asRounding (RoundingRecord r) = some r
+asRounding (PackagingRecord p) = none
+asRounding (SchemeRecord s) = none
+
+abbrev pub asPack : Record → Option Pack
+asPack (ArticleRecord a) = none
+asPack (PriceRecord r) = none
+asPack (RoundingRecord r) = none
+asPack (PackagingRecord p) = some p
+asPack (SchemeRecord s) = none
+
+abbrev pub asScheme : Record → Option Scheme
+asScheme (ArticleRecord a) = none
+asScheme (PriceRecord r) = none
+asScheme (RoundingRecord r) = none
+asScheme (PackagingRecord p) = none
+asScheme (SchemeRecord s) = some s
+
 -- ---- the records of each kind, in the book's order
 
 abbrev pub articles : List Record → List Article
 articles rs = gather asArticle rs
-  where
-    asArticle : Record → Option Article
-    asArticle (ArticleRecord a) = some a
-    asArticle (PriceRecord r) = none
-    asArticle (RoundingRecord r) = none
-    asArticle (PackagingRecord p) = none
-    asArticle (SchemeRecord s) = none
 
 abbrev pub rows : List Record → List Row
 rows rs = gather asRow rs
-  where
-    asRow : Record → Option Row
-    asRow (ArticleRecord a) = none
-    asRow (PriceRecord r) = some r
-    asRow (RoundingRecord r) = none
-    asRow (PackagingRecord p) = none
-    asRow (SchemeRecord s) = none
 
 abbrev pub roundings : List Record → List Rounding
 roundings rs = gather asRounding rs
-  where
-    asRounding : Record → Option Rounding
-    asRounding (ArticleRecord a) = none
-    asRounding (PriceRecord r) = none
-    asRounding (RoundingRecord r) = some r
-    asRounding (PackagingRecord p) = none
-    asRounding (SchemeRecord s) = none
 
 abbrev pub packagings : List Record → List Pack
 packagings rs = gather asPack rs
-  where
-    asPack : Record → Option Pack
-    asPack (ArticleRecord a) = none
-    asPack (PriceRecord r) = none
-    asPack (RoundingRecord r) = none
-    asPack (PackagingRecord p) = some p
-    asPack (SchemeRecord s) = none
 
 abbrev pub schemes : List Record → List Scheme
 schemes rs = gather asScheme rs
-  where
-    asScheme : Record → Option Scheme
-    asScheme (ArticleRecord a) = none
-    asScheme (PriceRecord r) = none
-    asScheme (RoundingRecord r) = none
-    asScheme (PackagingRecord p) = none
-    asScheme (SchemeRecord s) = some s
 
 -- ---- of records alike, the first in the book counts
 
