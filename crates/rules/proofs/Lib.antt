@@ -15,6 +15,7 @@ pub mod RoomLaws
 pub mod NoPriceLaws
 pub mod RowLaws
 pub mod KindLaws
+pub mod AlikeLaws
 pub mod UnusedLaws
 pub mod RoundingLaws
 pub mod CalendarLaws

@@ -65,7 +65,7 @@ module _ {A : Type 0} where
   all-append P [] ys hs ks = ks
   all-append P (x ∷ xs) ys hs ks = (hs .0, all-append P xs ys (hs .1) ks)
 
-all-gather : {A B : Type 0} {P : A → Type 0} (Q : B → Type 0) (f : A → Option B) → ((x : A) → P x → Holds Q (f x)) → (xs : List A) → All P xs → All Q (gather f xs)
+pub all-gather : {A B : Type 0} {P : A → Type 0} (Q : B → Type 0) (f : A → Option B) → ((x : A) → P x → Holds Q (f x)) → (xs : List A) → All P xs → All Q (gather f xs)
 all-gather Q f h [] ps = tt
 all-gather Q f h (x ∷ xs) ps = go (f x) (h x (ps .0)) (all-gather Q f h xs (ps .1))
   where
