@@ -20,6 +20,7 @@ pub mod UnusedLaws
 pub mod RoundingLaws
 pub mod CalendarLaws
 pub mod StaysLaws
+pub mod MarkedLaws
 pub mod WalkLaws
 pub mod CallLaws
 pub mod PeriodLaws

@@ -53,7 +53,7 @@ module _ {A : Type 0} where
   among-has P here hs = hs .0
   among-has P (there m) hs = among-has P m (hs .1)
 
-  all-imply : {P Q : A → Type 0} → ((x : A) → P x → Q x) → (xs : List A) → All P xs → All Q xs
+  pub all-imply : {P Q : A → Type 0} → ((x : A) → P x → Q x) → (xs : List A) → All P xs → All Q xs
   all-imply f [] hs = tt
   all-imply f (x ∷ xs) hs = (f x (hs .0), all-imply f xs (hs .1))
 
