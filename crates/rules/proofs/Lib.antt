@@ -7,6 +7,7 @@ pub mod RangeLaws
 pub mod ListLaws
 pub mod RefusalLaws
 pub mod GivesLaws
+pub mod TakesLaws
 pub mod DayLaws
 pub mod BestLaws
 pub mod ChoiceLaws
@@ -15,6 +16,7 @@ pub mod RoomLaws
 pub mod NoPriceLaws
 pub mod RowLaws
 pub mod KindLaws
+pub mod PlacedLaws
 pub mod AlikeLaws
 pub mod UnusedLaws
 pub mod RoundingLaws

@@ -5,6 +5,7 @@ pub mod Bytes
 pub mod Days
 pub mod Book
 pub mod BookLayout
+pub mod Placed
 pub mod Question
 pub mod TextBook
 pub mod Choice
