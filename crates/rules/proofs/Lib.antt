@@ -17,6 +17,7 @@ pub mod NoPriceLaws
 pub mod RowLaws
 pub mod KindLaws
 pub mod PlacedLaws
+pub mod StandLaws
 pub mod AlikeLaws
 pub mod UnusedLaws
 pub mod RoundingLaws

@@ -1,23 +1,18 @@
--- A book's records with their places: they are the book's records, they stand one behind the other from the head to the end, and at each place stands its record.
-use Prim.Native.Nat.{ℕ, zero, suc, _+_, _-_, _≤_, _<_}
+-- The records of a book with their places are the book's records; and so they are once read as those of a kind.
+use Prim.Native.Nat.{ℕ, zero, suc}
 use mathlib.Core.Path.{_≡_, refl, sym, _∙_, ap, subst}
-use mathlib.Core.Bool.{Bool, true, false}
 use mathlib.Core.List.{List, [], _∷_, map}
 use mathlib.Core.Option.{Option, some, none, Option·map, Option·none-ne-some, Option·some-injective}
-use native.Mathlib.Omega.{arith}
 use lib.Dec.{leb}
-use lib.ListN.{length, take, drop, length-drop}
-use lib.Seq.{drop-drop}
+use lib.ListN.{length}
 use Rattle.rules.specs.Lists.{gather, consSome}
-use Rattle.rules.specs.Layout.{Layout, andThen, _>>=_, give, giveIf, must, bytes, back, framed, left, wholly, whole, toEnd, repeated}
-use Rattle.rules.specs.Bytes.{number, head, big}
+use Rattle.rules.specs.Layout.{Layout, andThen, _>>=_, give, must, wholly, toEnd, repeated}
+use Rattle.rules.specs.Bytes.{head}
 use Rattle.rules.specs.Book.{Record}
-use Rattle.rules.specs.BookLayout.{kinded, oneRecord, mostBytes, records}
-use Rattle.rules.specs.Placed.{Placed, placed, placedLayout, placedRecords, placedAs}
+use Rattle.rules.specs.BookLayout.{oneRecord, mostBytes, records}
+use Rattle.rules.specs.Placed.{Placed, placedBy, placed, placedLayout, placedRecords, holding, placedAs}
 use Rattle.rules.proofs.ListLaws.{All}
-use Rattle.rules.proofs.GivesLaws.{and-then}
 use Rattle.rules.proofs.KindLaws.{Kind, read-only}
-use Rattle.rules.proofs.TakesLaws.{bytes-first, takes-if, takes-number, takes-framed, takes-head, whole-end}
 
 -- ---- with places or without
 
@@ -29,7 +24,8 @@ abbrev turned : {A B : Type 0} → (A → B) → Option (A × List ℕ) → Opti
 turned f none = none
 turned f (some p) = some (f (p .0), p .1)
 
-turned-then : {A B C : Type 0} (o : Option (C × List ℕ)) (g : B → A) (f : C → Layout A) (h : C → Layout B) → ((c : C) (t : List ℕ) → f c t ≡ turned g (h c t)) → andThen o f ≡ turned g (andThen o h)
+turned-then : {A B C : Type 0} (o : Option (C × List ℕ)) (g : B → A) (f : C → Layout A) (h : C → Layout B)
+    → ((c : C) (t : List ℕ) → f c t ≡ turned g (h c t)) → andThen o f ≡ turned g (andThen o h)
 turned-then none g f h k = refl
 turned-then (some p) g f h k = k (p .0) (p .1)
 
@@ -45,162 +41,27 @@ module _ (lent : ℕ) where
   same-to-end (suc n) [] = refl
   same-to-end (suc n) (b ∷ s) = go (oneRecord (b ∷ s)) (same-to-end n)
     where
-      rest : Record → Placed Record → (o : Option (List Record × List ℕ)) (u : Option (List (Placed Record) × List ℕ)) → Type 0
-      rest r p o u = andThen o (λ rs. give (r ∷ rs)) ≡ turned heldIn (andThen u (λ ps. give (p ∷ ps)))
-
-      last : (p : Placed Record) (o : Option (List Record × List ℕ)) (u : Option (List (Placed Record) × List ℕ)) → o ≡ turned heldIn u → rest (p .held) p o u
+      last : (p : Placed Record) (o : Option (List Record × List ℕ)) (u : Option (List (Placed Record) × List ℕ)) → o ≡ turned heldIn u
+          → andThen o (λ rs. give (p .held ∷ rs)) ≡ turned heldIn (andThen u (λ ps. give (p ∷ ps)))
       last p o none e = ap (λ (x : Option (List Record × List ℕ)). andThen x (λ rs. give (p .held ∷ rs))) e
       last p o (some u) e = ap (λ (x : Option (List Record × List ℕ)). andThen x (λ rs. give (p .held ∷ rs))) e
 
       go : (o : Option (Record × List ℕ)) → ((t : List ℕ) → toEnd n oneRecord t ≡ turned heldIn (toEnd n (placed lent) t))
           → andThen o (λ r t. andThen (toEnd n oneRecord t) λ rs. give (r ∷ rs))
-          ≡ turned heldIn (andThen (andThen o (λ r t. some (record { start = lent - length (b ∷ s); stop = lent - length t; held = r }, t))) (λ p t. andThen (toEnd n (placed lent) t) λ ps. give (p ∷ ps)))
+          ≡ turned heldIn
+          (andThen (andThen o (λ r t. some (placedBy lent (length (b ∷ s)) (length t) r, t))) (λ p t. andThen (toEnd n (placed lent) t) λ ps. give (p ∷ ps)))
       go none k = refl
-      go (some (r, t)) k = last (record { start = lent - length (b ∷ s); stop = lent - length t; held = r }) (toEnd n oneRecord t) (toEnd n (placed lent) t) (k t)
+      go (some (r, t)) k = last (placedBy lent (length (b ∷ s)) (length t) r) (toEnd n oneRecord t) (toEnd n (placed lent) t) (k t)
 
 -- Without their places they are the records of the book; and bytes that are no book have neither.
 pub placed-held : (b : List ℕ) → records b ≡ Option·map heldIn (placedRecords b)
 unfolding records placedRecords
 placed-held b =
     ap wholly
-    (turned-then (must (leb (length b) mostBytes) b) heldIn (λ _. head (length b) >>= λ _. repeated oneRecord) (λ _. head (length b) >>= λ _. repeated (placed (length b))) λ _ t.
+    (turned-then (must (leb (length b) mostBytes) b) heldIn
+    (λ _. head (length b) >>= λ _. repeated oneRecord) (λ _. head (length b) >>= λ _. repeated (placed (length b))) λ _ t.
     turned-then (head (length b) t) heldIn (λ _. repeated oneRecord) (λ _. repeated (placed (length b))) λ _ u. same-to-end (length b) (length u) u)
     ∙ turned-whole heldIn (placedLayout (length b) b)
-
--- ---- one record
-
--- A record starts with its length n, and in the n bytes behind stand its kind and its body.
-pub record Framed (s : List ℕ) (r : Record) (t : List ℕ) : Type 0 where
-  pub size : ℕ
-  pub size-is : size ≡ big (take 2 s)
-  pub some-bytes : 1 ≤ size
-  pub fits : 2 + size ≤ length s
-  pub body : whole kinded (take size (drop 2 s)) ≡ some r
-  pub rest : t ≡ drop (2 + size) s
-
-back-is : {A : Type 0} (o : Option A) (s : List ℕ) (a : A) (t : List ℕ) → back o s ≡ some (a, t) → (o ≡ some a) × (t ≡ s)
-back-is none s a t e = absurd (Option·none-ne-some (a, t) e)
-back-is {A} (some x) s a t e =
-    let i = Option·some-injective (x, s) (a, t) e in
-    (ap (λ (y : A × List ℕ). some (y .0)) i, sym (ap (λ (y : A × List ℕ). y .1) i))
-
--- no bytes are no record
-one-byte : (n : ℕ) (s : List ℕ) (r : Record) → whole kinded (take n s) ≡ some r → 1 ≤ n
-one-byte zero s r e = absurd (Option·none-ne-some r e)
-one-byte (suc n) s r e = omega arith
-
-pub one-framed : (s : List ℕ) (r : Record) (t : List ℕ) → oneRecord s ≡ some (r, t) → Framed s r t
-one-framed s r t e =
-    let x = and-then (number 2 s) (λ n. framed n kinded) e in
-    let y = and-then (bytes 2 s) (λ bs. give (big bs)) (x .1) in
-    let i = Option·some-injective (big (y .0 .0), y .0 .1) (x .0) (y .2) in
-    let f = bytes-first 2 s (y .0 .0) (y .0 .1) (y .1) in
-    inside (x .0 .0) (x .0 .1) (sym (ap (λ (k : ℕ × List ℕ). k .0) i) ∙ ap big (f .are)) (sym (ap (λ (k : ℕ × List ℕ). k .1) i) ∙ f .rest) (f .many) (x .2)
-  where
-    inside : (n : ℕ) (u : List ℕ) → n ≡ big (take 2 s) → u ≡ drop 2 s → 2 ≤ length s → framed n kinded u ≡ some (r, t) → Framed s r t
-    inside n u size-is behind two e =
-        let z = and-then (bytes n u) (λ w. back (whole kinded w)) e in
-        let g = bytes-first n u (z .0 .0) (z .0 .1) (z .1) in
-        let h = back-is (whole kinded (z .0 .0)) (z .0 .1) r t (z .2) in
-        let body : whole kinded (take n (drop 2 s)) ≡ some r = ap (λ (w : List ℕ). whole kinded (take n w)) (sym behind) ∙ (ap (whole kinded) (sym (g .are)) ∙ h .0) in
-        let many : n ≤ length u = g .many in
-        record {
-          size = n;
-          size-is = size-is;
-          some-bytes = one-byte n (drop 2 s) r body;
-          fits = omega (arith, length-drop 2 s, ap length behind);
-          body = body;
-          rest = h .1 ∙ (g .rest ∙ (ap (drop n) behind ∙ drop-drop n 2 s));
-        }
-
--- ---- all of them
-
--- One behind the other from a place to another: the first starts there, each next where the one before ends, the last ends here. A record has at least a length and a kind.
-abbrev pub Chain : ℕ → ℕ → List (Placed Record) → Type 0
-Chain from to [] = from ≡ to
-Chain from to (p ∷ ps) = (p .start ≡ from) × (p .start + 3 ≤ p .stop) × Chain (p .stop) to ps
-
--- What stands at the record's place in the bytes: read from there on, it is this record and leaves what stands behind its end; its length says where it ends; and its kind and body fill what lies between.
-pub record Stands (b : List ℕ) (p : Placed Record) : Type 0 where
-  pub reads : oneRecord (drop (p .start) b) ≡ some (p .held, drop (p .stop) b)
-  pub stops : p .stop ≡ p .start + 2 + big (take 2 (drop (p .start) b))
-  pub within : p .stop ≤ length b
-  pub body : whole kinded (take (p .stop - (p .start + 2)) (drop (p .start + 2) b)) ≡ some (p .held)
-
-pub record Stand (b : List ℕ) (from : ℕ) (ps : List (Placed Record)) : Type 0 where
-  pub chain : Chain from (length b) ps
-  pub each : All (Stands b) ps
-
-module _ (b : List ℕ) where
-  abbrev at : ℕ → ℕ → Record → Placed Record
-  at here size r = record { start = here; stop = here + (2 + size); held = r }
-
-  here-stands : (here : ℕ) → here ≤ length b → (r : Record) (t : List ℕ) → oneRecord (drop here b) ≡ some (r, t) → (f : Framed (drop here b) r t) → Stands b (at here (f .size) r)
-  here-stands here l r t e f =
-      let n : here + (2 + f .size) - (here + 2) ≡ f .size = omega arith in
-      record {
-        reads = e ∙ ap (λ (u : List ℕ). some (r, u)) (f .rest ∙ drop-drop (2 + f .size) here b);
-        stops = omega (arith, f .size-is);
-        within = omega (arith, f .fits, length-drop here b);
-        body = (λ i. whole kinded (take (n i) (sym (drop-drop 2 here b) i))) ∙ f .body;
-      }
-
-  none-left : (here : ℕ) → [] ≡ drop here b → here ≤ length b → (ps : List (Placed Record)) (t : List ℕ) → _≡_ {A = Option (List (Placed Record) × List ℕ)} (some ([], [])) (some (ps, t)) → Stand b here ps
-  none-left here h l ps t e =
-      let z : 0 ≡ length (drop here b) = ap length h in
-      subst (λ (x : List (Placed Record) × List ℕ). Stand b here (x .0)) (Option·some-injective ([], []) (ps, t) e) (record { chain = omega (arith, length-drop here b); each = tt })
-
-  -- a record at this place, and behind it those that stand from its end on
-  one-more : (here : ℕ) → here ≤ length b → (r : Record) (u : List ℕ) → oneRecord (drop here b) ≡ some (r, u) → (ps : List (Placed Record)) → ((stop : ℕ) → stop ≤ length b → u ≡ drop stop b → Stand b stop ps)
-      → Stand b here (record { start = length b - length (drop here b); stop = length b - length u; held = r } ∷ ps)
-  one-more here l r u e ps later = go (one-framed (drop here b) r u e)
-    where
-      go : Framed (drop here b) r u → Stand b here (record { start = length b - length (drop here b); stop = length b - length u; held = r } ∷ ps)
-      go f =
-          let stands : Stands b (at here (f .size) r) = here-stands here l r u e f in
-          let behind : u ≡ drop (here + (2 + f .size)) b = f .rest ∙ drop-drop (2 + f .size) here b in
-          let rest : Stand b (here + (2 + f .size)) ps = later (here + (2 + f .size)) (stands .within) behind in
-          let k : here ≡ length b - length (drop here b) = omega (arith, length-drop here b) in
-          let m : here + (2 + f .size) ≡ length b - length u = omega (arith, ap length behind, length-drop (here + (2 + f .size)) b, stands .within) in
-          let all : Stand b here (at here (f .size) r ∷ ps) = record { chain = (refl, omega (arith, f .some-bytes), rest .chain); each = (stands, rest .each) } in
-          subst (λ (p : Placed Record). Stand b here (p ∷ ps)) (λ j. record { start = k j; stop = m j; held = r }) all
-
-  -- from any place where a record may start
-  stand-from : (n here : ℕ) (s : List ℕ) → s ≡ drop here b → here ≤ length b → (ps : List (Placed Record)) (t : List ℕ) → toEnd n (placed (length b)) s ≡ some (ps, t) → Stand b here ps
-  stand-from zero here [] h l ps t e = none-left here h l ps t e
-  stand-from zero here (c ∷ s) h l ps t e = absurd (Option·none-ne-some (ps, t) e)
-  stand-from (suc n) here [] h l ps t e = none-left here h l ps t e
-  stand-from (suc n) here (c ∷ s) h l ps t e = first (oneRecord (c ∷ s)) refl (stand-from n) e
-    where
-      first : (o : Option (Record × List ℕ)) → oneRecord (c ∷ s) ≡ o
-          → ((stop : ℕ) (u : List ℕ) → u ≡ drop stop b → stop ≤ length b → (qs : List (Placed Record)) (t : List ℕ) → toEnd n (placed (length b)) u ≡ some (qs, t) → Stand b stop qs)
-          → andThen (andThen o (λ r u. some (record { start = length b - length (c ∷ s); stop = length b - length u; held = r }, u))) (λ p u. andThen (toEnd n (placed (length b)) u) λ qs. give (p ∷ qs)) ≡ some (ps, t)
-          → Stand b here ps
-      first none i ih e = absurd (Option·none-ne-some (ps, t) e)
-      first (some (r, u)) i ih e = then (toEnd n (placed (length b)) u) refl e
-        where
-          then : (o : Option (List (Placed Record) × List ℕ)) → toEnd n (placed (length b)) u ≡ o
-              → andThen o (λ qs. give (record { start = length b - length (c ∷ s); stop = length b - length u; held = r } ∷ qs)) ≡ some (ps, t)
-              → Stand b here ps
-          then none j e = absurd (Option·none-ne-some (ps, t) e)
-          then (some (qs, v)) j e =
-              subst (λ (x : List (Placed Record) × List ℕ). Stand b here (x .0)) (Option·some-injective (record { start = length b - length (c ∷ s); stop = length b - length u; held = r } ∷ qs, v) (ps, t) e)
-              (subst (λ (x : List ℕ). Stand b here (record { start = length b - length x; stop = length b - length u; held = r } ∷ qs)) (sym h)
-              (one-more here l r u (ap oneRecord (sym h) ∙ i) qs (λ stop m k. ih stop u k m qs v j)))
-
-  -- The records of an accepted book stand one behind the other from place 5, behind the head, to the end of the book, and each stands at its place.
-  pub placed-stand : (ps : List (Placed Record)) → placedRecords b ≡ some ps → Stand b 5 ps
-  unfolding placedRecords
-  placed-stand ps e =
-      let w = whole-end (placedLayout (length b) b) ps e in
-      let x = and-then (giveIf (leb (length b) mostBytes) tt b) (λ _. head (length b) >>= λ _. repeated (placed (length b))) w in
-      let y = and-then (head (length b) (x .0 .1)) (λ _. repeated (placed (length b))) (x .2) in
-      let i : x .0 .1 ≡ b = takes-if (leb (length b) mostBytes) tt .leaves b (x .0 .0) (x .0 .1) (x .1) in
-      let head = takes-head (length b) in
-      let five : 5 ≤ length (x .0 .1) = head .enough (x .0 .1) (y .0 .0) (y .0 .1) (y .1) in
-      stand-from (length (y .0 .1)) 5 (y .0 .1) (head .leaves (x .0 .1) (y .0 .0) (y .0 .1) (y .1) ∙ ap (drop 5) i) (omega (arith, ap length i)) ps [] (y .2)
-
--- ---- what follows
 
 -- An accepted book has places for its records.
 pub placed-some : (b : List ℕ) (rs : List Record) → records b ≡ some rs → (ps : List (Placed Record)) × (placedRecords b ≡ some ps) × (heldIn ps ≡ rs)
@@ -210,20 +71,6 @@ placed-some b rs e = go (placedRecords b) refl
     go none i = absurd (Option·none-ne-some rs (ap (Option·map heldIn) (sym i) ∙ (sym (placed-held b) ∙ e)))
     go (some ps) i = (ps, i, Option·some-injective (heldIn ps) rs (ap (Option·map heldIn) (sym i) ∙ (sym (placed-held b) ∙ e)))
 
--- in order: each ends no later than any behind it starts
-abbrev pub InOrder : List (Placed Record) → Type 0
-InOrder [] = Unit {0}
-InOrder (p ∷ ps) = All (λ q. p .stop ≤ q .start) ps × InOrder ps
-
--- Places ascend: none of a chain starts before it, and of two the first ends before the second starts or where it starts.
-pub chain-from : (from to : ℕ) (ps : List (Placed Record)) → Chain from to ps → (k : ℕ) → k ≤ from → All (λ q. k ≤ q .start) ps
-chain-from from to [] c k l = tt
-chain-from from to (p ∷ ps) c k l = (omega (arith, c .0), chain-from (p .stop) to ps (c .2) k (omega (arith, c .0, c .1)))
-
-pub chain-order : (from to : ℕ) (ps : List (Placed Record)) → Chain from to ps → InOrder ps
-chain-order from to [] c = tt
-chain-order from to (p ∷ ps) c = (chain-from (p .stop) to ps (c .2) (p .stop) (omega arith), chain-order (p .stop) to ps (c .2))
-
 -- ---- read as something
 
 -- What records hold without their places is the same, whether places were kept with it or not.
@@ -232,16 +79,17 @@ placed-as f [] = refl
 placed-as {A} {B} f (p ∷ ps) = go (f (p .held)) (placed-as f ps)
   where
     go : (o : Option B) → gather f (heldIn ps) ≡ heldIn (placedAs f ps)
-        → consSome o (gather f (heldIn ps)) ≡ heldIn (consSome (Option·map (λ x. record { start = p .start; stop = p .stop; held = x }) o) (placedAs f ps))
+        → consSome o (gather f (heldIn ps)) ≡ heldIn (consSome (Option·map (holding p) o) (placedAs f ps))
     go none e = e
     go (some x) e = ap (λ (xs : List B). x ∷ xs) e
 
 -- What all records have where they stand, those of a kind have.
-pub placed-all : {X : Type 0} (k : Kind X) (P : Placed Record → Type 0) (ps : List (Placed Record)) → All P ps → All (λ q. P (record { start = q .start; stop = q .stop; held = k .make (q .held) })) (placedAs (k .read) ps)
+pub placed-all : {X : Type 0} (k : Kind X) (P : Placed Record → Type 0) (ps : List (Placed Record)) → All P ps
+    → All (λ q. P (holding q (k .make (q .held)))) (placedAs (k .read) ps)
 placed-all k P [] h = tt
 placed-all {X} k P (p ∷ ps) h = go (k .read (p .held)) refl (placed-all k P ps (h .1))
   where
-    go : (o : Option X) → k .read (p .held) ≡ o → All (λ q. P (record { start = q .start; stop = q .stop; held = k .make (q .held) })) (placedAs (k .read) ps)
-        → All (λ q. P (record { start = q .start; stop = q .stop; held = k .make (q .held) })) (consSome (Option·map (λ x. record { start = p .start; stop = p .stop; held = x }) o) (placedAs (k .read) ps))
+    go : (o : Option X) → k .read (p .held) ≡ o → All (λ q. P (holding q (k .make (q .held)))) (placedAs (k .read) ps)
+        → All (λ q. P (holding q (k .make (q .held)))) (consSome (Option·map (holding p) o) (placedAs (k .read) ps))
     go none i hs = hs
-    go (some x) i hs = (subst (λ (r : Record). P (record { start = p .start; stop = p .stop; held = r })) (read-only k (p .held) x i) (h .0), hs)
+    go (some x) i hs = (subst (λ (r : Record). P (holding p r)) (read-only k (p .held) x i) (h .0), hs)

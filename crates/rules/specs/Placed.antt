@@ -16,12 +16,16 @@ pub record Placed (A : Type 0) : Type 0 where
   pub stop : ℕ
   pub held : A
 
+-- of `lent` bytes so many are left where it starts, and so many where it ends
+abbrev pub placedBy : {A : Type 0} → ℕ → ℕ → ℕ → A → Placed A
+placedBy lent ahead behind x = record { start = lent - ahead; stop = lent - behind; held = x }
+
 abbrev pub placed : ℕ → Layout (Placed Record)
 placed lent = do
   ahead ← left
   r ← oneRecord
   behind ← left
-  give (record { start = lent - ahead; stop = lent - behind; held = r })
+  give (placedBy lent ahead behind r)
 
 abbrev pub placedLayout : ℕ → Layout (List (Placed Record))
 placedLayout lent = do
@@ -33,6 +37,10 @@ placedLayout lent = do
 unfoldable pub placedRecords : List ℕ → Option (List (Placed Record))
 placedRecords s = whole (placedLayout (length s)) s
 
+-- something else at the same place
+abbrev pub holding : {A B : Type 0} → Placed A → B → Placed B
+holding p x = record { start = p .start; stop = p .stop; held = x }
+
 -- those that can be read as something, where they stand: with `asRow` the price rows, each at the place of its record
 abbrev pub placedAs : {A B : Type 0} → (A → Option B) → List (Placed A) → List (Placed B)
-placedAs f ps = gather (λ p. Option·map (λ x. record { start = p .start; stop = p .stop; held = x }) (f (p .held))) ps
+placedAs f ps = gather (λ p. Option·map (holding p) (f (p .held))) ps
