@@ -1,4 +1,5 @@
--- What a price reads of a book: the rows of the asked article and sort, and for each of them the rounding of its number. Two books that are alike there price alike.
+-- What a price reads of a book: the rows of the asked article and sort, and the rounding of the number that each of them names.
+-- Two books that are alike there price alike.
 use Prim.Native.Nat.{ℕ}
 use mathlib.Core.Path.{_≡_, refl, sym, _∙_, ap, subst}
 use mathlib.Core.Bool.{Bool, _&&_, not, and-assoc}
@@ -41,13 +42,19 @@ module _ (book : List Record) (q : Question) (s : Slot) where
   unfolding rowsAt component rowsOf
   at-own =
       sym
-      (keep-keep (λ r. eqb (r .level) (s .level) && same (r .condition) (s .condition)) (λ r. same (r .article) (q .article) && eqb (r .sort) (q .sort)) (rows book)
-      ∙ (λ i. keep (λ r. and-assoc (same (r .article) (q .article)) (eqb (r .sort) (q .sort)) (eqb (r .level) (s .level) && same (r .condition) (s .condition)) i) (rows book)))
+      (keep-keep (λ r. eqb (r .level) (s .level) && same (r .condition) (s .condition))
+      (λ r. same (r .article) (q .article) && eqb (r .sort) (q .sort)) (rows book)
+      ∙ (λ i.
+      keep
+      (λ r. and-assoc (same (r .article) (q .article)) (eqb (r .sort) (q .sort)) (eqb (r .level) (s .level) && same (r .condition) (s .condition)) i)
+      (rows book)))
 
   -- so what all of them have, the chosen row has
   chosen-has : (P : Row → Type 0) → All P (rowsOf (q .article) (q .sort) book) → Holds (λ (c : Chosen). P (c .row)) (chosenAt (rows book) q s)
   unfolding chosenAt choose step₅
-  chosen-has P hs = go (first (λ r. not (any (λ t. better t r) left)) left) (first-holds P (λ r. not (any (λ t. better t r) left)) left (survivors P (q .date) (q .quantity) (q .currency) (rowsAt (rows book) q s) at))
+  chosen-has P hs =
+      go (first (λ r. not (any (λ t. better t r) left)) left)
+      (first-holds P (λ r. not (any (λ t. better t r) left)) left (survivors P (q .date) (q .quantity) (q .currency) (rowsAt (rows book) q s) at))
     where
       at : All P (rowsAt (rows book) q s)
       at = subst (All P) (sym at-own) (all-keep P _ (rowsOf (q .article) (q .sort) book) hs)
@@ -62,11 +69,14 @@ module _ (book : List Record) (q : Question) (s : Slot) where
 -- ---- the lines
 
 module _ (ra rb : List Rounding) where
-  lines-alike : (before : List Line) (cs : List Chosen) → All (λ (c : Chosen). Rounds ra rb (c .row)) cs → linesAfter ra before cs ≡ linesAfter rb before cs
+  lines-alike : (before : List Line) (cs : List Chosen) → All (λ (c : Chosen). Rounds ra rb (c .row)) cs
+      → linesAfter ra before cs ≡ linesAfter rb before cs
   unfolding linesAfter
   lines-alike before [] h = refl
   lines-alike before (c ∷ cs) h =
-      let e : lineAfter ra before c ≡ lineAfter rb before c = unfold lineAfter in λ i. record { place = c .place; row = c .row; amount = rounded (h .0 i) (exact (c .row .value) (percentOf (c .row .rule) before)) } in
+      let e : lineAfter ra before c ≡ lineAfter rb before c =
+      unfold lineAfter in
+      λ i. record { place = c .place; row = c .row; amount = rounded (h .0 i) (exact (c .row .value) (percentOf (c .row .rule) before)) } in
       lines-alike (before ++ (lineAfter ra before c ∷ [])) cs (h .1) ∙ ap (λ (l : Line). linesAfter rb (before ++ (l ∷ [])) cs) e
 
 anything : (ss : List Slot) → All (λ s. Unit {0}) ss
@@ -79,7 +89,10 @@ module _ (a b : List Record) where
   -- The same rows of the article and sort: the same rows are chosen, whatever else the books hold.
   pub same-chosen : (q : Question) → rowsOf (q .article) (q .sort) a ≡ rowsOf (q .article) (q .sort) b → chosen (rows a) q ≡ chosen (rows b) q
   unfolding chosen chosenAt
-  same-chosen q e = λ i. gather (λ s. Option·map (λ r. record { place = s .place; row = r }) (choose (q .date) (q .quantity) (q .currency) (at s i))) (slots (grants (q .granted)))
+  same-chosen q e =
+      λ i.
+      gather (λ s. Option·map (λ r. record { place = s .place; row = r }) (choose (q .date) (q .quantity) (q .currency) (at s i)))
+      (slots (grants (q .granted)))
     where
       at : (s : Slot) → rowsAt (rows a) q s ≡ rowsAt (rows b) q s
       at s = at-own a q s ∙ (ap (keep (λ r. eqb (r .level) (s .level) && same (r .condition) (s .condition))) e ∙ sym (at-own b q s))
@@ -92,10 +105,15 @@ module _ (a b : List Record) where
   -- Books that are alike in what is read have the same lines ..
   pub same-lines : (q : Question) → Alike a b (q .article) (q .sort) → linesOf a q ≡ linesOf b q
   unfolding linesOf chosen
-  same-lines q h = lines-alike (roundings a) (roundings b) [] (chosen (rows a) q) every ∙ ap (linesAfter (roundings b) []) (same-chosen q (h .same-rows))
+  same-lines q h =
+      lines-alike (roundings a) (roundings b) [] (chosen (rows a) q) every
+      ∙ ap (linesAfter (roundings b) []) (same-chosen q (h .same-rows))
     where
       every : All (λ (c : Chosen). Rounds (roundings a) (roundings b) (c .row)) (chosen (rows a) q)
-      every = all-gather (λ (c : Chosen). Rounds (roundings a) (roundings b) (c .row)) (chosenAt (rows a) q) (λ s _. chosen-has a q s (Rounds (roundings a) (roundings b)) (h .same-roundings)) (slots (grants (q .granted))) (anything (slots (grants (q .granted))))
+      every =
+          all-gather (λ (c : Chosen). Rounds (roundings a) (roundings b) (c .row)) (chosenAt (rows a) q)
+          (λ s _. chosen-has a q s (Rounds (roundings a) (roundings b)) (h .same-roundings))
+          (slots (grants (q .granted))) (anything (slots (grants (q .granted))))
 
   -- .. the same price or refusal ..
   pub same-priced : (q : Question) → Alike a b (q .article) (q .sort) → priced a q ≡ priced b q

@@ -10,7 +10,7 @@ use Rattle.rules.proofs.ListLaws.{All}
 
 -- ---- a kind
 
--- How the records of a kind are made of what they hold, and read again: reading undoes making, and a record of which something is read is the one made of it.
+-- How the records of a kind are made of what they hold, and read again. Reading undoes making, and making undoes reading.
 pub record Kind (X : Type 0) : Type 0 where
   pub make : X → Record
   pub read : Record → Option X
@@ -61,7 +61,8 @@ pub kinds-listed : (rs : List Record)
 kinds-listed rs = (refl, refl, refl, refl, refl)
 
 -- Each record is read as one of exactly one kind.
-pub one-kind : (r : Record) → length (keep (λ b. b) (isSome (asArticle r) ∷ isSome (asRow r) ∷ isSome (asRounding r) ∷ isSome (asPack r) ∷ isSome (asScheme r) ∷ [])) ≡ 1
+pub one-kind : (r : Record)
+    → length (keep (λ b. b) (isSome (asArticle r) ∷ isSome (asRow r) ∷ isSome (asRounding r) ∷ isSome (asPack r) ∷ isSome (asScheme r) ∷ [])) ≡ 1
 one-kind (ArticleRecord a) = refl
 one-kind (PriceRecord r) = refl
 one-kind (RoundingRecord r) = refl
@@ -79,7 +80,7 @@ module _ {X : Type 0} (k : Kind X) where
   pub same-held : (x y : X) → k .make x ≡ k .make y → x ≡ y
   same-held x y e = Option·some-injective x y (sym (k .made x) ∙ (ap (k .read) e ∙ k .made y))
 
-  -- A record that is read as one of the kind is none of another whose reading passes over this kind's records; of two different kinds that is `λ x. refl`.
+  -- A record read as one of the kind is none of another kind. That the other's reading gives nothing for this kind's records is `λ x. refl`.
   pub apart : {Y : Type 0} (l : Kind Y) → ((x : X) → l .read (k .make x) ≡ none) → (r : Record) (x : X) → k .read r ≡ some x → l .read r ≡ none
   apart l h r x e = ap (l .read) (read-only r x e) ∙ h x
 

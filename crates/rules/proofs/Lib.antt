@@ -19,6 +19,7 @@ pub mod KindLaws
 pub mod PlacedLaws
 pub mod StandLaws
 pub mod AlikeLaws
+pub mod AlikeCallLaws
 pub mod UnusedLaws
 pub mod RoundingLaws
 pub mod CalendarLaws

@@ -34,7 +34,8 @@ unfolding daysOfChange
 of-change P [] h k e = absurd (false≢true e)
 of-change P (r ∷ rs) h k e = go (eqb k (r .from)) (eqb k (next (r .to))) refl refl (of-change P rs (h .1) k) e
   where
-    go : (x y : Bool) → eqb k (r .from) ≡ x → eqb k (next (r .to)) ≡ y → (any (eqb k) (daysOfChange rs) ≡ true → P k) → (x || (y || any (eqb k) (daysOfChange rs))) ≡ true → P k
+    go : (x y : Bool) → eqb k (r .from) ≡ x → eqb k (next (r .to)) ≡ y → (any (eqb k) (daysOfChange rs) ≡ true → P k)
+        → (x || (y || any (eqb k) (daysOfChange rs))) ≡ true → P k
     go true y a b ih e = subst P (sym (eqb-true k (r .from) a)) (h .0 .0)
     go false true a b ih e = subst P (sym (eqb-true k (next (r .to)) b)) (h .0 .1)
     go false false a b ih e = ih e
@@ -43,7 +44,10 @@ module _ (book : List Record) (q : Question) where
   -- A set will do that has the first day and the day after the last of each row of the article and sort that has two days; ..
   pub marks-moving : (marked : ℕ → Bool) → All (Marks marked) (movingRows (q .article) (q .sort) (rows book)) → HoldsChanges book q marked
   unfolding isChange changes
-  marks-moving marked h = record { holds = λ k day e. of-change (λ k. isDay k ≡ true → marked k ≡ true) (movingRows (q .article) (q .sort) (rows book)) h k e day }
+  marks-moving marked h =
+      record {
+        holds = λ k day e. of-change (λ k. isDay k ≡ true → marked k ≡ true) (movingRows (q .article) (q .sort) (rows book)) h k e day;
+      }
 
   -- .. and so one that has them for every row of the book.
   pub marks-rows : (marked : ℕ → Bool) → All (Marks marked) (rows book) → HoldsChanges book q marked
@@ -78,8 +82,9 @@ module _ (book : List Record) (q : Question) where
     pub unmarked-next : (d : ℕ) → isDay d ≡ true → isDay (next d) ≡ true → marked (next d) ≡ false → outcome book q d ≡ outcome book q (next d)
     unmarked-next d day more m = stays-next book q d day more (unmarked (next d) more m)
 
-    -- From a day to a later one the outcome stays where no day after the first is in the set; numbers between them that are no days need not be looked at.
-    pub unmarked-stays : (d e : ℕ) → isDay d ≡ true → isDay e ≡ true → d < e → ((k : ℕ) → isDay k ≡ true → d < k → k ≤ e → marked k ≡ false) → outcome book q d ≡ outcome book q e
+    -- From a day to a later one the outcome stays where no day after the first is in the set; other numbers between them do not matter.
+    pub unmarked-stays : (d e : ℕ) → isDay d ≡ true → isDay e ≡ true → d < e
+        → ((k : ℕ) → isDay k ≡ true → d < k → k ≤ e → marked k ≡ false) → outcome book q d ≡ outcome book q e
     unmarked-stays d e day day′ l m = stays book q d e day day′ l (λ k a b. quiet k a b (isChange book q k) refl)
       where
         quiet : (k : ℕ) → d < k → k ≤ e → (b : Bool) → isChange book q k ≡ b → b ≡ false

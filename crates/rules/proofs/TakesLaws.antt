@@ -32,7 +32,8 @@ bytes-first zero s v t e =
 bytes-first (suc n) [] v t e = absurd (Option·none-ne-some (v, t) e)
 bytes-first (suc n) (b ∷ s) v t e = go (bytes n s) (bytes-first n s) e
   where
-    go : (o : Option (List ℕ × List ℕ)) → ((w u : List ℕ) → o ≡ some (w, u) → FirstBytes n s w u) → front b o ≡ some (v, t) → FirstBytes (suc n) (b ∷ s) v t
+    go : (o : Option (List ℕ × List ℕ)) → ((w u : List ℕ) → o ≡ some (w, u) → FirstBytes n s w u)
+        → front b o ≡ some (v, t) → FirstBytes (suc n) (b ∷ s) v t
     go none h e = absurd (Option·none-ne-some (v, t) e)
     go (some x) h e =
         let i = Option·some-injective (b ∷ x .0, x .1) (v, t) e in
@@ -51,15 +52,22 @@ takes-bytes n = record { enough = λ s v t e. bytes-first n s v t e .many; leave
 
 module _ {A : Type 0} where
   pub takes-value : (a : A) → Takes (give a) 0
-  takes-value a = record { enough = λ s v t e. omega arith; leaves = λ s v t e. sym (ap (λ (x : A × List ℕ). x .1) (Option·some-injective (a, s) (v, t) e)) }
+  takes-value a =
+      record {
+        enough = λ s v t e. omega arith;
+        leaves = λ s v t e. sym (ap (λ (x : A × List ℕ). x .1) (Option·some-injective (a, s) (v, t) e));
+      }
+
+  takes-none : (k : ℕ) → Takes {A = A} (λ s. none) k
+  takes-none k = record { enough = λ s v t e. absurd (Option·none-ne-some (v, t) e); leaves = λ s v t e. absurd (Option·none-ne-some (v, t) e) }
 
   pub takes-if : (b : Bool) (a : A) → Takes (giveIf b a) 0
   takes-if true a = takes-value a
-  takes-if false a = record { enough = λ s v t e. absurd (Option·none-ne-some (v, t) e); leaves = λ s v t e. absurd (Option·none-ne-some (v, t) e) }
+  takes-if false a = takes-none 0
 
   pub takes-back : (o : Option A) → Takes (back o) 0
-  takes-back none = record { enough = λ s v t e. absurd (Option·none-ne-some (v, t) e); leaves = λ s v t e. absurd (Option·none-ne-some (v, t) e) }
-  takes-back (some a) = record { enough = λ s v t e. omega arith; leaves = λ s v t e. sym (ap (λ (x : A × List ℕ). x .1) (Option·some-injective (a, s) (v, t) e)) }
+  takes-back none = takes-none 0
+  takes-back (some a) = takes-value a
 
 module _ {A B : Type 0} where
   pub takes-field : (m : Layout A) (f : A → Layout B) {j k : ℕ} → Takes m j → ((a : A) → Takes (f a) k) → Takes (m >>= f) (j + k)
@@ -96,11 +104,14 @@ pub takes-number : (k : ℕ) → Takes (number k) k
 takes-number k = subst (Takes (number k)) (omega arith) (takes-field (bytes k) (λ bs. give (big bs)) (takes-bytes k) (λ bs. takes-value (big bs)))
 
 pub takes-framed : {A : Type 0} (n : ℕ) (m : Layout A) → Takes (framed n m) n
-takes-framed n m = subst (Takes (framed n m)) (omega arith) (takes-field (bytes n) (λ s. back (whole m s)) (takes-bytes n) (λ s. takes-back (whole m s)))
+takes-framed n m =
+    subst (Takes (framed n m)) (omega arith) (takes-field (bytes n) (λ s. back (whole m s)) (takes-bytes n) (λ s. takes-back (whole m s)))
 
 -- the head of a layout: four bytes of length and one of version
 pub takes-head : (lent : ℕ) → Takes (head lent) 5
-takes-head lent = takes-field (number 4 such eqb lent) (λ _. oneOf (1 ∷ [])) (takes-such (number 4) (eqb lent) (takes-number 4)) (λ _. takes-such byte (λ b. any (eqb b) (1 ∷ [])) takes-byte)
+takes-head lent =
+    takes-field (number 4 such eqb lent) (λ _. oneOf (1 ∷ []))
+    (takes-such (number 4) (eqb lent) (takes-number 4)) (λ _. takes-such byte (λ b. any (eqb b) (1 ∷ [])) takes-byte)
 
 -- ---- with nothing behind it
 
