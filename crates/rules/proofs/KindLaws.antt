@@ -1,4 +1,4 @@
--- Records by what they are read as: each is of one kind, and what a list holds of a kind is told record by record, without going through the kinds.
+-- Records by what they are read as: each is of one kind, and laws of any kind, so that a proof about one kind need not name the others.
 use mathlib.Core.Path.{_≡_, refl, sym, _∙_, ap, subst}
 use mathlib.Core.List.{List, [], _∷_}
 use mathlib.Core.Option.{Option, some, none, Option·some-injective}
@@ -84,7 +84,7 @@ module _ {X : Type 0} (k : Kind X) where
   pub apart : {Y : Type 0} (l : Kind Y) → ((x : X) → l .read (k .make x) ≡ none) → (r : Record) (x : X) → k .read r ≡ some x → l .read r ≡ none
   apart l h r x e = ap (l .read) (read-only r x e) ∙ h x
 
-  -- What is shown of the records made of some x, and where nothing is read, is shown of every record: two cases in place of all kinds.
+  -- What holds of the records of the kind, and of those of which nothing is read, holds of every record: two cases in place of one for each kind.
   pub by-kind : (P : Record → Type 0) → ((x : X) → P (k .make x)) → ((r : Record) → k .read r ≡ none → P r) → (r : Record) → P r
   by-kind P f g r = go (k .read r) refl
     where
@@ -99,7 +99,7 @@ module _ {X : Type 0} (k : Kind X) where
   pub list-other : (r : Record) (rs : List Record) → k .read r ≡ none → listOf k (r ∷ rs) ≡ listOf k rs
   list-other r rs e = ap (λ (o : Option X). consSome o (listOf k rs)) e
 
-  -- What all records have that are made of some x, all in the list of the kind have.
+  -- What all records of a list have, those of the kind have.
   pub list-all : (P : Record → Type 0) (rs : List Record) → All P rs → All (λ x. P (k .make x)) (listOf k rs)
   list-all P [] hs = tt
   list-all P (r ∷ rs) hs = go (k .read r) refl (list-all P rs (hs .1))

@@ -5,15 +5,16 @@ use mathlib.Core.List.{List, [], _∷_}
 use mathlib.Core.Option.{Option, some, none, Option·none-ne-some, Option·some-injective}
 use native.Mathlib.Omega.{arith}
 use lib.Dec.{leb}
-use lib.ListN.{length, take, drop, length-drop}
+use lib.ListN.{length, take, drop, length-drop, drop-of-length-le}
 use lib.Seq.{drop-drop}
-use Rattle.rules.specs.Layout.{andThen, _>>=_, give, giveIf, bytes, back, framed, whole, toEnd, repeated}
+use Rattle.rules.specs.Layout.{andThen, _>>=_, give, giveIf, bytes, back, framed, whole, wholly, toEnd, repeated}
 use Rattle.rules.specs.Bytes.{number, head, big}
 use Rattle.rules.specs.Book.{Record}
 use Rattle.rules.specs.BookLayout.{kinded, oneRecord, mostBytes}
 use Rattle.rules.specs.Placed.{Placed, placedBy, placed, placedLayout, placedRecords}
 use Rattle.rules.proofs.ListLaws.{All}
 use Rattle.rules.proofs.GivesLaws.{and-then}
+use Rattle.rules.proofs.PlacedLaws.{heldIn}
 use Rattle.rules.proofs.TakesLaws.{bytes-first, takes-if, takes-head, whole-end}
 
 -- ---- one record
@@ -177,3 +178,43 @@ chain-from from to (p ∷ ps) c k l = (omega (arith, c .0), chain-from (p .stop)
 pub chain-order : (from to : ℕ) (ps : List (Placed Record)) → Chain from to ps → InOrder ps
 chain-order from to [] c = tt
 chain-order from to (p ∷ ps) c = (chain-from (p .stop) to ps (c .2) (p .stop) (omega arith), chain-order (p .stop) to ps (c .2))
+
+-- ---- the records from a place on
+
+module _ (b : List ℕ) where
+  -- those behind the first stand from its end on
+  pub stand-behind : (from : ℕ) (p : Placed Record) (ps : List (Placed Record)) → Stand b from (p ∷ ps) → Stand b (p .stop) ps
+  stand-behind from p ps h = record { chain = h .chain .2; each = h .each .1 }
+
+  nothing : (n : ℕ) → toEnd n oneRecord [] ≡ some ([], [])
+  nothing zero = refl
+  nothing (suc n) = refl
+
+  all-read : (ps : List (Placed Record)) (from : ℕ) → Stand b from ps → (n : ℕ) → length b - from ≤ n
+      → toEnd n oneRecord (drop from b) ≡ some (heldIn ps, [])
+  all-read [] from h n l = ap (toEnd n oneRecord) (drop-of-length-le b {i = from} (omega (arith, h .chain))) ∙ nothing n
+  all-read (p ∷ ps) from h n l = go n (drop from b) refl l (all-read ps (p .stop) (stand-behind from p ps h))
+    where
+      start : p .start ≡ from
+      start = h .chain .0
+
+      long : p .start + 3 ≤ p .stop
+      long = h .chain .1
+
+      within : p .stop ≤ length b
+      within = h .each .0 .within
+
+      go : (n : ℕ) (s : List ℕ) → drop from b ≡ s → length b - from ≤ n
+          → ((n : ℕ) → length b - p .stop ≤ n → toEnd n oneRecord (drop (p .stop) b) ≡ some (heldIn ps, []))
+          → toEnd n oneRecord s ≡ some (p .held ∷ heldIn ps, [])
+      go n [] i l ih = absurd (let z : length (drop from b) ≡ 0 = ap length i in omega (arith, length-drop from b, start, long, within))
+      go zero (c ∷ s) i l ih = absurd (omega (arith, start, long, within))
+      go (suc n) (c ∷ s) i l ih =
+          let reads : oneRecord (c ∷ s) ≡ some (p .held, drop (p .stop) b) =
+          ap oneRecord (sym i) ∙ (ap (λ (k : ℕ). oneRecord (drop k b)) (sym start) ∙ h .each .0 .reads) in
+          ap (λ (o : Option (Record × List ℕ)). andThen o (λ r t. andThen (toEnd n oneRecord t) λ rs. give (r ∷ rs))) reads
+          ∙ ap (λ (o : Option (List Record × List ℕ)). andThen o (λ rs. give (p .held ∷ rs))) (ih n (omega (arith, start, long, within)))
+
+  -- Read to the end from where they stand, the bytes are these records: so from each record's place on they are it and those behind it.
+  pub from-there : (from : ℕ) (ps : List (Placed Record)) → Stand b from ps → whole (repeated oneRecord) (drop from b) ≡ some (heldIn ps)
+  from-there from ps h = ap wholly (all-read ps from h (length (drop from b)) (omega (arith, length-drop from b)))
