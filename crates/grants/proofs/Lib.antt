@@ -1,0 +1,5 @@
+pub mod EntryLaws
+pub mod NamedLaws
+pub mod TableLaws
+pub mod PlaceLaws
+pub mod FillLaws

@@ -1,0 +1,135 @@
+-- The granted names in the order of their places, nothing in the place of a repeat: what they are to the definition's grants.
+use Prim.Native.Nat.{ℕ, zero, suc, _+_, _-_, _*_, _<_, _≤_}
+use mathlib.Core.Path.{_≡_, refl, sym, _∙_, ap, ap₂}
+use mathlib.Core.Bool.{Bool, true, false, _&&_, _||_, not, cond}
+use mathlib.Core.List.{List, [], _∷_, _++_, map, append-assoc}
+use native.Mathlib.Omega.{arith}
+use native.Mathlib.Numerals.{add-one}
+use lib.Dec.{eqb}
+use lib.ListN.{length, replicate, replicate-append-replicate}
+use borrow.Author.Tests.{eq-eqb, ne-eqb}
+use Rattle.rules.specs.Lists.{same, keep, consIf}
+use Rattle.rules.specs.Bytes.{raise}
+use Rattle.rules.specs.Question.{Grant, placed, firsts, grants}
+use Rattle.rules.proofs.ListLaws.{All, all-keep, keep-keep}
+use Rattle.grants.specs.Table.{entry, nameOf, tableFrom, tableOf}
+use Rattle.grants.specs.Places.{placeIn}
+
+-- none of the names seen is this one
+abbrev pub fresh : List (List ℕ) → List ℕ → Bool
+fresh [] c = true
+fresh (n ∷ seen) c = not (same c n) && fresh seen c
+
+-- each name raised, or nothing if it was seen before
+unfoldable pub named : List (List ℕ) → List (List ℕ) → List (List ℕ)
+named seen [] = []
+named seen (c ∷ cs) = cond (fresh seen (map raise c)) (map raise c) [] ∷ named (map raise c ∷ seen) cs
+
+-- their entries, one behind the other
+unfoldable pub entries : List (List ℕ) → List ℕ
+entries [] = []
+entries (c ∷ cs) = entry c ++ entries cs
+
+-- the place of the first that is the name, behind i others
+unfoldable pub foundIn : ℕ → List (List ℕ) → List ℕ → ℕ
+foundIn i [] c = 33
+foundIn i (m ∷ ms) c = cond (same m c) (i + 1) (foundIn (i + 1) ms c)
+
+-- ---- the grants of names of which some were seen
+
+abbrev left : List (List ℕ) → ℕ → List (List ℕ) → List Grant
+left seen n names = keep (λ g. fresh seen (g .name)) (firsts (placed n names))
+
+-- the first of them, if it was not seen, and the others
+left-step : (seen : List (List ℕ)) (n : ℕ) (c : List ℕ) (cs : List (List ℕ))
+    → left seen n (c ∷ cs) ≡ consIf (fresh seen (map raise c)) (record { place = n; name = map raise c }) (left (map raise c ∷ seen) (suc n) cs)
+left-step seen n c cs =
+    ap (consIf (fresh seen (map raise c)) (record { place = n; name = map raise c }))
+    (keep-keep (λ g. fresh seen (g .name)) (λ h. not (same (h .name) (map raise c))) (firsts (placed (suc n) cs)))
+
+left-all : (gs : List Grant) → keep (λ g. true) gs ≡ gs
+left-all [] = refl
+left-all (g ∷ gs) = ap (λ (hs : List Grant). g ∷ hs) (left-all gs)
+
+-- ---- their places
+
+placed-above : (p n : ℕ) (names : List (List ℕ)) → p < n → All (λ g. p < g .place) (placed n names)
+placed-above p n [] h = tt
+placed-above p n (c ∷ cs) h = (h, placed-above p (suc n) cs (omega arith))
+
+pub firsts-all : (P : Grant → Type 0) (gs : List Grant) → All P gs → All P (firsts gs)
+firsts-all P [] h = tt
+firsts-all P (g ∷ gs) h = (h .0, all-keep P _ (firsts gs) (firsts-all P gs (h .1)))
+
+left-above : (seen : List (List ℕ)) (p n : ℕ) (names : List (List ℕ)) → p < n → All (λ g. p < g .place) (left seen n names)
+left-above seen p n names h = all-keep (λ g. p < g .place) _ (firsts (placed n names)) (firsts-all (λ g. p < g .place) (placed n names) (placed-above p n names h))
+
+no-name : (p : ℕ) (gs : List Grant) → All (λ g. p < g .place) gs → nameOf p gs ≡ []
+no-name p [] h = refl
+no-name p (g ∷ gs) h =
+    let l : p < g .place = h .0 in
+    rw (ne-eqb (g .place) p (λ e. omega arith)) (no-name p gs (h .1))
+
+-- ---- the table, entry by entry
+
+-- a grant of a place before does not matter
+passed-by : (p m : ℕ) (g : Grant) (gs : List Grant) → g .place < p → tableFrom p m (g ∷ gs) ≡ tableFrom p m gs
+unfolding tableFrom
+passed-by p zero g gs h = refl
+passed-by p (suc m) g gs h = rw (ne-eqb (g .place) p (λ e. omega arith)) (ap (λ (t : List ℕ). entry (nameOf p gs) ++ t) (passed-by (suc p) m g gs (omega arith)))
+
+first-entry : (b : Bool) (p m : ℕ) (c : List ℕ) (gs : List Grant) → All (λ g. p < g .place) gs
+    → tableFrom p (suc m) (consIf b (record { place = p; name = c }) gs) ≡ entry (cond b c []) ++ tableFrom (suc p) m gs
+unfolding tableFrom
+first-entry true p m c gs h = rw (eq-eqb p p refl) (ap (λ (t : List ℕ). entry c ++ t) (passed-by (suc p) m (record { place = p; name = c }) gs (omega arith)))
+first-entry false p m c gs h = ap (λ (n : List ℕ). entry n ++ tableFrom (suc p) m gs) (no-name p gs h)
+
+-- where nothing is granted all bytes are zeros
+no-entries : (p m : ℕ) → tableFrom p m [] ≡ replicate (21 * m) 0
+unfolding tableFrom
+no-entries p zero = refl
+no-entries p (suc m) =
+    let e : 21 + 21 * m ≡ 21 * suc m = omega arith in
+    ap (λ (t : List ℕ). replicate 21 0 ++ t) (no-entries (suc p) m) ∙ replicate-append-replicate 21 (21 * m) 0 ∙ ap (λ (j : ℕ). replicate j 0) e
+
+table-left : (p m : ℕ) (seen names : List (List ℕ)) → length names ≤ m
+    → tableFrom p m (left seen p names) ≡ entries (named seen names) ++ replicate (21 * (m - length names)) 0
+unfolding named entries
+table-left p m seen [] h =
+    let e : m ≡ m - 0 = omega arith in
+    no-entries p m ∙ ap (λ (j : ℕ). replicate (21 * j) 0) e
+table-left p zero seen (c ∷ cs) h = absurd (omega arith)
+table-left p (suc m) seen (c ∷ cs) h =
+    let r : List ℕ = map raise c in
+    let own : List ℕ = entry (cond (fresh seen r) r []) in
+    let e : m - length cs ≡ suc m - suc (length cs) = omega arith in
+    ap (tableFrom p (suc m)) (left-step seen p c cs)
+    ∙ first-entry (fresh seen r) p m r (left (r ∷ seen) (suc p) cs) (left-above (r ∷ seen) p (suc p) cs (omega arith))
+    ∙ ap (λ (t : List ℕ). own ++ t) (table-left (suc p) m (r ∷ seen) cs (omega arith))
+    ∙ sym (append-assoc own (entries (named (r ∷ seen) cs)) (replicate (21 * (m - length cs)) 0))
+    ∙ ap (λ (j : ℕ). (own ++ entries (named (r ∷ seen) cs)) ++ replicate (21 * j) 0) e
+
+-- the table of the definition's grants
+pub table-named : (names : List (List ℕ)) → length names ≤ 32 → tableOf (grants names) ≡ entries (named [] names) ++ replicate (21 * (32 - length names)) 0
+unfolding tableOf grants
+table-named names h = ap (tableFrom 1 32) (sym (left-all (firsts (placed 1 names)))) ∙ table-left 1 32 [] names h
+
+-- ---- the place of a name
+
+place-left : (i : ℕ) (seen names : List (List ℕ)) (b : ℕ) (c : List ℕ) → foundIn i (named seen names) (b ∷ c) ≡ placeIn (left seen (i + 1) names) (b ∷ c)
+unfolding named foundIn placeIn
+place-left i seen [] b c = refl
+place-left i seen (x ∷ xs) b c =
+    let r : List ℕ = map raise x in
+    let e : i + 1 + 1 ≡ suc (i + 1) = omega arith in
+    go r (left (r ∷ seen) (suc (i + 1)) xs) (fresh seen r) (place-left (i + 1) (r ∷ seen) xs b c ∙ ap (λ (n : ℕ). placeIn (left (r ∷ seen) n xs) (b ∷ c)) e)
+    ∙ ap (λ gs. placeIn gs (b ∷ c)) (sym (left-step seen (i + 1) x xs))
+  where
+    go : {d : ℕ} (r : List ℕ) (gs : List Grant) (t : Bool) → d ≡ placeIn gs (b ∷ c)
+        → cond (same (cond t r []) (b ∷ c)) (i + 1) d ≡ placeIn (consIf t (record { place = i + 1; name = r }) gs) (b ∷ c)
+    go r gs true f = ap (cond (same r (b ∷ c)) (i + 1)) f
+    go r gs false f = f
+
+pub place-named : (names : List (List ℕ)) (b : ℕ) (c : List ℕ) → foundIn 0 (named [] names) (b ∷ c) ≡ placeIn (grants names) (b ∷ c)
+unfolding grants
+place-named names b c = place-left 0 [] names b c ∙ ap (λ gs. placeIn gs (b ∷ c)) (left-all (firsts (placed 1 names)))

@@ -1,0 +1,51 @@
+-- The granted names of a question as a table of bytes: an entry for each of 32 places, raised names where they are named first.
+use Prim.Native.Nat.{ℕ, zero, suc, _+_, _-_, _*_, _≤_}
+use mathlib.Core.Path.{_≡_}
+use mathlib.Core.Bool.{Bool, true, false, _&&_, cond}
+use mathlib.Core.List.{List, [], _∷_, _++_, map}
+use lib.Dec.{eqb, ltb}
+use lib.ListN.{length, getD, replicate}
+use Rattle.rules.specs.Lists.{same, all, between}
+use Rattle.rules.specs.Bytes.{raise}
+use Rattle.rules.specs.Question.{Grant, grants}
+use Rattle.layout.specs.Reads.{part}
+use Rattle.layout.specs.Ensures.{Puts}
+
+-- a name's length, its bytes, and zeros up to 21 bytes
+abbrev pub entry : List ℕ → List ℕ
+entry c = length c ∷ (c ++ replicate (20 - length c) 0)
+
+-- the name that is granted at a place, or nothing
+abbrev pub nameOf : ℕ → List Grant → List ℕ
+nameOf p [] = []
+nameOf p (g ∷ gs) = cond (eqb (g .place) p) (g .name) (nameOf p gs)
+
+-- the entries of m places from p on
+unfoldable pub tableFrom : ℕ → ℕ → List Grant → List ℕ
+tableFrom p zero gs = []
+tableFrom p (suc m) gs = entry (nameOf p gs) ++ tableFrom (suc p) m gs
+
+unfoldable pub tableOf : List Grant → List ℕ
+tableOf gs = tableFrom 1 32 gs
+
+-- the table is that of these names, of which there are at most 32, each of 1 to 20 bytes
+pub record GrantsAre (names : List (List ℕ)) (table : List ℕ) : Type 0 where
+  pub is : table ≡ tableOf (grants names)
+  pub few : length names ≤ 32
+  pub sizes : all (λ c. between 1 20 (length c)) names ≡ true
+
+-- ---- on the way: the bytes of a table, whatever it is of
+
+-- the entry behind i others is that of the name
+unfoldable pub entryIs : List ℕ → ℕ → List ℕ → Bool
+entryIs t i c = eqb (getD t (21 * i) 0) (length c) && same (part t (21 * i + 1) (21 * i + 1 + length c)) c
+
+-- the place of the first of m entries behind i others that is that of the name, or 33
+unfoldable pub lookFrom : List ℕ → ℕ → ℕ → List ℕ → ℕ
+lookFrom t i zero c = 33
+lookFrom t i (suc m) c = cond (entryIs t i c) (i + 1) (lookFrom t (i + 1) m c)
+
+-- the table once a name has come in behind k entries: only a name that none of them is
+pub record Entered (t : List ℕ) (k : ℕ) (name r : List ℕ) : Type 0 where
+  pub new : ltb (lookFrom t 0 k (map raise name)) 33 ≡ false → Puts t (21 * k) (length name ∷ map raise name) r
+  pub again : ltb (lookFrom t 0 k (map raise name)) 33 ≡ true → r ≡ t

@@ -1,0 +1,121 @@
+// The granted names of a question as a table, made once ("Which row is chosen": granted names): raised, each at the place where it is named first.
+// An entry for each place: a byte with the name's length, then its bytes, zeros behind. A repeat's entry, and one behind the last name, is all zeros.
+use layout::names::put_raised;
+use layout::names::same_bytes;
+use layout::numbers::wide;
+use question::names::name_stop;
+ghost use Prim.Native.Nat.{_≤_, _<_};
+ghost use mathlib.Core.Path.{_≡_};
+ghost use lib.ListN.{length};
+ghost use Rattle.layout.specs.Ensures.{Says, Number};
+ghost use Rattle.question.specs.Parts.{NamesStand, namesAt};
+ghost use Rattle.grants.specs.Table.{GrantsAre, entryIs, lookFrom, Entered};
+ghost use Rattle.grants.specs.Places.{PlaceIs, FirstIs};
+
+// The longest name, and an entry: its length byte and as many bytes.
+const LONGEST: usize = 20;
+
+const ENTRY: usize = 21;
+// A table has an entry for each granted place.
+const TABLE: usize = 672;
+// One past the last place: none.
+const NOWHERE: usize = 33;
+
+// Whether the entry behind i others is that of the name. The lengths first, then the bytes.
+fn is_entry(g: &[u8], i: usize, name: &[u8]) -> bool
+    requires { ⌜ length (now g) ≡ 672 ⌝ }
+    requires { ⌜ i < 32 ⌝ }
+    requires { ⌜ length (now name) ≤ 20 ⌝ }
+    ensures { λ r. ⌜ Says (entryIs (now (g .entry)) i (now (name .entry))) r ⌝ }
+{
+    let at = ENTRY * i;
+    if wide(g[at]) != name.len() {
+        return false;
+    }
+    let from = at + 1;
+    let end = from + name.len();
+    same_bytes(&g[from..end], name)
+}
+
+// The place of the first of n entries that is that of the name, or 33.
+fn look(g: &[u8], n: usize, name: &[u8]) -> usize
+    requires { ⌜ length (now g) ≡ 672 ⌝ }
+    requires { ⌜ n ≤ 32 ⌝ }
+    requires { ⌜ length (now name) ≤ 20 ⌝ }
+    ensures { λ r. ⌜ Number (lookFrom (now (g .entry)) 0 n (now (name .entry))) 34 r ⌝ }
+{
+    let mut i = 0;
+    while i < n {
+        if is_entry(g, i, name) {
+            return i + 1;
+        }
+        i += 1;
+    }
+    NOWHERE
+}
+
+// The table with a name more behind k entries, raised. A name that is among them leaves it as it is.
+fn entered(table: [u8; TABLE], k: usize, name: &[u8]) -> [u8; TABLE]
+    requires { ⌜ k < 32 ⌝ }
+    requires { ⌜ length (now name) ≤ 20 ⌝ }
+    ensures { λ r. ⌜ Entered table k (now (name .entry)) r ⌝ }
+{
+    let size = name.len();
+    let mut raised = [0u8; LONGEST];
+    put_raised(&mut raised, 0, name);
+    if look(&table, k, &raised[0..size]) < NOWHERE {
+        return table;
+    }
+    let mut new = table;
+    let at = ENTRY * k;
+    new[at] = size as u8;
+    put_raised(&mut new, at + 1, name);
+    new
+}
+
+// The table of the n names that stand in the question from `at` on.
+pub fn grants_of(q: &[u8], at: usize, n: usize) -> [u8; TABLE]
+    requires { ⌜ NamesStand (now q) at n ⌝ }
+    requires { ⌜ n ≤ 32 ⌝ }
+    ensures { λ r. ⌜ GrantsAre (namesAt (now (q .entry)) at n) r ⌝ }
+{
+    let mut table = [0u8; TABLE];
+    let mut here = at;
+    let mut k = 0;
+    while k < n {
+        let stop = name_stop(q, here);
+        let from = here + 1;
+        let new = entered(table, k, &q[from..stop]);
+        table = new;
+        here = stop;
+        k += 1;
+    }
+    table
+}
+
+// The place of a row's condition: 0 if it has none, else that of the granted name that it is, or 33. The table is of n names.
+pub fn place_of(g: &[u8], n: usize, condition: &[u8]) -> usize
+    requires { ⌜ length (now g) ≡ 672 ⌝ }
+    requires { ⌜ n ≤ 32 ⌝ }
+    ensures { λ r. ⌜ PlaceIs (now (g .entry)) n (now (condition .entry)) r ⌝ }
+{
+    let size = condition.len();
+    if size < 1 {
+        return 0;
+    }
+    if LONGEST < size {
+        return NOWHERE;
+    }
+    look(g, n, condition)
+}
+
+// Whether the name at a place, from 1, is named there first.
+pub fn is_first(g: &[u8], place: usize) -> bool
+    requires { ⌜ length (now g) ≡ 672 ⌝ }
+    requires { ⌜ 1 ≤ place ⌝ }
+    requires { ⌜ place ≤ 32 ⌝ }
+    ensures { λ r. ⌜ FirstIs (now (g .entry)) place r ⌝ }
+{
+    let at = ENTRY * (place - 1);
+    0 < g[at]
+}
