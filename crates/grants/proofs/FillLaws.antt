@@ -4,24 +4,22 @@ use mathlib.Core.Path.{_≡_, refl, sym, _∙_, ap, ap₂, subst}
 use mathlib.Core.Bool.{Bool, true, false, _&&_, _||_, not, cond, false≢true}
 use mathlib.Core.List.{List, [], _∷_, _++_, map, append-assoc, append-nil}
 use native.Mathlib.Omega.{arith}
-use lib.Dec.{eqb, ltb}
-use lib.ListN.{length, getD, take, drop, replicate, length-append, length-map, length-drop, length-replicate, replicate-append-replicate}
+use lib.Dec.{ltb}
+use lib.ListN.{length, getD, take, drop, replicate, length-append, length-map, length-drop, replicate-append-replicate}
 use lib.Seq.{take-at, drop-append-add, length-take-le}
-use borrow.Author.Tests.{eqb-true, eqb-false}
-use Rattle.rules.specs.Lists.{same, any, all, between}
+use Rattle.rules.specs.Lists.{same, all, between}
 use Rattle.rules.specs.Bytes.{name, raise}
-use Rattle.rules.specs.Question.{grants}
 use Rattle.rules.proofs.ListLaws.{All, same-eq, same-refl, any-append}
 use Rattle.rules.proofs.TestLaws.{both, is-between}
 use Rattle.layout.specs.Reads.{part, nameStop}
-use Rattle.layout.specs.Ensures.{Number, Puts}
+use Rattle.layout.specs.Ensures.{Puts}
 use Rattle.question.specs.Counted.{valuesAt, Stands}
 use Rattle.question.specs.Parts.{nameAt, namesAt, NamesStand}
 use Rattle.question.specs.Asked.{NameStop}
 use Rattle.question.proofs.CountedLaws.{walk-step, walk-here}
 use Rattle.question.proofs.PartLaws.{granted-stop}
-use Rattle.grants.specs.Table.{entry, lookFrom, tableOf, Entered, GrantsAre}
-use Rattle.grants.proofs.NamedLaws.{fresh, named, entries, foundIn, table-named}
+use Rattle.grants.specs.Table.{entry, lookFrom, Entered, GrantsAre}
+use Rattle.grants.proofs.NamedLaws.{fresh, named, entries, table-named}
 use Rattle.grants.proofs.TableLaws.{entries-long, entries-append, look-entries, hits, found-hits}
 
 -- ---- the names that stand in a question

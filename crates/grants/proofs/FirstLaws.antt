@@ -1,6 +1,6 @@
 -- The place of a condition among the definition's grants is that of the first of the names, as they were sent, that it is once raised.
 use Prim.Native.Nat.{ℕ, suc}
-use mathlib.Core.Path.{_≡_, refl, sym, _∙_, ap}
+use mathlib.Core.Path.{_≡_, refl, _∙_, ap}
 use mathlib.Core.Bool.{Bool, true, false, not, cond}
 use mathlib.Core.List.{List, [], _∷_, map}
 use Rattle.rules.specs.Lists.{same, keep, consIf}

@@ -1,8 +1,8 @@
 -- The set of the granted places that brought no line, as a walk over all places builds it.
-use Prim.Native.Nat.{ℕ, zero, suc, _+_, _-_, _*_, _^_, _≤_, _<_}
+use Prim.Native.Nat.{ℕ, suc, _+_, _-_, _*_, _^_, _≤_, _<_}
 use mathlib.Core.Path.{_≡_, refl, sym, _∙_, ap, subst}
-use mathlib.Core.Bool.{Bool, true, false, _&&_, _||_, not, cond}
-use mathlib.Core.List.{List, [], _∷_, map}
+use mathlib.Core.Bool.{Bool, true, false, _&&_, not, cond}
+use mathlib.Core.List.{List, [], _∷_}
 use native.Mathlib.Omega.{arith}
 use native.Mathlib.Nat.{pow-suc}
 use lib.Dec.{eqb}
@@ -14,7 +14,7 @@ use Rattle.rules.specs.Price.{setOf}
 use Rattle.rules.proofs.UnusedLaws.{Rising, rising-grants}
 use Rattle.grants.specs.Table.{GrantsAre}
 use Rattle.grants.specs.Places.{isFirst, FirstIs}
-use Rattle.grants.specs.Idle.{idle, UnusedIs, Brought, IdleIs, Above, SetAfter}
+use Rattle.grants.specs.Idle.{idle, Brought, IdleIs, Above, SetAfter}
 
 -- ---- one place more, or not
 
@@ -142,7 +142,7 @@ module _ {t : List ℕ} {flags : List Bool} where
             few = omega arith;
             below = after-below k (inv .below) a;
             left = λ names g places b.
-              let w = inv .left names g places b in
-              let first : r ≡ any (λ g. eqb (g .place) (k + 1)) (w .0) = sym (w .1 .agree (k + 1) (omega arith) ∙ f .of names g .is) in
-              left-again names places set k after h (w .0) (w .1) (a .is ∙ rw (first, b .each (k + 1) (omega arith)));
+                let w = inv .left names g places b in
+                let first : r ≡ any (λ g. eqb (g .place) (k + 1)) (w .0) = sym (w .1 .agree (k + 1) (omega arith) ∙ f .of names g .is) in
+                left-again names places set k after h (w .0) (w .1) (a .is ∙ rw (first, b .each (k + 1) (omega arith)));
           }

@@ -1,24 +1,24 @@
 -- What is read off the table of granted names: a condition's place, and whether a place is named first.
 use Prim.Native.Nat.{ℕ, zero, suc, _+_, _-_, _*_, _<_, _≤_}
-use mathlib.Core.Path.{_≡_, refl, sym, _∙_, ap, subst}
-use mathlib.Core.Bool.{Bool, true, false, _&&_, _||_, not, cond}
+use mathlib.Core.Path.{_≡_, refl, sym, _∙_, ap}
+use mathlib.Core.Bool.{Bool, true, false, _||_, cond}
 use mathlib.Core.List.{List, [], _∷_, _++_, map}
 use native.Mathlib.Omega.{arith}
 use native.Mathlib.Nat.{add-zero}
 use lib.Dec.{eqb, ltb}
-use lib.ListN.{length, getD, drop, replicate, length-map}
+use lib.ListN.{length, getD, replicate, length-map}
 use lib.Seq.{getD-append-add}
 use borrow.Author.Tests.{lt-ltb}
-use Rattle.rules.specs.Lists.{same, any, all, between, keep}
+use Rattle.rules.specs.Lists.{any, all, between}
 use Rattle.rules.specs.Bytes.{raise}
-use Rattle.rules.specs.Question.{Grant, placed, firsts, grants}
-use Rattle.rules.proofs.ListLaws.{All, same-eq}
+use Rattle.rules.specs.Question.{Grant, placed, grants}
+use Rattle.rules.proofs.ListLaws.{All}
 use Rattle.rules.proofs.TestLaws.{and-left, and-right, between-low, between-high}
-use Rattle.layout.specs.Ensures.{Number, Says}
+use Rattle.layout.specs.Ensures.{Number}
 use Rattle.layout.proofs.NameLaws.{compare-not}
-use Rattle.grants.specs.Table.{entry, nameOf, tableFrom, tableOf, GrantsAre, lookFrom}
+use Rattle.grants.specs.Table.{entry, nameOf, tableFrom, tableOf, lookFrom}
 use Rattle.grants.specs.Places.{placeIn, placeOf, isFirst, PlaceIs, FirstIs}
-use Rattle.grants.proofs.NamedLaws.{fresh, named, entries, foundIn, firsts-all, table-named, place-named}
+use Rattle.grants.proofs.NamedLaws.{fresh, named, foundIn, firsts-all, table-named, place-named}
 use Rattle.grants.proofs.TableLaws.{entry-long, look-entries}
 
 -- ---- the sizes of names

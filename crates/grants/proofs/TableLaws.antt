@@ -1,19 +1,18 @@
 -- A table's bytes and the names that it holds: a name looked up, and a name that comes in.
-use Prim.Native.Nat.{ℕ, zero, suc, _+_, _-_, _*_, _<_, _≤_}
+use Prim.Native.Nat.{ℕ, suc, _+_, _-_, _*_, _<_, _≤_}
 use mathlib.Core.Path.{_≡_, refl, sym, _∙_, ap, ap₂}
-use mathlib.Core.Bool.{Bool, true, false, _&&_, _||_, not, cond, false≢true}
+use mathlib.Core.Bool.{Bool, true, false, _||_, cond, false≢true}
 use mathlib.Core.List.{List, [], _∷_, _++_, map, append-assoc}
 use native.Mathlib.Omega.{arith}
 use native.Mathlib.Numerals.{add-one}
 use native.Mathlib.Nat.{add-zero}
 use lib.Dec.{eqb, ltb}
-use lib.ListN.{length, getD, take, drop, set, replicate, length-append, length-map, length-set, length-replicate, replicate-append-replicate}
-use lib.Seq.{sets, take-at, drop-at, drop-drop, getD-drop, drop-append-add}
-use borrow.Author.Tests.{eq-eqb, ne-eqb, eqb-true, eqb-false, lt-ltb, le-ltb}
+use lib.ListN.{length, getD, take, drop, set, replicate, length-append, length-map, length-set, length-replicate}
+use lib.Seq.{sets, take-at, drop-at, drop-drop, getD-drop}
+use borrow.Author.Tests.{eqb-true, eqb-false, lt-ltb, le-ltb}
 use Rattle.rules.specs.Lists.{same, any}
 use Rattle.rules.specs.Bytes.{raise}
 use Rattle.rules.proofs.ListLaws.{All}
-use Rattle.layout.specs.Reads.{part}
 use Rattle.layout.specs.Ensures.{Number, Puts}
 use Rattle.layout.proofs.NameLaws.{compare-not}
 use Rattle.layout.proofs.StoreLaws.{puts-of, sets-of, puts-there}
@@ -100,7 +99,7 @@ module _ (t : List ℕ) (k : ℕ) (name : List ℕ) {old raised : List ℕ} (p :
   pub entered-new : {new : List ℕ} → 33 ≤ r → Puts (set t (21 * k) (length name)) (21 * k + 1) (map raise name) new → Entered t k name new
   entered-new {new} h q =
       record {
-        new = λ e. puts-of (omega (arith, q .room, length-set t (21 * k) (length name))) (sets-of q ∙ ap (λ (i : ℕ). sets (set t (21 * k) (length name)) i (map raise name)) (add-one (21 * k)));
+        new = λ e. puts-of (omega (arith, q .room, length-set t (21 * k) (length name), length-map name raise)) (sets-of q ∙ ap (λ (i : ℕ). sets (set t (21 * k) (length name)) i (map raise name)) (add-one (21 * k)));
         again = λ e. absurd (false≢true (sym (le-ltb (lookFrom t 0 k (map raise name)) 33 (omega (arith, looked))) ∙ e));
       }
 

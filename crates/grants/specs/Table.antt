@@ -11,6 +11,14 @@ use Rattle.rules.specs.Question.{Grant, grants}
 use Rattle.layout.specs.Reads.{part}
 use Rattle.layout.specs.Ensures.{Puts}
 
+-- a length byte and the longest name
+abbrev pub entrySize : ℕ
+entrySize = 21
+
+-- an entry for each place
+abbrev pub tableSize : ℕ
+tableSize = 672
+
 -- a name's length, its bytes, and zeros up to 21 bytes
 abbrev pub entry : List ℕ → List ℕ
 entry c = length c ∷ (c ++ replicate (20 - length c) 0)
@@ -38,7 +46,7 @@ pub record GrantsAre (names : List (List ℕ)) (table : List ℕ) : Type 0 where
 
 -- the entry behind i others is that of the name
 unfoldable pub entryIs : List ℕ → ℕ → List ℕ → Bool
-entryIs t i c = eqb (getD t (21 * i) 0) (length c) && same (part t (21 * i + 1) (21 * i + 1 + length c)) c
+entryIs t i c = eqb (getD t (entrySize * i) 0) (length c) && same (part t (entrySize * i + 1) (entrySize * i + 1 + length c)) c
 
 -- the place of the first of m entries behind i others that is that of the name, or 33
 unfoldable pub lookFrom : List ℕ → ℕ → ℕ → List ℕ → ℕ
@@ -47,5 +55,5 @@ lookFrom t i (suc m) c = cond (entryIs t i c) (i + 1) (lookFrom t (i + 1) m c)
 
 -- the table once a name has come in behind k entries: only a name that none of them is
 pub record Entered (t : List ℕ) (k : ℕ) (name r : List ℕ) : Type 0 where
-  pub new : ltb (lookFrom t 0 k (map raise name)) 33 ≡ false → Puts t (21 * k) (length name ∷ map raise name) r
+  pub new : ltb (lookFrom t 0 k (map raise name)) 33 ≡ false → Puts t (entrySize * k) (length name ∷ map raise name) r
   pub again : ltb (lookFrom t 0 k (map raise name)) 33 ≡ true → r ≡ t

@@ -11,21 +11,23 @@ ghost use mathlib.Core.Path.{_≡_};
 ghost use lib.ListN.{length};
 ghost use Rattle.layout.specs.Ensures.{Says, Number};
 ghost use Rattle.question.specs.Parts.{NamesStand, namesAt};
-ghost use Rattle.grants.specs.Table.{GrantsAre, entryIs, lookFrom, Entered};
+ghost use Rattle.grants.specs.Table.{tableSize, GrantsAre, entryIs, lookFrom, Entered};
 ghost use Rattle.grants.specs.Places.{PlaceIs, FirstIs};
 
-// The longest name, and an entry: its length byte and as many bytes.
-const LONGEST: usize = 20;
+// A question grants at most 32 names, each of at most 20 bytes.
+pub const MOST: usize = 32;
 
+const LONGEST: usize = 20;
+// An entry has a length byte and room for the longest name, a table an entry for each granted place.
 const ENTRY: usize = 21;
-// A table has an entry for each granted place.
-const TABLE: usize = 672;
+
+pub const TABLE: usize = 672;
 // One past the last place: none.
 const NOWHERE: usize = 33;
 
 // Whether the entry behind i others is that of the name. The lengths first, then the bytes.
 fn is_entry(g: &[u8], i: usize, name: &[u8]) -> bool
-    requires { ⌜ length (now g) ≡ 672 ⌝ }
+    requires { ⌜ length (now g) ≡ tableSize ⌝ }
     requires { ⌜ i < 32 ⌝ }
     requires { ⌜ length (now name) ≤ 20 ⌝ }
     ensures { λ r. ⌜ Says (entryIs (now (g .entry)) i (now (name .entry))) r ⌝ }
@@ -41,7 +43,7 @@ fn is_entry(g: &[u8], i: usize, name: &[u8]) -> bool
 
 // The place of the first of n entries that is that of the name, or 33.
 fn look(g: &[u8], n: usize, name: &[u8]) -> usize
-    requires { ⌜ length (now g) ≡ 672 ⌝ }
+    requires { ⌜ length (now g) ≡ tableSize ⌝ }
     requires { ⌜ n ≤ 32 ⌝ }
     requires { ⌜ length (now name) ≤ 20 ⌝ }
     ensures { λ r. ⌜ Number (lookFrom (now (g .entry)) 0 n (now (name .entry))) 34 r ⌝ }
@@ -65,14 +67,14 @@ fn entered(table: [u8; TABLE], k: usize, name: &[u8]) -> [u8; TABLE]
     let size = name.len();
     let mut raised = [0u8; LONGEST];
     put_raised(&mut raised, 0, name);
-    if look(&table, k, &raised[0..size]) < NOWHERE {
-        return table;
+    if NOWHERE <= look(&table, k, &raised[0..size]) {
+        let mut new = table;
+        let at = ENTRY * k;
+        new[at] = size as u8;
+        put_raised(&mut new, at + 1, name);
+        return new;
     }
-    let mut new = table;
-    let at = ENTRY * k;
-    new[at] = size as u8;
-    put_raised(&mut new, at + 1, name);
-    new
+    table
 }
 
 // The table of the n names that stand in the question from `at` on.
@@ -97,7 +99,7 @@ pub fn grants_of(q: &[u8], at: usize, n: usize) -> [u8; TABLE]
 
 // The place of a row's condition: 0 if it has none, else that of the granted name that it is, or 33. The table is of n names.
 pub fn place_of(g: &[u8], n: usize, condition: &[u8]) -> usize
-    requires { ⌜ length (now g) ≡ 672 ⌝ }
+    requires { ⌜ length (now g) ≡ tableSize ⌝ }
     requires { ⌜ n ≤ 32 ⌝ }
     ensures { λ r. ⌜ PlaceIs (now (g .entry)) n (now (condition .entry)) r ⌝ }
 {
@@ -113,7 +115,7 @@ pub fn place_of(g: &[u8], n: usize, condition: &[u8]) -> usize
 
 // Whether the name at a place, from 1, is named there first.
 pub fn is_first(g: &[u8], place: usize) -> bool
-    requires { ⌜ length (now g) ≡ 672 ⌝ }
+    requires { ⌜ length (now g) ≡ tableSize ⌝ }
     requires { ⌜ 1 ≤ place ⌝ }
     requires { ⌜ place ≤ 32 ⌝ }
     ensures { λ r. ⌜ FirstIs (now (g .entry)) place r ⌝ }

@@ -17,11 +17,11 @@ entered-spec =
     (λ c. search needs)  -- part-look-start
     (λ c. search needs)  -- part-look-end
     (λ c κs. search needs)  -- look-requires
-    (λ c. search laws)  -- returns
     (λ c. search needs)  -- mul-at
     (λ c. search needs)  -- cast-new
     (λ c. search needs)  -- array-write-new
     (λ c. search needs)  -- slice-aggregate-put-raised-2
     (λ c. search needs)  -- add-put-raised
     (λ c κs. search laws)  -- put-raised-requires-2
+    (λ c. search laws)  -- returns
     (λ c. search laws))  -- returns-2
