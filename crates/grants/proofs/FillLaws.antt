@@ -12,19 +12,20 @@ use Rattle.rules.specs.Bytes.{name, raise}
 use Rattle.rules.proofs.ListLaws.{All, same-eq, same-refl, any-append}
 use Rattle.rules.proofs.TestLaws.{both, is-between}
 use Rattle.layout.specs.Reads.{part, nameStop}
-use Rattle.layout.specs.Ensures.{Puts}
+use Rattle.layout.specs.Ensures.{Number, Puts}
 use Rattle.question.specs.Counted.{valuesAt, Stands}
 use Rattle.question.specs.Parts.{nameAt, namesAt, NamesStand}
 use Rattle.question.specs.Asked.{NameStop}
 use Rattle.question.proofs.CountedLaws.{walk-step, walk-here}
 use Rattle.question.proofs.PartLaws.{granted-stop}
 use Rattle.grants.specs.Table.{entry, lookFrom, Entered, GrantsAre}
+use Rattle.grants.specs.Places.{placeOf, PlaceIs}
 use Rattle.grants.proofs.NamedLaws.{fresh, named, entries, table-named}
 use Rattle.grants.proofs.TableLaws.{entries-long, entries-append, look-entries, hits, found-hits}
 
 -- ---- the names that stand in a question
 
-names-count : (q : List ℕ) (at n : ℕ) → length (namesAt q at n) ≡ n
+pub names-count : (q : List ℕ) (at n : ℕ) → length (namesAt q at n) ≡ n
 unfolding valuesAt
 names-count q at zero = refl
 names-count q at (suc n) = ap suc (names-count q (nameStop q at) n)
@@ -235,3 +236,9 @@ module _ {q : List ℕ} {at n : ℕ} {t : List ℕ} {here k : ℕ} (inv : Fillin
                   ∙ ap (λ (ns : List (List ℕ)). inv .held ++ named (inv .seen) ns) (sym step)
                   ∙ inv .rest;
             }
+
+-- ---- for a caller: the table is that of a question's names
+
+-- A condition's place, read off the table of the n names that stand from `at` on, is its place among them.
+pub place-among : (q : List ℕ) (at n : ℕ) {t c : List ℕ} {r : ℕ} → GrantsAre (namesAt q at n) t → PlaceIs t n c r → Number (placeOf (namesAt q at n) c) 34 r
+place-among q at n g p = p .of (namesAt q at n) g (names-count q at n)
