@@ -5,3 +5,4 @@ pub mod PlaceLaws
 pub mod FirstLaws
 pub mod FillLaws
 pub mod IdleLaws
+pub mod Worked
