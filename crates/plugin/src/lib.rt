@@ -13,7 +13,7 @@ ghost use Rattle.rules.specs.Packaging as Packaging;
 ghost use Rattle.rules.specs.Text as Text;
 ghost use Rattle.price.specs.Call.{PriceIs};
 ghost use Rattle.calendar.specs.Calls.{CalendarIs, CalendarListIs};
-ghost use Rattle.order_number.specs.Ensures.{NumberCall};
+ghost use Rattle.final_number.specs.Ensures.{NumberCall};
 
 #[no_mangle]
 pub extern "C" fn rafttwine_price(book: &[u8], question: &[u8], lines: &mut [u8]) -> PriceAnswer
@@ -58,14 +58,14 @@ pub extern "C" fn rafttwine_calendar_list(
 pub extern "C" fn rafttwine_final_number(book: &[u8], question: &[u8], out: &mut [u8]) -> Written
     ensures { λ r. ⌜ NumberCall (now (book .entry)) (now (question .entry)) (now (out .entry)) (now (out .exit)) r ⌝ }
 {
-    order_number::final_number(book, question, out)
+    final_number::final_number(book, question, out)
 }
 
 #[no_mangle]
 pub extern "C" fn rafttwine_packaging(book: &[u8], question: &[u8]) -> PackagingAnswer
     ensures { λ r. ⌜ r ≡ Packaging.shown (Packaging.packaging (now (book .entry)) (now (question .entry))) ⌝ }
 {
-    cartons::packaging(book, question)
+    packaging::packaging(book, question)
 }
 
 #[no_mangle]

@@ -1,0 +1,155 @@
+-- All properties, one behind the other, and with the base number in front the whole number.
+use Prim.Native.Nat.{ℕ, _+_, _*_, _-_, _≤_, _<_}
+use mathlib.Core.Path.{_≡_, refl, sym, _∙_, ap, subst}
+use mathlib.Core.Bool.{Bool, true, false, _&&_, not, and-true, and-false}
+use mathlib.Core.List.{List, [], _∷_, _++_, append-nil, append-assoc}
+use mathlib.Core.Option.{Option, some, none}
+use native.Mathlib.Omega.{arith}
+use native.Mathlib.Decide.{ℕ-discrete}
+use lib.Dec.{eqb}
+use lib.ListN.{length, length-append}
+use borrow.Author.Tests.{eq-eqb, ne-eqb}
+use Rattle.rules.specs.Lists.{joinWith, consSome, gather, isSome, ifSome}
+use Rattle.rules.specs.Book.{Record, Article, Scheme, schemeOf}
+use Rattle.rules.specs.Question.{Property, Question, property}
+use Rattle.rules.specs.FinalNumber.{shownOf, separatorOf, behind, numberBy, finalNumberOf}
+use Rattle.layout.specs.Ensures.{PutsTo}
+use Rattle.layout.proofs.StoreLaws.{to-nothing, to-then}
+use Rattle.records.specs.Asks.{OfKind}
+use Rattle.records.specs.Ensures.{bytesIn, schemeIn, SchemeIs}
+use Rattle.records.specs.declared.schemes.SchemeParts.{SchemeParts}
+use Rattle.question.specs.declared.Ask.{Ask}
+use Rattle.question.specs.Counted.{Stands, valuesAt}
+use Rattle.question.specs.Parts.{propertyAt, propertyStop, propertiesAt, PropertiesStand}
+use Rattle.question.specs.Asked.{PropertyStop, AskIs, askIn}
+use Rattle.question.proofs.CountedLaws.{walk-step, walk-here}
+use Rattle.lookup.specs.Ensures.{asScheme, schemeHeld}
+use Rattle.final_number.specs.Values.{before, most, led, brought, ledAll, broughtAll}
+use Rattle.final_number.specs.Ensures.{longest, SchemeOrNone, numberIn}
+use Rattle.final_number.proofs.ValueLaws.{part-long, led-short}
+
+-- ---- one property, and the others
+
+led-step : (s : Scheme) (first : Bool) (o : Option (List ℕ)) (vs : List (List ℕ)) → ledAll s first (consSome o vs) ≡ led s first o ++ ledAll s (first && not (isSome o)) vs
+unfolding ledAll
+led-step s first none vs = ap (λ b. ledAll s b vs) (sym (and-true first))
+led-step s true (some v) vs = refl
+led-step s false (some v) vs = refl
+
+-- the next value is the first as long as the place is where the base number ends
+module _ (s : Scheme) (base at : ℕ) (low : base ≤ at) where
+  still-first : (o : Option (List ℕ)) (r : ℕ) → r ≡ at + length (led s (eqb at base) o) → eqb r base ≡ (eqb at base && not (isSome o))
+  still-first none r e =
+      let f : r ≡ at = omega arith in
+      rw f (sym (and-true (eqb at base)))
+  still-first (some v) r e = ne-eqb r base (λ f. go (ℕ-discrete at base) f) ∙ sym (and-false (eqb at base))
+    where
+      some-bytes : (xs : List ℕ) → 1 ≤ length (separatorOf xs)
+      some-bytes [] = omega arith
+      some-bytes (x ∷ xs) = omega arith
+
+      go : Dec (at ≡ base) → r ≡ base → ⊥
+      go (yes i) f =
+          let g : r ≡ at + length (before s true ++ v) = e ∙ ap (λ b. at + length (before s b ++ v)) (eq-eqb at base i) in
+          omega (arith, some-bytes (s .numberSeparator), length-append (before s true) v)
+      go (no n) f = n (omega arith)
+
+-- ---- the loop
+
+-- whoever writes the properties that are left from `at` on has written all of them behind the base number
+pub record Putting (old : List ℕ) (base : ℕ) (q : List ℕ) (s : Scheme) (from count : ℕ) (out : List ℕ) (at p left : ℕ) : Type 0 where
+  pub low : base ≤ at
+  pub room : at + most * left ≤ length out
+  pub long : length out ≡ length old
+  pub standing : PropertiesStand q p left
+  pub rest : {new : List ℕ} {r : ℕ} → PutsTo out at (ledAll s (eqb at base) (gather (shownOf s) (propertiesAt q p left))) new r
+      → PutsTo old base (broughtAll s (propertiesAt q from count)) new r
+
+module _ (old : List ℕ) (base : ℕ) (q : List ℕ) (t : List ℕ) (scheme : SchemeParts) (from count : ℕ) where
+  abbrev s : Scheme
+  s = schemeIn t scheme
+
+  pub put-start : PropertiesStand q from count → base + most * count ≤ length old → Putting old base q (schemeIn t scheme) from count old base from count
+  put-start p h = record { low = omega arith; room = h; long = refl; standing = p; rest = λ w. rw (eq-eqb base base refl) at w }
+
+  module _ {out : List ℕ} {at p left : ℕ} (inv : Putting old base q (schemeIn t scheme) from count out at p left) where
+    pub put-here : 0 < left → Stands property propertyAt propertyStop q p
+    put-here h = walk-here (inv .standing) h
+
+    pub put-room : 0 < left → at + most ≤ length out
+    put-room h = omega (arith, inv .room)
+
+    pub put-again : {new : List ℕ} {end r : ℕ} → 0 < left → SchemeIs t scheme → PropertyStop q p end → PutsTo out at (brought (schemeIn t scheme) (eqb at base) (propertyAt q p)) new r
+        → Putting old base q (schemeIn t scheme) from count new r end (left - 1)
+    put-again {new} {end} {r} h is stop w =
+        let step = walk-step (inv .standing) h in
+        let o = shownOf s (propertyAt q p) in
+        let vs = gather (shownOf s) (propertiesAt q end (left - 1)) in
+        let all : ledAll s (eqb at base) (gather (shownOf s) (propertiesAt q p left)) ≡ led s (eqb at base) o ++ ledAll s (eqb r base) vs =
+        ap (λ (ps : List Property). ledAll s (eqb at base) (gather (shownOf s) ps)) (step .values)
+        ∙ (ap (λ (k : ℕ). ledAll s (eqb at base) (consSome o (gather (shownOf s) (propertiesAt q k (left - 1))))) (sym (stop .is))
+        ∙ (led-step s (eqb at base) o vs ∙ ap (λ b. led s (eqb at base) o ++ ledAll s b vs) (sym (still-first s base at (inv .low) o r (w .ends))))) in
+        record {
+          low = omega (arith, inv .low, w .ends);
+          room = omega (arith, inv .room, w .ends, w .puts .long, led-short t scheme q p at (eqb at base) out (is .bounds) stop);
+          long = w .puts .long ∙ inv .long;
+          standing = rw (stop .is) (step .rest);
+          rest = λ {new = new′} {r = r′} x. inv .rest (subst (λ (bs : List ℕ). PutsTo out at bs new′ r′) (sym all) (to-then w x));
+        }
+
+    pub put-end : left ≤ 0 → PutsTo old base (broughtAll (schemeIn t scheme) (propertiesAt q from count)) out at
+    unfolding ledAll valuesAt
+    put-end h =
+        let e : left ≡ 0 = omega arith in
+        inv .rest (rw e (to-nothing (omega (arith, inv .room))))
+
+-- ---- the whole number
+
+joined : (s : Scheme) (v : List ℕ) (vs : List (List ℕ)) → joinWith (s .valueSeparator) (v ∷ vs) ≡ v ++ ledAll s false vs
+unfolding ledAll
+joined s v [] = sym (append-nil v)
+joined s v (w ∷ ws) = ap (λ xs. v ++ (s .valueSeparator ++ xs)) (joined s w ws) ∙ ap (λ xs. v ++ xs) (sym (append-assoc (s .valueSeparator) w (ledAll s false ws)))
+
+-- the base number, and behind it each value with the separator in front of it
+number-led : (number : List ℕ) (ps : List Property) (s : Scheme) → numberBy number ps s ≡ number ++ broughtAll s ps
+unfolding numberBy ledAll
+number-led number ps s = go (gather (shownOf s) ps)
+  where
+    go : (vs : List (List ℕ)) → behind number s vs ≡ number ++ ledAll s true vs
+    go [] = sym (append-nil number)
+    go (v ∷ vs) = ap (λ xs. number ++ (separatorOf (s .numberSeparator) ++ xs)) (joined s v vs) ∙ ap (λ xs. number ++ xs) (sym (append-assoc (separatorOf (s .numberSeparator)) v (ledAll s false vs)))
+
+-- with a scheme or without, the base number comes first
+pub base-first : (book : List Record) (q : Question) (a : Article) → (rest : List ℕ) × (finalNumberOf book q a ≡ q .article ++ rest)
+unfolding finalNumberOf
+base-first book q a = go (schemeOf book (a .scheme))
+  where
+    go : (o : Option Scheme) → (rest : List ℕ) × (ifSome o (q .article) (numberBy (q .article) (q .properties)) ≡ q .article ++ rest)
+    go none = ([], sym (append-nil (q .article)))
+    go (some s) = (broughtAll s (q .properties), number-led (q .article) (q .properties) s)
+
+module _ (q : List ℕ) (ask : Ask) (t : List ℕ) where
+  -- no record, no scheme
+  pub number-base : {old new : List ℕ} {r : ℕ} → length t ≡ 0 → PutsTo old 0 (bytesIn q (ask .article)) new r → PutsTo old 0 (numberIn t (askIn q ask)) new r
+  unfolding numberIn
+  number-base {old} {new} {r} e p = subst (λ (x : List ℕ). PutsTo old 0 (ifSome (schemeHeld x) (askIn q ask .article) (numberBy (askIn q ask .article) (askIn q ask .properties))) new r) (sym (empty t e)) p
+    where
+      empty : (xs : List ℕ) → length xs ≡ 0 → xs ≡ []
+      empty [] e = refl
+      empty (x ∷ xs) e = absurd (omega arith)
+
+  pub number-kind : SchemeOrNone t → (length t ≡ 0 → ⊥) → OfKind 5 t
+  number-kind k n = k .kind (omega arith)
+
+  pub number-room : AskIs q ask → {old new : List ℕ} {base : ℕ} → longest ≤ length old → PutsTo old 0 (bytesIn q (ask .article)) new base → base + most * ask .count ≤ length new
+  number-room is h p = omega (arith, is .short, is .count, p .ends, p .puts .long, part-long q (ask .article) (is .inside))
+
+  pub number-by : (scheme : SchemeParts) → SchemeIs t scheme → {a b c : List ℕ} {base r : ℕ} → PutsTo a 0 (bytesIn q (ask .article)) b base
+      → PutsTo b base (broughtAll (schemeIn t scheme) (propertiesAt q (ask .properties) (ask .count))) c r
+      → PutsTo a 0 (numberIn t (askIn q ask)) c r
+  unfolding numberIn
+  number-by scheme is {a} {c = c} {r = r} p v =
+      let e : numberIn t (askIn q ask) ≡ bytesIn q (ask .article) ++ broughtAll (schemeIn t scheme) (propertiesAt q (ask .properties) (ask .count)) =
+      ap (λ (o : Option Record). ifSome (ifSome o none asScheme) (askIn q ask .article) (numberBy (askIn q ask .article) (askIn q ask .properties))) (is .is)
+      ∙ number-led (askIn q ask .article) (askIn q ask .properties) (schemeIn t scheme) in
+      subst (λ (x : List ℕ). PutsTo a 0 x c r) (sym e) (to-then p v)

@@ -1,0 +1,19 @@
+-- `final_number::values::put_next` meets its contract: by the laws `next-..`.
+use borrow.Author.Needs.{needs}
+use Rattle.final_number.proofs.ValueLaws.{next-none, next-room, next-some}
+use Rattle.final_number.proofs.values.put_next.Statement.{statement}
+use Rattle.final_number.proofs.values.put_next.Tie as tie
+
+ruleset laws = (needs, next-none, next-room, next-some)
+
+pub put-next-spec : {M : Type 1} → statement M
+put-next-spec =
+    tie.close
+    (tie.spec
+    (λ c. search needs)  -- add-if1
+    (λ c. search needs)  -- shared-slice-read-if1
+    (λ c. search laws)  -- returns
+    (λ c κs. search laws)  -- put-separator-requires
+    (λ c κs. search laws)  -- put-value-requires
+    (λ c. search needs)  -- same-length
+    (λ c. search laws))  -- returns-2

@@ -1,0 +1,19 @@
+-- `final_number::values::put_part` meets its contract: by the law `part-put`.
+use borrow.Author.Needs.{needs}
+use Rattle.final_number.proofs.ValueLaws.{part-put}
+use Rattle.final_number.proofs.values.put_part.Statement.{statement}
+use Rattle.final_number.proofs.values.put_part.Tie as tie
+
+ruleset laws = (needs, part-put)
+
+pub put-part-spec : {M : Type 1} → statement M
+put-part-spec =
+    tie.close
+    (tie.spec
+    (λ c. search needs)  -- add-to
+    (λ c. search needs)  -- sub-put-bytes
+    (λ c. search needs)  -- part-put-bytes-start
+    (λ c. search needs)  -- part-put-bytes-end
+    (λ c κs. search laws)  -- put-bytes-requires
+    (λ c. search needs)  -- same-length
+    (λ c. search laws))  -- returns

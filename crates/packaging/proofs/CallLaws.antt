@@ -1,0 +1,146 @@
+-- The records at the places are those that the definition uses; and the whole call, refusal by refusal.
+use Prim.Native.Nat.{ℕ}
+use mathlib.Core.Path.{_≡_, refl, sym, _∙_, ap, subst}
+use mathlib.Core.Bool.{Bool, true, false, _&&_, false≢true}
+use mathlib.Core.List.{List, [], _∷_}
+use mathlib.Core.Option.{Option, some, none}
+use native.Mathlib.Omega.{arith}
+use lib.Dec.{eqb}
+use lib.ListN.{getD}
+use Rattle.rules.specs.Lists.{same, first, pick, gather, consSome, isSome}
+use Rattle.rules.specs.Book.{Record, Article, Pack, packagings, articleOf, packOf}
+use Rattle.rules.specs.BookLayout.{records, star}
+use Rattle.rules.specs.Question.{Question, grants, questionOf}
+use Rattle.rules.specs.Refusals.{Result, _>>=_, refused, orRefuse}
+use Rattle.rules.specs.Packaging.{orElse, packFor, used, Packed, packaging, shown}
+use Rattle.rules.specs.declared.PackagingAnswer.{PackagingAnswer}
+use Rattle.rules.proofs.TestLaws.{and-false}
+use Rattle.book.specs.Records.{recordsLeft, listed}
+use Rattle.book.specs.Ensures.{Between}
+use Rattle.book.proofs.WalkLaws.{book-records, all-left, pass-start}
+use Rattle.question.specs.declared.Ask.{Ask}
+use Rattle.question.specs.Asked.{askIn, AskIs}
+use Rattle.choice.specs.Slots.{placeOf, upFrom}
+use Rattle.choice.proofs.SlotLaws.{Granted, gather-same, all-above, none-is, places-gathered}
+use Rattle.choice.proofs.ChosenLaws.{asking, asking-granted}
+use Rattle.packaging.specs.declared.places.Place.{Place}
+use Rattle.packaging.specs.declared.places.Found.{Found}
+use Rattle.packaging.specs.Places.{firstAt, noPlace, packThere, PlaceIs, AllMark, Keeps, FoundIs, usedFrom, usedIn}
+use Rattle.packaging.specs.Sums.{summed, placed, AnswersFrom}
+use Rattle.packaging.proofs.SumLaws.{there-is}
+
+-- ---- the record of a place is that of a condition
+
+module _ {A : Type 0} where
+  first-same : (p q : A → Bool) → ((x : A) → p x ≡ q x) → (xs : List A) → first p xs ≡ first q xs
+  first-same p q h [] = refl
+  first-same p q h (x ∷ xs) = λ i. pick (h x i) x (first-same p q h xs i)
+
+  first-none : (xs : List A) → first (λ x. false) xs ≡ none
+  first-none [] = refl
+  first-none (x ∷ xs) = first-none xs
+
+module _ (names : List (List ℕ)) (article : List ℕ) (rs : List Record) (i : ℕ) where
+  first-named : (name : List ℕ) → ((c : List ℕ) → eqb (placeOf names c) i ≡ same c name) → firstAt names article rs i ≡ packOf rs article name
+  unfolding firstAt packOf
+  first-named name h = first-same _ _ (λ p. ap (λ (b : Bool). same (p .article) article && b) (h (p .condition))) (packagings rs)
+
+  first-nowhere : ((c : List ℕ) → eqb (placeOf names c) i ≡ false) → firstAt names article rs i ≡ none
+  unfolding firstAt
+  first-nowhere h = first-same _ (λ p. false) (λ p. ap (λ (b : Bool). same (p .article) article && b) (h (p .condition)) ∙ and-false (same (p .article) article)) (packagings rs) ∙ first-none (packagings rs)
+
+-- ---- the records used
+
+pub keeps-mark : {b : List ℕ} {ps : List Place} {f : ℕ → Option Pack} → Keeps b ps f → AllMark b ps
+keeps-mark {b} {ps} k = record { each = λ i l. record { is = subst (PlaceIs b (getD ps i noPlace)) (sym (there-is (k .each i l))) (k .each i l) } }
+
+module _ (q : Question) (ok : Granted (q .granted)) (rs : List Record) where
+  abbrev firstOf : List ℕ → ℕ → Option Pack
+  firstOf article = firstAt (q .granted) article rs
+
+  module _ {b : List ℕ} {own any : List Place} (k : Keeps b own (firstAt (q .granted) (q .article) rs)) (l : Keeps b any (firstAt (q .granted) star rs)) where
+    -- without a condition
+    unconditioned : packThere b (getD own 0 noPlace) ≡ packOf rs (q .article) []
+    unconditioned = there-is (k .each 0 (omega arith)) ∙ first-named (q .granted) (q .article) rs 0 [] (none-is (q .granted) ok)
+
+    used-is : (p : Pack) → packOf rs (q .article) [] ≡ some p → usedIn b own any ≡ used rs q p
+    unfolding usedFrom used
+    used-is p e =
+        gather-same (λ i. orElse (packThere b (getD own i noPlace)) (packThere b (getD any i noPlace))) (λ i. orElse (firstOf (q .article) i) (firstOf star i)) (upFrom 0 33)
+        (all-above (λ i. orElse (packThere b (getD own i noPlace)) (packThere b (getD any i noPlace)) ≡ orElse (firstOf (q .article) i) (firstOf star i)) 0 33
+        (λ i a h. λ j. orElse (there-is (k .each i h) j) (there-is (l .each i h) j)))
+        ∙ (λ j. consSome (orElse ((first-named (q .granted) (q .article) rs 0 [] (none-is (q .granted) ok) ∙ e) j) (firstOf star 0)) (rest j))
+      where
+        rest : gather (λ i. orElse (firstOf (q .article) i) (firstOf star i)) (upFrom 1 32) ≡ gather (packFor rs (q .article)) (grants (q .granted))
+        rest =
+            places-gathered (q .granted) ok (λ i. orElse (firstOf (q .article) i) (firstOf star i)) (packFor rs (q .article))
+            (λ g h. λ j. orElse (first-named (q .granted) (q .article) rs (g .place) (g .name) h j) (first-named (q .granted) star rs (g .place) (g .name) h j))
+            (λ i h. λ j. orElse (first-nowhere (q .granted) (q .article) rs i h j) (first-nowhere (q .granted) star rs i h j))
+
+    -- what the definition does once the article is there
+    placed-is : placed b own any ≡ (orRefuse 8 (packOf rs (q .article) []) >>= λ p. summed (used rs q p))
+    unfolding placed
+    placed-is = go (packOf rs (q .article) []) refl
+      where
+        go : (o : Option Pack) → packOf rs (q .article) [] ≡ o → (orRefuse 8 (packThere b (getD own 0 noPlace)) >>= λ _. summed (usedIn b own any)) ≡ (orRefuse 8 o >>= λ p. summed (used rs q p))
+        go none e = ap (λ (o : Option Pack). orRefuse 8 o >>= λ _. summed (usedIn b own any)) (unconditioned ∙ e)
+        go (some p) e = ap (λ (o : Option Pack). orRefuse 8 o >>= λ _. summed (usedIn b own any)) (unconditioned ∙ e) ∙ ap summed (used-is p e)
+
+-- ---- the call
+
+module _ {A B : Type 0} (n : ℕ) (o : Option A) (f : A → Result B) where
+  refuses : isSome o ≡ false → (orRefuse n o >>= f) ≡ refused n
+  refuses e = go o e
+    where
+      go : (o : Option A) → isSome o ≡ false → (orRefuse n o >>= f) ≡ refused n
+      go none e = refl
+      go (some a) e = absurd (false≢true (sym e))
+
+  goes-on : {a : A} → o ≡ some a → (orRefuse n o >>= f) ≡ f a
+  goes-on e = rw e
+
+-- what is done with an accepted question
+abbrev pub withQuestion : List Record → Question → Result Packed
+withQuestion book q = orRefuse 3 (articleOf book (q .article)) >>= λ _. orRefuse 8 (packOf book (q .article) []) >>= λ p. summed (used book q p)
+
+abbrev pub withBook : List ℕ → List Record → Result Packed
+withBook s book = orRefuse 2 (questionOf s) >>= withQuestion book
+
+pub opened : (b s : List ℕ) → packaging b s ≡ (orRefuse 1 (records b) >>= withBook s)
+unfolding packaging summed
+opened b s = refl
+
+pub book-starts : {b : List ℕ} → isSome (records b) ≡ true → Between b 5
+book-starts {b} ok = pass-start b ok
+
+-- the answer of a test, as it is asked for
+pub told : {t u : Bool} → t ≡ u → t ≡ true → u ≡ true
+told e f = sym e ∙ f
+
+module _ (b s : List ℕ) where
+  pub call-1 : {t : Bool} {r : PackagingAnswer} → t ≡ isSome (records b) → t ≡ false → r ≡ shown (refused 1) → r ≡ shown (packaging b s)
+  call-1 e f h = h ∙ ap shown (sym (opened b s ∙ refuses 1 (records b) (withBook s) (sym e ∙ f)))
+
+  module _ (ok : isSome (records b) ≡ true) where
+    left : records b ≡ some (recordsLeft b 5)
+    left = book-records b ok ∙ ap (λ (o : Option (List Record)). some (listed o)) (sym (all-left b ok))
+
+    pub call-2 : {t : Bool} {r : PackagingAnswer} → t ≡ isSome (questionOf s) → t ≡ false → r ≡ shown (refused 2) → r ≡ shown (packaging b s)
+    call-2 e f h = h ∙ ap shown (sym (opened b s ∙ goes-on 1 (records b) (withBook s) left ∙ refuses 2 (questionOf s) (withQuestion (recordsLeft b 5)) (sym e ∙ f)))
+
+    module _ {ask : Ask} (a : AskIs s ask) {found : Found} (is : FoundIs b (askIn s ask) found) where
+      asked : packaging b s ≡ withQuestion (recordsLeft b 5) (askIn s ask)
+      asked = opened b s ∙ goes-on 1 (records b) (withBook s) left ∙ goes-on 2 (questionOf s) (withQuestion (recordsLeft b 5)) (a .is)
+
+      pub call-3 : {r : PackagingAnswer} → found .article ≡ false → r ≡ shown (refused 3) → r ≡ shown (packaging b s)
+      call-3 e h = h ∙ ap shown (sym (asked ∙ refuses 3 (articleOf (recordsLeft b 5) (askIn s ask .article)) _ (sym (is .article) ∙ e)))
+
+      pub call-on : {r : PackagingAnswer} → found .article ≡ true → AnswersFrom b (found .own) (found .any) r → r ≡ shown (packaging b s)
+      call-on e from =
+          from .is
+          ∙ ap shown (placed-is (askIn s ask) (asking-granted (asking a)) (recordsLeft b 5) (is .own) (is .any)
+          ∙ sym (asked ∙ goes-on 3 (articleOf (recordsLeft b 5) (askIn s ask .article)) _ (there (articleOf (recordsLeft b 5) (askIn s ask .article)) (sym (is .article) ∙ e) .1)))
+        where
+          there : (o : Option Article) → isSome o ≡ true → (x : Article) × (o ≡ some x)
+          there none e = absurd (false≢true e)
+          there (some x) e = (x, refl)

@@ -1,0 +1,53 @@
+-- `packaging::places::walk` meets its contract: with the records that are left, each place will have the first of all, by the laws `walk-..`.
+use Prim.Native.Nat.{_-_}
+use lib.ListN.{length}
+use borrow.Author.Needs.{needs}
+use Rattle.question.specs.Asked.{askIn}
+use Rattle.choice.proofs.WalkLaws.{accepted}
+use Rattle.packaging.proofs.WalkLaws.{Walking, walk-start, walk-here, walk-turn, walk-end}
+use Rattle.packaging.proofs.places.walk.Statement.{statement}
+use Rattle.packaging.proofs.places.walk.Tie as tie
+
+ruleset laws = (needs, accepted, walk-start, walk-here, walk-turn, walk-end)
+
+abbrev Inv-loop : tie.InvT-loop
+Inv-loop b q ask own₀ any₀ article₀ at₀ t12 own any article at = Walking b (askIn q ask) own any article at
+
+abbrev μ-loop : tie.MeasureT-loop
+μ-loop b q ask own₀ any₀ article₀ at₀ t12 own any article at = length b - at
+
+pub walk-spec : {M : Type 1} → statement M
+walk-spec =
+    tie.close
+    (tie.spec
+    Inv-loop
+    μ-loop
+    (λ c. search laws)  -- loop-holds
+    (λ c κs. search laws)  -- record-stop-requires
+    (λ c. search needs)  -- add-start
+    (λ c. search needs)  -- sub-own-place
+    (λ c. search needs)  -- part-own-place-start
+    (λ c. search needs)  -- part-own-place-end
+    (λ c κs. search laws)  -- own-place-requires
+    (λ c. search needs)  -- mul-kept
+    (λ c. search needs)  -- array-copy-out-kept
+    (λ c κs. search laws)  -- kept-requires
+    (λ c. search needs)  -- mul-own
+    (λ c. search needs)  -- array-set-from-own
+    (λ c. search needs)  -- sub-place-for
+    (λ c. search needs)  -- part-place-for-start
+    (λ c. search needs)  -- part-place-for-end
+    (λ c. search needs)  -- slice-aggregate-place-for
+    (λ c κs. search laws)  -- place-for-requires
+    (λ c. search needs)  -- mul-kept-2
+    (λ c. search needs)  -- array-copy-out-kept-2
+    (λ c κs. search laws)  -- kept-requires-2
+    (λ c. search needs)  -- mul-any
+    (λ c. search needs)  -- array-set-from-any
+    (λ c. search needs)  -- sub-is-asked-article
+    (λ c. search needs)  -- part-is-asked-article-start
+    (λ c. search needs)  -- part-is-asked-article-end
+    (λ c κs. search laws)  -- is-asked-article-requires
+    (λ c. search needs)  -- loop-less
+    (λ c. search laws)  -- loop-again
+    (λ c. search laws))  -- returns
