@@ -1,25 +1,31 @@
 -- Price records: the value behind the names, where the names end, and the row.
 use Prim.Native.Nat.{ℕ, zero, suc, _+_, _-_, _<_}
-use mathlib.Core.Path.{_≡_, refl, _∙_}
+use mathlib.Core.Path.{_≡_, refl, sym, _∙_, ap}
 use mathlib.Core.List.{List}
+use mathlib.Core.Bool.{Bool, true, false, _&&_, not}
+use mathlib.Core.Option.{Option, some, none}
 use native.Mathlib.Omega.{arith}
+use lib.Dec.{eqb}
 use lib.ListN.{length, getD}
 use lib.IntN.{ℤ}
 use mir.Syntax.{w64}
 use mir.Val.{toZ, ofZ}
-use Rattle.rules.specs.Book.{PriceRecord}
-use Rattle.rules.specs.BookLayout.{priceBody, valueOf}
+use Rattle.rules.specs.Layout.{whole}
+use Rattle.rules.specs.Book.{Record, ArticleRecord, PriceRecord, RoundingRecord, PackagingRecord, SchemeRecord}
+use Rattle.rules.specs.BookLayout.{priceBody, valueOf, kinded}
 use Rattle.rules.specs.declared.Value.{Value}
 use Rattle.rules.specs.declared.Value.the-variants.{Fixed, Percent}
 use Rattle.layout.specs.Reads.{nameStop}
-use Rattle.layout.specs.Ensures.{Number, SignedNumber}
+use Rattle.rules.proofs.TestLaws.{so, not-so}
+use Rattle.layout.specs.Ensures.{Says, Number, SignedNumber}
 use Rattle.layout.proofs.LayoutLaws.{taken-are}
 use Rattle.book.specs.Records.{numberAt, signedAt, secondStop, rowAt}
 use Rattle.book.specs.Ensures.{Stands}
 use Rattle.book.proofs.PartsLaws.{price-parts, body-ok}
-use Rattle.records.specs.Asks.{OfKind, TwoNames}
+use Rattle.records.specs.Asks.{Accepted, OfKind, TwoNames}
+use Rattle.records.specs.Tests.{startsWith, rowOf, isRow}
 use Rattle.records.specs.Ensures.{ValueIs, RowIs, rowIn}
-use Rattle.records.proofs.FieldLaws.{kept-is, first-there, second-there, two-names}
+use Rattle.records.proofs.FieldLaws.{kept-is, told-kind, starts-not, starts-kind, first-there, second-there, two-names}
 use Rattle.records.proofs.BoundLaws.{in-bounds}
 
 -- ---- the value
@@ -49,6 +55,9 @@ module _ {t : List ℕ} (p : OfKind 2 t) where
     pub price-names : {c y : ℕ} → Number (nameStop t a) y c → TwoNames t a c 29 (PriceRecord (rowAt t 1 a c))
     price-names g = two-names 2 p (λ a c. PriceRecord (rowAt t 1 a c)) stands e g
 
+    pub price-terms : {c y : ℕ} → Number (nameStop t a) y c → c < length t
+    price-terms g = omega (arith, price-names g .long)
+
 -- ---- the row
 module _ (t : List ℕ) (a p : ℕ) (here : TwoNames t a p 29 (PriceRecord (rowAt t 1 a p))) where
   pub row-is : {text from to upTo rounding : ℕ} {value : Value}
@@ -75,3 +84,35 @@ module _ (t : List ℕ) (a p : ℕ) (here : TwoNames t a p 29 (PriceRecord (rowA
     condition-in = omega (arith, here .middle, here .long);
     value-in = rw (v .is) (in-bounds t (PriceRecord (rowAt t 1 a p)) (here .is));
   }
+
+-- ---- of an article and sort
+
+-- a record that is of no price of the article
+of-another : (number : List ℕ) (sort : ℕ) (o : Option Record) → rowOf number o ≡ false → isRow number sort o ≡ false
+unfolding startsWith isRow
+of-another number sort none f = refl
+of-another number sort (some (ArticleRecord a)) f = refl
+of-another number sort (some (PriceRecord p)) f = ap (λ x. x && eqb (p .sort) sort) f
+of-another number sort (some (RoundingRecord x)) f = refl
+of-another number sort (some (PackagingRecord x)) f = refl
+of-another number sort (some (SchemeRecord x)) f = refl
+
+module _ (t number : List ℕ) (sort : ℕ) {r : Bool} (said : Says (rowOf number (whole kinded t)) r) where
+  -- a record of another kind, or of another article
+  pub no-row : not r ≡ true → Says (isRow number sort (whole kinded t)) false
+  no-row e = record { is = of-another number sort (whole kinded t) (said .is ∙ not-so r e) }
+
+  module _ (e : not r ≡ false) (a : Accepted t) where
+    pub row-here : OfKind 2 t
+    row-here = starts-kind number a said (so r e)
+
+    pub row-told : {n c x y : ℕ} → Number (nameStop t 1) x n → Number (nameStop t n) y c → Says (isRow number sort (whole kinded t)) (eqb (getD t c 0) sort)
+    unfolding startsWith isRow rowAt
+    row-told {c = c} f g =
+        let here = price-names row-here f g in
+        let mine = sym (ap (rowOf number) (here .is)) ∙ (said .is ∙ so r e) in
+        record { is = ap (isRow number sort) (here .is) ∙ ap (λ x. x && eqb (getD t c 0) sort) mine }
+
+-- whatever is a row of the article and sort is a price record
+pub row-kind : {t : List ℕ} (number : List ℕ) (sort : ℕ) {r : Bool} → Accepted t → Says (isRow number sort (whole kinded t)) r → r ≡ true → OfKind 2 t
+row-kind {t} number sort p said e = told-kind t 2 p said e (λ n. record { is = of-another number sort (whole kinded t) (starts-not t 2 number p n .is) })

@@ -4,8 +4,8 @@ use mathlib.Core.List.{List, []}
 use mathlib.Core.Bool.{Bool, false, _&&_}
 use mathlib.Core.Option.{Option, some, none}
 use lib.Dec.{eqb}
-use Rattle.rules.specs.Lists.{same}
-use Rattle.rules.specs.Book.{Record, ArticleRecord, PriceRecord, RoundingRecord, PackagingRecord, SchemeRecord}
+use Rattle.rules.specs.Lists.{same, ifSome}
+use Rattle.rules.specs.Book.{Record, ArticleRecord, PriceRecord, RoundingRecord, PackagingRecord, SchemeRecord, asRow}
 use Rattle.book.specs.Records.{kindOf}
 
 -- the name that it starts with; a rounding has none
@@ -27,6 +27,11 @@ articleOf number o = startsWith 1 number o
 -- a price of the article
 abbrev pub rowOf : List ℕ → Option Record → Bool
 rowOf number o = startsWith 2 number o
+
+-- a price of the article and sort
+unfoldable pub isRow : List ℕ → ℕ → Option Record → Bool
+isRow number sort none = false
+isRow number sort (some r) = ifSome (asRow r) false λ p. same (p .article) number && eqb (p .sort) sort
 
 -- the number of a rounding; any other record has 0
 unfoldable pub roundingNumber : Option Record → ℕ

@@ -18,7 +18,7 @@ ghost use Rattle.rules.specs.BookLayout.{kinded};
 ghost use Rattle.layout.specs.Ensures.{Says};
 ghost use Rattle.book.specs.Records.{rowAt};
 ghost use Rattle.records.specs.Asks.{Accepted, OfKind, TwoNames};
-ghost use Rattle.records.specs.Tests.{rowOf};
+ghost use Rattle.records.specs.Tests.{rowOf, isRow};
 ghost use Rattle.records.specs.Ensures.{ValueIs, RowIs};
 
 // The value behind the names of a price: a flag, and four bytes with a sign.
@@ -81,4 +81,17 @@ pub fn is_row_of(t: &[u8], number: &[u8]) -> bool
     ensures { λ r. ⌜ Says (rowOf (now (number .entry)) (whole kinded (now (t .entry)))) r ⌝ }
 {
     starts_with(t, 2, number)
+}
+
+// Whether t is a price record of the article and sort. Of its terms the byte of the sort alone is read.
+pub fn is_row(t: &[u8], number: &[u8], sort: u8) -> bool
+    requires { ⌜ Accepted (now t) ⌝ }
+    ensures { λ r. ⌜ Says (isRow (now (number .entry)) sort (whole kinded (now (t .entry)))) r ⌝ }
+{
+    if !starts_with(t, 2, number) {
+        return false;
+    }
+    let condition = name_stop(t, 1);
+    let terms = name_stop(t, condition);
+    t[terms] == sort
 }
