@@ -1,14 +1,10 @@
-// One vector through its call. What a call may write is lent filled, and is printed whole afterwards, with some bytes or records behind
-// it.
+// One vector through its call. What a call may write is lent filled, and is printed whole afterwards, with some bytes behind it.
 use crate::fields::bytes;
 use crate::fields::number;
 use crate::fields::signed;
-use crate::fields::stretches;
 use crate::fields::three;
-use crate::listed::list;
 use layout::names::same_bytes;
 use rules::PriceAnswer;
-use rules::Stretch;
 use rules::TextAnswer;
 use rules::Written;
 ghost use Prim.Native.Nat.{_≤_};
@@ -16,7 +12,7 @@ ghost use Prim.Native.Nat.{_≤_};
 // The byte that stands where nothing was written.
 const FILL: u8 = 165;
 
-// At most 2,000 bytes are lent, or 40 records.
+// At most 2,000 bytes are lent.
 fn least(n: usize, most: usize) -> usize
     ensures { λ r. ⌜ r ≤ most ⌝ }
 {
@@ -30,8 +26,7 @@ pub fn run<'a>(call: u8, n: u32, room: usize, a: &'a [u8], b: &'a [u8]) {
         2 => calendar(a, b, n, lent),
         3 => final_number(a, b, lent),
         4 => packaging(a, b),
-        5 => text(a, b, n),
-        _ => calendar_list(a, b, n, least(room, 40)),
+        _ => text(a, b, n),
     }
     io::write_all(1, b"\n");
 }
@@ -65,24 +60,6 @@ fn calendar(book: &[u8], question: &[u8], end: u32, room: usize)
     io::write_all(1, b"calendar");
     written(answer);
     bytes(&out, room + 8);
-}
-
-fn calendar_list(book: &[u8], question: &[u8], end: u32, room: usize)
-    requires { ⌜ room ≤ 40 ⌝ }
-{
-    let fill = Stretch {
-        first: FILL as u32,
-        last: FILL as u32,
-        unit: FILL as i64,
-        refusal: FILL,
-        currency: [FILL; 3],
-    };
-    let listed = list(book, question, end, room, [fill; 48]);
-    let answer = listed.answer;
-    let records = listed.records;
-    io::write_all(1, b"calendar_list");
-    written(answer);
-    stretches(records, room + 2);
 }
 
 fn final_number(book: &[u8], question: &[u8], room: usize)

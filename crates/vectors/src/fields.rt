@@ -1,6 +1,5 @@
 // Fields of a line: numbers in decimal, bytes in hexadecimal, each after a blank.
 use printing::decimal::distance;
-use rules::Stretch;
 ghost use Prim.Native.Nat.{_≤_};
 
 pub fn number(n: u64) {
@@ -48,24 +47,4 @@ pub fn bytes(out: &[u8; 2048], n: usize)
     }
     io::write_all(1, b" ");
     io::write_all(1, &text[..2 * n]);
-}
-
-// The first n records.
-pub fn stretches(of: [Stretch; 48], n: usize)
-    requires { ⌜ n ≤ 48 ⌝ }
-{
-    let mut i = 0;
-    while i < n {
-        stretch(of[i]);
-        i += 1;
-    }
-}
-
-fn stretch(of: Stretch) {
-    number(of.first as u64);
-    number(of.last as u64);
-    signed(of.unit);
-    number(of.refusal as u64);
-    let currency = of.currency;
-    three(currency[0], currency[1], currency[2]);
 }

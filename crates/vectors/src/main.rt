@@ -1,9 +1,8 @@
 // The vectors program: reads stored vectors of the calls as a planning tool links them, and prints what each call gave, a line for each
 // vector. The second implementation wrote the lines that it has to print. A vector is a byte for the call, four numbers of four bytes (a
-// date or a text number, the bytes or records lent, the sizes of two parts), and the two parts.
+// date or a text number, the bytes lent, the sizes of two parts), and the two parts.
 mod calls;
 mod fields;
-mod listed;
 
 use layout::numbers::four_at;
 ghost use Prim.Native.Nat.{_+_, _≤_, _<_};

@@ -2,9 +2,9 @@
 
 use second::calls::Second;
 use second::cases::{Case, Inputs};
-use second::compare::{run, Call, Plan, Sizes, ALL_CALLS};
+use second::compare::{run, Call, Plan, Sizes};
 
-use crate::vector::{most_room, Vector};
+use crate::vector::{Vector, CALLS, MOST_ROOM};
 
 /// Any will do, as long as it stays the same.
 const SEED: u64 = 2024;
@@ -28,7 +28,7 @@ fn longest(number: usize) -> usize {
 }
 
 pub fn vectors() -> Vec<Vector> {
-    ALL_CALLS.into_iter().flat_map(of_call).collect()
+    CALLS.into_iter().flat_map(of_call).collect()
 }
 
 fn of_call(call: Call) -> Vec<Vector> {
@@ -46,7 +46,7 @@ fn of_call(call: Call) -> Vec<Vector> {
         let number = usize::from(run(call, &Second, &inputs, sizes).answer.number());
         let vector = vector(call, inputs, sizes);
         let length = vector.first.len() + vector.second.len();
-        if missing[number] > 0 && length <= longest(number) && vector.room <= most_room(call) {
+        if missing[number] > 0 && length <= longest(number) && vector.room <= MOST_ROOM {
             missing[number] -= 1;
             vectors.push(vector);
         }
@@ -58,7 +58,7 @@ fn vector(call: Call, inputs: Inputs, sizes: Sizes) -> Vector {
     let (number, room) = match call {
         Call::Price => (0, sizes.price),
         Call::Calendar => (inputs.end, sizes.calendar),
-        Call::CalendarList => (inputs.end, sizes.list),
+        Call::CalendarList => unreachable!("the program lends no list"),
         Call::FinalNumber => (0, sizes.number),
         Call::Packaging => (0, 0),
         Call::Text => (inputs.text_number, 0),

@@ -5,16 +5,15 @@
 //!
 //! | Bytes | What |
 //! |---|---|
-//! | 1 | the call: 1 price, 2 calendar, 3 final number, 4 packaging, 5 text, 6 list of stretches |
+//! | 1 | the call: 1 price, 2 calendar, 3 final number, 4 packaging, 5 text |
 //! | 4 | the calendar's end or the text's number, otherwise 0 |
-//! | 4 | how many bytes or records are lent for the output |
+//! | 4 | how many bytes are lent for the output |
 //! | 4 and 4 | the sizes of the two parts |
 //! | the rest | book and question, or asked and fallback text book |
 //!
 //! with big-endian numbers. A line has the call's name, the fields of its answer in decimal
 //! (currency and units in hexadecimal), and what stands afterwards in the lent bytes and in some
-//! behind them, which all were 165 before. Of lent records, and of some behind them, it has the
-//! fields, which were 165 too.
+//! behind them, which all were 165 before.
 
 mod drawn;
 mod vector;

@@ -1,21 +1,18 @@
 //! One vector: its bytes, and the line that it has to give.
 
 use second::compare::{hex, Call};
-use second::{calendar, calendar_list, final_number, packaging, price, text, Stretch, Written};
+use second::{calendar, final_number, packaging, price, text, Written};
 
-/// What is lent is filled with this byte, or each field of a record with this number, and so are
-/// some bytes or records behind it.
+/// What is lent is filled with this byte, and so are some bytes behind it.
 const FILL: u8 = 165;
 const BYTES_BEHIND: usize = 8;
-const RECORDS_BEHIND: usize = 2;
 
-/// The program lends no more bytes, or records.
-pub fn most_room(call: Call) -> usize {
-    match call {
-        Call::CalendarList => 40,
-        _ => 2_000,
-    }
-}
+/// The program lends no more bytes.
+pub const MOST_ROOM: usize = 2_000;
+
+/// The calls that the program makes; a vector names one by its place here, from 1. It lends no list of records: `tests/held` and
+/// the tests in C do.
+pub const CALLS: [Call; 5] = [Call::Price, Call::Calendar, Call::FinalNumber, Call::Packaging, Call::Text];
 
 pub struct Vector {
     pub call: Call,
@@ -28,14 +25,8 @@ pub struct Vector {
 
 /// The byte that stands for a call.
 fn byte_of(call: Call) -> u8 {
-    match call {
-        Call::Price => 1,
-        Call::Calendar => 2,
-        Call::FinalNumber => 3,
-        Call::Packaging => 4,
-        Call::Text => 5,
-        Call::CalendarList => 6,
-    }
+    let place = CALLS.iter().position(|one| *one == call).expect("a call that the program makes");
+    place as u8 + 1
 }
 
 impl Vector {
@@ -55,7 +46,7 @@ impl Vector {
         let answer = match self.call {
             Call::Price => priced(first, second, lent),
             Call::Calendar => written(calendar(first, second, self.number, lent)),
-            Call::CalendarList => return format!("calendar_list {}", listed(first, second, self.number, self.room)),
+            Call::CalendarList => unreachable!("the program lends no list"),
             Call::FinalNumber => written(final_number(first, second, lent)),
             Call::Packaging => return format!("packaging {}", packed(first, second)),
             Call::Text => return format!("text {}", found(first, second, self.number)),
@@ -80,18 +71,6 @@ fn priced(book: &[u8], question: &[u8], lent: &mut [u8]) -> String {
 
 fn written(answer: Written) -> String {
     format!("{} {}", answer.number, answer.length)
-}
-
-fn listed(book: &[u8], question: &[u8], end: u32, room: usize) -> String {
-    let fill = Stretch { first: FILL.into(), last: FILL.into(), unit: FILL.into(), refusal: FILL, currency: [FILL; 3] };
-    let mut out = vec![fill; room + RECORDS_BEHIND];
-    let answer = calendar_list(book, question, end, &mut out[..room]);
-    let records: String = out.iter().map(stretch).collect();
-    format!("{}{records}", written(answer))
-}
-
-fn stretch(of: &Stretch) -> String {
-    format!(" {} {} {} {} {}", of.first, of.last, of.unit, of.refusal, hex(&of.currency))
 }
 
 fn packed(book: &[u8], question: &[u8]) -> String {

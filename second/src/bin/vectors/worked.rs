@@ -9,7 +9,6 @@ pub fn vectors() -> Vec<Vector> {
     let mut vectors = sums_of_k();
     vectors.extend(rounded_and_scaled());
     vectors.extend(traps());
-    vectors.extend(lists());
     vectors.extend(order_and_cartons());
     vectors.extend(texts());
     vectors
@@ -25,10 +24,6 @@ fn price(book: &[u8], question: Question) -> Vector {
 
 fn calendar(book: &[u8], question: Question, end: u32) -> Vector {
     Vector { call: Call::Calendar, number: end, room: 70, ..price(book, question) }
-}
-
-fn list(book: &[u8], question: Question, end: u32, room: usize) -> Vector {
-    Vector { call: Call::CalendarList, number: end, room, ..price(book, question) }
 }
 
 fn other(call: Call, book: &[u8], question: Question) -> Vector {
@@ -108,21 +103,6 @@ fn traps() -> Vec<Vector> {
         calendar(&with_a_gap, ask(20240609), 20240613),
         price(&surcharges, ask(day).granted(&["Oak", "OAK", "ash"])),
     ]
-}
-
-/// The calendar's sums and traps as a list, with room to spare, exact, one record short, and none; and a price on every second day.
-fn lists() -> Vec<Vector> {
-    let k = book_k();
-    let of_k = |room| list(&k, ask(20240629).granted(&["oak"]), 20250102, room);
-    let mut vectors: Vec<Vector> = [5, 3, 2, 0].map(of_k).into();
-    vectors.extend([20261231, 20270101].map(|end| list(&k, ask(20240101), end, 5)));
-    let last_day = book(&[base(100).dates(20240101, 20240615).into()]);
-    vectors.push(list(&last_day, ask(20240614), 20240616, 2));
-    let with_a_gap = book(&[base(100).dates(20240601, 20240610).into(), base(100).dates(20240612, 20240620).into()]);
-    vectors.push(list(&with_a_gap, ask(20240609), 20240613, 3));
-    let odd_days: Vec<Record> = (20240601..=20240630).step_by(2).map(|day| base(100).dates(day, day).into()).collect();
-    vectors.extend([40, 30, 29].map(|room| list(&book(&odd_days), ask(20240601), 20240630, room)));
-    vectors
 }
 
 /// P8 and P9.
