@@ -1,7 +1,7 @@
 """Which bytes are a price book, a question or a text book, and what a text call answers.
 
-A second reading of the scope paper ("The price book", "Order number, cartons, line text"), made from the paper and the decided
-points of docs/DECISIONS.md and from nothing else. It knows nothing of the library, and the library nothing of it: where the two
+A second reading of the scope paper ("The price book", "Order number, cartons, line text"), made from the paper and the first
+part of docs/DECISIONS.md and from nothing else. It knows nothing of the library, and the library nothing of it: where the two
 differ on a case, one of them has misread the paper. It is plain rather than quick.
 """
 import datetime
