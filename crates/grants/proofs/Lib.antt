@@ -3,6 +3,7 @@ pub mod NamedLaws
 pub mod TableLaws
 pub mod PlaceLaws
 pub mod FirstLaws
+pub mod GatherLaws
 pub mod FillLaws
 pub mod IdleLaws
 pub mod Worked

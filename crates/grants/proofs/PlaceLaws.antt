@@ -38,7 +38,7 @@ placed-sized n (c ∷ cs) e = (
   placed-sized (suc n) cs (and-right (between 1 20 (length c)) (all (λ c. between 1 20 (length c)) cs) e),
 )
 
-grants-sized : (names : List (List ℕ)) → all (λ c. between 1 20 (length c)) names ≡ true → All (λ g. Sized (g .name)) (grants names)
+pub grants-sized : (names : List (List ℕ)) → all (λ c. between 1 20 (length c)) names ≡ true → All (λ g. Sized (g .name)) (grants names)
 unfolding grants
 grants-sized names e = firsts-all (λ g. Sized (g .name)) (placed 1 names) (placed-sized 1 names e)
 
@@ -82,7 +82,7 @@ found-place names (b ∷ c) h = place-named names b c
 module _ (t : List ℕ) (n : ℕ) (c : List ℕ) where
   pub place-none : length c < 1 → PlaceIs t n c 0
   unfolding placeOf
-  place-none h = record { of = λ names g e. record { is = go names c h; below = omega arith } }
+  place-none h = record { below = omega arith; of = λ names g e. record { is = go names c h; below = omega arith } }
     where
       go : (names : List (List ℕ)) (c : List ℕ) → length c < 1 → 0 ≡ placeOf names c
       go names [] h = refl
@@ -90,11 +90,13 @@ module _ (t : List ℕ) (n : ℕ) (c : List ℕ) where
 
   pub place-long : 20 < length c → PlaceIs t n c 33
   place-long h = record {
+    below = omega arith;
     of = λ names g e. record { is = sym (place-full names c (omega arith) ∙ long-nowhere (grants names) c (grants-sized names (g .sizes)) h); below = omega arith };
   }
 
   pub place-looked : {r : ℕ} → 1 ≤ length c → Number (lookFrom t 0 n c) 34 r → PlaceIs t n c r
   place-looked {r} h p = record {
+    below = p .below;
     of = λ names g e.
         let ms : List (List ℕ) = named [] names in
         let found : lookFrom t 0 (length ms) c ≡ foundIn 0 ms c =

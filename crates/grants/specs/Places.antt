@@ -1,5 +1,5 @@
 -- Where a condition stands among the granted names, and which places are named first.
-use Prim.Native.Nat.{ℕ}
+use Prim.Native.Nat.{ℕ, zero, suc, _<_}
 use mathlib.Core.Path.{_≡_}
 use mathlib.Core.Bool.{Bool, cond}
 use mathlib.Core.List.{List, [], _∷_}
@@ -28,8 +28,14 @@ placeOf names (b ∷ c) = placeIn (grants names) (b ∷ c)
 unfoldable pub isFirst : List (List ℕ) → ℕ → Bool
 isFirst names place = any (λ g. eqb (g .place) place) (grants names)
 
--- `r` is the condition's place among the names that the table is of, of which there are n
+-- n places from k on
+abbrev pub upFrom : ℕ → ℕ → List ℕ
+upFrom k zero = []
+upFrom k (suc n) = k ∷ upFrom (suc k) n
+
+-- `r` is the condition's place among the names that the table is of, of which there are n; whatever the table, it is a place or 33
 pub record PlaceIs (table : List ℕ) (n : ℕ) (condition : List ℕ) (r : ℕ) : Type 0 where
+  pub below : r < 34
   pub of : (names : List (List ℕ)) → GrantsAre names table → length names ≡ n → Number (placeOf names condition) 34 r
 
 -- `r` says whether the name at this place is named there first, for the names that the table is of

@@ -23,7 +23,7 @@ const ENTRY: usize = 21;
 
 pub const TABLE: usize = 672;
 // One past the last place: none.
-const NOWHERE: usize = 33;
+pub const NOWHERE: usize = 33;
 
 // Whether the entry behind i others is that of the name. The lengths first, then the bytes.
 fn is_entry(g: &[u8], i: usize, name: &[u8]) -> bool
