@@ -5,3 +5,4 @@ pub mod PriceLaws
 pub mod RoundingLaws
 pub mod PackagingLaws
 pub mod SchemeLaws
+pub mod TestLaws
