@@ -9,28 +9,23 @@ use lib.IntN.{ℤ, pos, negsuc, _+ℤ_}
 use lib.ListN.{length, take, drop, getD}
 use lib.Seq.{take-at, drop-at, drop-drop}
 use Rattle.rules.specs.Lists.{first, ifSome}
-use Rattle.rules.specs.Book.{Record, ArticleRecord, PriceRecord, RoundingRecord, PackagingRecord, SchemeRecord, Pack, packagings}
+use Rattle.rules.specs.Book.{Pack}
 use Rattle.rules.specs.BookLayout.{has, eight, noUnit}
 use Rattle.rules.specs.Bytes.{eitherSide}
 use Rattle.rules.specs.Packaging.{used, presentIn, valueIn, isGiven, unitsGiven, unitIn, Packed}
 use Rattle.rules.proofs.RangeLaws.{either-in}
 use Rattle.rules.proofs.ListLaws.{All, Holds, all-each, first-holds}
+use Rattle.rules.proofs.KindLaws.{packKind, list-all}
 use Rattle.rules.proofs.PackagingLaws.{Answered, each-of-eight, used-hold}
 use Rattle.records.specs.Ensures.{Bounded, PackBounds, unitsIn}
 use Rattle.records.proofs.BoundLaws.{book-bounds}
 
 -- ---- the records used
 
-all-packs : (rs : List Record) → All Bounded rs → All PackBounds (packagings rs)
-all-packs [] h = tt
-all-packs (ArticleRecord a ∷ rs) h = all-packs rs (h .1)
-all-packs (PriceRecord r ∷ rs) h = all-packs rs (h .1)
-all-packs (RoundingRecord r ∷ rs) h = all-packs rs (h .1)
-all-packs (PackagingRecord p ∷ rs) h = (h .0, all-packs rs (h .1))
-all-packs (SchemeRecord s ∷ rs) h = all-packs rs (h .1)
-
 pub used-sound : {b s : List ℕ} {a : Packed} (x : Answered b s a) → All PackBounds (used (x .book) (x .question) (x .pack))
-used-sound {b} x = used-hold PackBounds (x .book) (all-packs (x .book) (book-bounds b (x .is-book))) (x .question) (x .pack) (x .has-pack)
+used-sound {b} x =
+    let all = list-all packKind Bounded (x .book) (book-bounds b (x .is-book)) in
+    used-hold PackBounds (x .book) all (x .question) (x .pack) (x .has-pack)
 
 -- ---- values
 

@@ -23,12 +23,12 @@ use Rattle.rules.specs.declared.PackagingAnswer.{PackagingAnswer}
 use Rattle.rules.proofs.Promises.{refused-packaging}
 use Rattle.rules.proofs.PackagingLaws.{set-has}
 use Rattle.layout.specs.Ensures.{Says}
-use Rattle.packaging.specs.declared.places.Place.{Place}
+use Rattle.packaging.specs.declared.spots.Spot.{Spot}
 use Rattle.packaging.specs.declared.sums.Sums.{Sums}
-use Rattle.packaging.specs.Places.{noPlace, AllMark, usedIn}
-use Rattle.packaging.specs.Sums.{lettersIn, SumsAre, SumsFrom, mostSum, Within, GrossIs, noneBelow, summed, Answers, placed, AnswersFrom}
+use Rattle.packaging.specs.Spots.{isEmpty, noSpot, AllMark, usedIn}
+use Rattle.packaging.specs.Sums.{lettersIn, SumsAre, SumsFrom, mostSum, Within, GrossIs, noneBelow, summed, Answers, fromSpots, AnswersFrom}
 use Rattle.packaging.proofs.ValueLaws.{kept, kept-is}
-use Rattle.packaging.proofs.SumLaws.{none-there, some-there}
+use Rattle.packaging.proofs.SumLaws.{empty-there, full-there}
 
 pub refusal-is : (n : ℕ) → _≡_ {A = PackagingAnswer} (record { gross = pos 0; values = replicate 8 (pos 0); number = n; present = 0; units = replicate 9 0 }) (shown (refused n))
 refusal-is n = sym (refused-packaging n)
@@ -122,15 +122,20 @@ module _ (s : Sums) {b : Bool} (t : Says (noneBelow (s .values)) b) where
   pub answer-refused : {r : PackagingAnswer} → (s .agree && b) ≡ false → r ≡ shown (refused 11) → Answers s r
   answer-refused e h = record { is = λ us are. h ∙ ap shown (refused-11 are (ap (λ (x : Bool). s .agree && x) (t .is) ∙ e)) }
 
--- ---- from the places
+-- ---- from the spots
 
-module _ (b : List ℕ) (own any : List Place) where
-  pub places-8 : {r : PackagingAnswer} → getD own 0 noPlace .at ≡ 0 → r ≡ shown (refused 8) → AnswersFrom b own any r
-  unfolding placed
-  places-8 z h = record { is = h ∙ ap shown (sym (ap (λ (o : Option Pack). orRefuse 8 o >>= λ _. summed (usedIn b own any)) (none-there b (getD own 0 noPlace) z))) }
+module _ (b : List ℕ) (own any : List Spot) {t : Bool} (s : Says (isEmpty (getD own 0 noSpot)) t) where
+  -- what the call gives, whatever stands at the first spot
+  abbrev given-first : Option Pack → PackagingAnswer
+  given-first o = shown (orRefuse 8 o >>= λ _. summed (usedIn b own any))
 
-  pub places-add : {s : Sums} {r : PackagingAnswer} → (getD own 0 noPlace .at ≡ 0 → ⊥) → AllMark b own → SumsFrom (usedIn b own any) s → Answers s r → AnswersFrom b own any r
-  unfolding placed
-  places-add n m f a =
-      let x = some-there (m .each 0 (omega arith)) n in
-      record { is = a .is (usedIn b own any) (f .is) ∙ ap shown (sym (ap (λ (o : Option Pack). orRefuse 8 o >>= λ _. summed (usedIn b own any)) (x .2))) }
+  pub spots-8 : {r : PackagingAnswer} → t ≡ true → r ≡ shown (refused 8) → AnswersFrom b own any r
+  unfolding fromSpots
+  spots-8 e h = record { is = h ∙ sym (ap given-first (empty-there b (getD own 0 noSpot) s e)) }
+
+  pub spots-add : {sums : Sums} {r : PackagingAnswer} → t ≡ false → AllMark b own → SumsFrom (usedIn b own any) sums → Answers sums r
+      → AnswersFrom b own any r
+  unfolding fromSpots
+  spots-add e m f a =
+      let x = full-there b (getD own 0 noSpot) s (m .each 0 (omega arith)) e in
+      record { is = a .is (usedIn b own any) (f .is) ∙ sym (ap given-first (x .2)) }

@@ -1,32 +1,35 @@
--- The records at the places are those that the definition uses; and the whole call, refusal by refusal.
-use Prim.Native.Nat.{ℕ}
+-- The records at the spots are those that the definition uses; and the whole call, refusal by refusal.
+use Prim.Native.Nat.{ℕ, _+_, _-_}
 use mathlib.Core.Path.{_≡_, refl, sym, _∙_, ap, subst}
 use mathlib.Core.Bool.{Bool, true, false, _&&_, false≢true}
 use mathlib.Core.List.{List, [], _∷_}
 use mathlib.Core.Option.{Option, some, none}
 use native.Mathlib.Omega.{arith}
 use lib.Dec.{eqb}
-use lib.ListN.{getD}
+use lib.ListN.{length, getD}
 use Rattle.rules.specs.Lists.{same, first, pick, gather, consSome, isSome}
 use Rattle.rules.specs.Book.{Record, Article, Pack, packagings, articleOf, packOf}
 use Rattle.rules.specs.BookLayout.{records, star}
-use Rattle.rules.specs.Question.{Question, grants, questionOf}
+use Rattle.rules.specs.Question.{Question, Grant, grants, questionOf}
 use Rattle.rules.specs.Refusals.{Result, _>>=_, refused, orRefuse}
 use Rattle.rules.specs.Packaging.{orElse, packFor, used, Packed, packaging, shown}
 use Rattle.rules.specs.declared.PackagingAnswer.{PackagingAnswer}
 use Rattle.rules.proofs.TestLaws.{and-false}
+use Rattle.layout.specs.Reads.{part}
 use Rattle.book.specs.Records.{recordsLeft, listed}
 use Rattle.book.specs.Ensures.{Between}
 use Rattle.book.proofs.WalkLaws.{book-records, all-left, pass-start}
 use Rattle.question.specs.declared.Ask.{Ask}
 use Rattle.question.specs.Asked.{askIn, AskIs}
-use Rattle.choice.specs.Slots.{placeOf, upFrom}
-use Rattle.choice.proofs.SlotLaws.{Granted, gather-same, all-above, none-is, places-gathered}
-use Rattle.choice.proofs.ChosenLaws.{asking, asking-granted}
-use Rattle.packaging.specs.declared.places.Place.{Place}
-use Rattle.packaging.specs.declared.places.Found.{Found}
-use Rattle.packaging.specs.Places.{firstAt, noPlace, packThere, PlaceIs, AllMark, Keeps, FoundIs, usedFrom, usedIn}
-use Rattle.packaging.specs.Sums.{summed, placed, AnswersFrom}
+use Rattle.question.specs.Parts.{namesAt}
+use Rattle.grants.specs.Table.{GrantsAre}
+use Rattle.grants.specs.Places.{placeOf, upFrom}
+use Rattle.grants.proofs.FillLaws.{names-count}
+use Rattle.grants.proofs.GatherLaws.{gather-same, none-is, places-gathered}
+use Rattle.packaging.specs.declared.spots.Spot.{Spot}
+use Rattle.packaging.specs.declared.spots.Found.{Found}
+use Rattle.packaging.specs.Spots.{firstAt, noSpot, packThere, SpotIs, AllMark, Keeps, FoundIs, usedFrom, usedIn}
+use Rattle.packaging.specs.Sums.{summed, fromSpots, AnswersFrom}
 use Rattle.packaging.proofs.SumLaws.{there-is}
 
 -- ---- the record of a place is that of a condition
@@ -51,38 +54,51 @@ module _ (names : List (List ℕ)) (article : List ℕ) (rs : List Record) (i : 
 
 -- ---- the records used
 
-pub keeps-mark : {b : List ℕ} {ps : List Place} {f : ℕ → Option Pack} → Keeps b ps f → AllMark b ps
-keeps-mark {b} {ps} k = record { each = λ i l. record { is = subst (PlaceIs b (getD ps i noPlace)) (sym (there-is (k .each i l))) (k .each i l) } }
+keeps-mark : {b : List ℕ} {ps : List Spot} {f : ℕ → Option Pack} → Keeps b ps f → AllMark b ps
+keeps-mark {b} {ps} k = record { each = λ i l. record { is = subst (SpotIs b (getD ps i noSpot)) (sym (there-is (k .each i l))) (k .each i l) } }
 
-module _ (q : Question) (ok : Granted (q .granted)) (rs : List Record) where
+module _ (q : Question) {table : List ℕ} (ok : GrantsAre (q .granted) table) (rs : List Record) where
   abbrev firstOf : List ℕ → ℕ → Option Pack
   firstOf article = firstAt (q .granted) article rs
 
-  module _ {b : List ℕ} {own any : List Place} (k : Keeps b own (firstAt (q .granted) (q .article) rs)) (l : Keeps b any (firstAt (q .granted) star rs)) where
+  -- the own one of a place, or else that of any article
+  abbrev firstFor : ℕ → Option Pack
+  firstFor i = orElse (firstOf (q .article) i) (firstOf star i)
+
+  module _ {b : List ℕ} {own any : List Spot} (k : Keeps b own (firstOf (q .article))) (l : Keeps b any (firstOf star)) where
+    abbrev thereFor : ℕ → Option Pack
+    thereFor i = orElse (packThere b (getD own i noSpot)) (packThere b (getD any i noSpot))
+
     -- without a condition
-    unconditioned : packThere b (getD own 0 noPlace) ≡ packOf rs (q .article) []
-    unconditioned = there-is (k .each 0 (omega arith)) ∙ first-named (q .granted) (q .article) rs 0 [] (none-is (q .granted) ok)
+    unconditioned : packThere b (getD own 0 noSpot) ≡ packOf rs (q .article) []
+    unconditioned = there-is (k .each 0 (omega arith)) ∙ first-named (q .granted) (q .article) rs 0 [] (none-is ok)
 
     used-is : (p : Pack) → packOf rs (q .article) [] ≡ some p → usedIn b own any ≡ used rs q p
     unfolding usedFrom used
     used-is p e =
-        gather-same (λ i. orElse (packThere b (getD own i noPlace)) (packThere b (getD any i noPlace))) (λ i. orElse (firstOf (q .article) i) (firstOf star i)) (upFrom 0 33)
-        (all-above (λ i. orElse (packThere b (getD own i noPlace)) (packThere b (getD any i noPlace)) ≡ orElse (firstOf (q .article) i) (firstOf star i)) 0 33
-        (λ i a h. λ j. orElse (there-is (k .each i h) j) (there-is (l .each i h) j)))
-        ∙ (λ j. consSome (orElse ((first-named (q .granted) (q .article) rs 0 [] (none-is (q .granted) ok) ∙ e) j) (firstOf star 0)) (rest j))
+        gather-same thereFor firstFor 0 33 (λ i a h. λ j. orElse (there-is (k .each i h) j) (there-is (l .each i h) j))
+        ∙ (λ j. consSome (orElse ((first-named (q .granted) (q .article) rs 0 [] (none-is ok) ∙ e) j) (firstOf star 0)) (rest j))
       where
-        rest : gather (λ i. orElse (firstOf (q .article) i) (firstOf star i)) (upFrom 1 32) ≡ gather (packFor rs (q .article)) (grants (q .granted))
+        named : (article : List ℕ) (g : Grant) → ((c : List ℕ) → eqb (placeOf (q .granted) c) (g .place) ≡ same c (g .name))
+            → firstOf article (g .place) ≡ packOf rs article (g .name)
+        named article g h = first-named (q .granted) article rs (g .place) (g .name) h
+
+        empty : (article : List ℕ) (i : ℕ) → ((c : List ℕ) → eqb (placeOf (q .granted) c) i ≡ false) → firstOf article i ≡ none
+        empty article i h = first-nowhere (q .granted) article rs i h
+
+        rest : gather firstFor (upFrom 1 32) ≡ gather (packFor rs (q .article)) (grants (q .granted))
         rest =
-            places-gathered (q .granted) ok (λ i. orElse (firstOf (q .article) i) (firstOf star i)) (packFor rs (q .article))
-            (λ g h. λ j. orElse (first-named (q .granted) (q .article) rs (g .place) (g .name) h j) (first-named (q .granted) star rs (g .place) (g .name) h j))
-            (λ i h. λ j. orElse (first-nowhere (q .granted) (q .article) rs i h j) (first-nowhere (q .granted) star rs i h j))
+            places-gathered ok firstFor (packFor rs (q .article))
+            (λ g h. λ j. orElse (named (q .article) g h j) (named star g h j))
+            (λ i h. λ j. orElse (empty (q .article) i h j) (empty star i h j))
 
     -- what the definition does once the article is there
-    placed-is : placed b own any ≡ (orRefuse 8 (packOf rs (q .article) []) >>= λ p. summed (used rs q p))
-    unfolding placed
-    placed-is = go (packOf rs (q .article) []) refl
+    spots-are : fromSpots b own any ≡ (orRefuse 8 (packOf rs (q .article) []) >>= λ p. summed (used rs q p))
+    unfolding fromSpots
+    spots-are = go (packOf rs (q .article) []) refl
       where
-        go : (o : Option Pack) → packOf rs (q .article) [] ≡ o → (orRefuse 8 (packThere b (getD own 0 noPlace)) >>= λ _. summed (usedIn b own any)) ≡ (orRefuse 8 o >>= λ p. summed (used rs q p))
+        go : (o : Option Pack) → packOf rs (q .article) [] ≡ o
+            → (orRefuse 8 (packThere b (getD own 0 noSpot)) >>= λ _. summed (usedIn b own any)) ≡ (orRefuse 8 o >>= λ p. summed (used rs q p))
         go none e = ap (λ (o : Option Pack). orRefuse 8 o >>= λ _. summed (usedIn b own any)) (unconditioned ∙ e)
         go (some p) e = ap (λ (o : Option Pack). orRefuse 8 o >>= λ _. summed (usedIn b own any)) (unconditioned ∙ e) ∙ ap summed (used-is p e)
 
@@ -113,6 +129,15 @@ opened b s = refl
 pub book-starts : {b : List ℕ} → isSome (records b) ≡ true → Between b 5
 book-starts {b} ok = pass-start b ok
 
+-- the walk's spots mark packagings
+module _ {b article table : List ℕ} {n : ℕ} {found : Found} (is : FoundIs b article table n found) {names : List (List ℕ)} (g : GrantsAre names table)
+    (c : length names ≡ n) where
+  pub own-mark : AllMark b (found .own)
+  own-mark = keeps-mark (is .own names g c)
+
+  pub any-mark : AllMark b (found .any)
+  any-mark = keeps-mark (is .any names g c)
+
 -- the answer of a test, as it is asked for
 pub told : {t u : Bool} → t ≡ u → t ≡ true → u ≡ true
 told e f = sym e ∙ f
@@ -128,18 +153,31 @@ module _ (b s : List ℕ) where
     pub call-2 : {t : Bool} {r : PackagingAnswer} → t ≡ isSome (questionOf s) → t ≡ false → r ≡ shown (refused 2) → r ≡ shown (packaging b s)
     call-2 e f h = h ∙ ap shown (sym (opened b s ∙ goes-on 1 (records b) (withBook s) left ∙ refuses 2 (questionOf s) (withQuestion (recordsLeft b 5)) (sym e ∙ f)))
 
-    module _ {ask : Ask} (a : AskIs s ask) {found : Found} (is : FoundIs b (askIn s ask) found) where
+    module _ {ask : Ask} (a : AskIs s ask) {table : List ℕ} (g : GrantsAre (namesAt s (ask .granted) (ask .conditions)) table) {found : Found}
+        (is : FoundIs b (part s (ask .article .at) (ask .article .at + ask .article .size)) table (ask .conditions) found) where
+      -- what was found is of the article and the names that the question has
+      pub found-asked : FoundIs b (askIn s ask .article) table (ask .conditions) found
+      found-asked =
+          let size : ask .article .at + ask .article .size - ask .article .at ≡ ask .article .size = omega arith in
+          rw size at is
+
       asked : packaging b s ≡ withQuestion (recordsLeft b 5) (askIn s ask)
       asked = opened b s ∙ goes-on 1 (records b) (withBook s) left ∙ goes-on 2 (questionOf s) (withQuestion (recordsLeft b 5)) (a .is)
 
-      pub call-3 : {r : PackagingAnswer} → found .article ≡ false → r ≡ shown (refused 3) → r ≡ shown (packaging b s)
-      call-3 e h = h ∙ ap shown (sym (asked ∙ refuses 3 (articleOf (recordsLeft b 5) (askIn s ask .article)) _ (sym (is .article) ∙ e)))
+      pub call-3 : {r : PackagingAnswer} → found .known ≡ false → r ≡ shown (refused 3) → r ≡ shown (packaging b s)
+      call-3 e h = h ∙ ap shown (sym (asked ∙ refuses 3 (articleOf (recordsLeft b 5) (askIn s ask .article)) _ (sym (found-asked .known) ∙ e)))
 
-      pub call-on : {r : PackagingAnswer} → found .article ≡ true → AnswersFrom b (found .own) (found .any) r → r ≡ shown (packaging b s)
+      count : length (namesAt s (ask .granted) (ask .conditions)) ≡ ask .conditions
+      count = names-count s (ask .granted) (ask .conditions)
+
+      pub call-on : {r : PackagingAnswer} → found .known ≡ true → AnswersFrom b (found .own) (found .any) r → r ≡ shown (packaging b s)
       call-on e from =
+          let own = found-asked .own (namesAt s (ask .granted) (ask .conditions)) g count in
+          let any = found-asked .any (namesAt s (ask .granted) (ask .conditions)) g count in
+          let article = articleOf (recordsLeft b 5) (askIn s ask .article) in
           from .is
-          ∙ ap shown (placed-is (askIn s ask) (asking-granted (asking a)) (recordsLeft b 5) (is .own) (is .any)
-          ∙ sym (asked ∙ goes-on 3 (articleOf (recordsLeft b 5) (askIn s ask .article)) _ (there (articleOf (recordsLeft b 5) (askIn s ask .article)) (sym (is .article) ∙ e) .1)))
+          ∙ ap shown (spots-are (askIn s ask) g (recordsLeft b 5) own any
+          ∙ sym (asked ∙ goes-on 3 article _ (there article (sym (found-asked .known) ∙ e) .1)))
         where
           there : (o : Option Article) → isSome o ≡ true → (x : Article) × (o ≡ some x)
           there none e = absurd (false≢true e)

@@ -1,4 +1,4 @@
-pub mod PlaceLaws
+pub mod SpotLaws
 pub mod WalkLaws
 pub mod UnitLaws
 pub mod ValueLaws

@@ -1,31 +1,32 @@
 -- What the used records come to: one record more, and place after place.
 use Prim.Native.Nat.{ℕ, suc, _+_, _-_, _*_, _≤_, _<_}
 use mathlib.Core.Path.{_≡_, refl, sym, _∙_, ap, subst}
-use mathlib.Core.Bool.{Bool, true, false, _&&_, cond}
+use mathlib.Core.Bool.{Bool, true, false, _&&_, cond, false≢true}
 use mathlib.Core.List.{List, [], _∷_, _++_, map, append-assoc, append-nil}
-use mathlib.Core.Option.{Option, some, none}
+use mathlib.Core.Option.{Option, some, none, Option·some-injective}
 use native.Mathlib.Omega.{arith}
-use native.Mathlib.Decide.{decLt, ℕ-discrete}
+use native.Mathlib.Decide.{decLt}
 use lib.Bits.{bitOr}
-use lib.Dec.{eqb}
 use lib.IntN.{ℤ, pos, natAbs, _+ℤ_}
 use lib.ListN.{take, drop, getD, replicate, getD-replicate, List·getD-eq-default}
-use borrow.Author.Tests.{eq-eqb, ne-eqb}
+use borrow.Author.Tests.{ne-eqb}
 use Rattle.rules.specs.Lists.{isSome, all, consSome}
-use Rattle.rules.specs.Book.{Record, ArticleRecord, PriceRecord, RoundingRecord, PackagingRecord, SchemeRecord, Pack}
+use Rattle.rules.specs.Book.{Record, PackagingRecord, Pack}
 use Rattle.rules.specs.BookLayout.{eight, noUnit}
 use Rattle.rules.specs.Packaging.{orElse, unitIn, unitsAgree, three}
 use Rattle.rules.proofs.PackagingLaws.{unitAfter, goesWith, present-more, value-more, unit-more, agree-more}
+use Rattle.rules.proofs.KindLaws.{packKind, same-held}
+use Rattle.layout.specs.Reads.{part}
 use Rattle.layout.specs.Ensures.{Says}
 use Rattle.records.specs.declared.packagings.Packing.{Packing}
 use Rattle.records.specs.Asks.{OfKind}
 use Rattle.records.specs.Ensures.{unitsIn, packIn, PackIs}
 use Rattle.records.proofs.FieldLaws.{kind-byte}
-use Rattle.packaging.specs.declared.places.Place.{Place}
+use Rattle.packaging.specs.declared.spots.Spot.{Spot}
 use Rattle.packaging.specs.declared.sums.Units.{Units}
 use Rattle.packaging.specs.declared.sums.Sums.{Sums}
-use Rattle.packaging.specs.Places.{noPlace, PackThere, Held, PlaceIs, NoPack, OnePack, packThere, Marks, AllMark, FirstOf, usedFrom, usedIn}
-use Rattle.packaging.specs.Sums.{lettersIn, UnitsOf, UnitsAfter, unitsGo, mostBefore, AddableValues, ValuesAfter, Added, SumsAre, Within, WithRecord, WithPlace, SumsFrom, nothing}
+use Rattle.packaging.specs.Spots.{isEmpty, noSpot, PackThere, Held, SpotIs, NoPack, OnePack, packThere, Marks, AllMark, FirstOf, usedFrom, usedIn}
+use Rattle.packaging.specs.Sums.{lettersIn, UnitsOf, UnitsAfter, unitsGo, mostBefore, AddableValues, ValuesAfter, Added, SumsAre, Within, WithRecord, WithSpot, SumsFrom, nothing}
 
 -- ---- one record more
 
@@ -81,90 +82,92 @@ module _ {b : List ℕ} {at end : ℕ} where
 
   pub record-added : {s r : Sums} {p : Packing} → PackIs (take (end - at) (drop at b)) p → Added s p r → WithRecord b s at end r
   record-added {s} {r} {p} h a = record {
-    is = λ x there us are. subst (λ (y : Pack). SumsAre (us ++ (y ∷ [])) r) (same-pack (sym (h .is) ∙ there .is)) (sums-more (take (end - at) (drop at b)) are a);
+    is = λ x there us are. subst (λ (y : Pack). SumsAre (us ++ (y ∷ [])) r) (same-pack x (sym (h .is) ∙ there .is)) (sums-more (part b at end) are a);
     near = a .values .near;
   }
     where
-      same-pack : {x y : Pack} → some (PackagingRecord x) ≡ some (PackagingRecord y) → x ≡ y
-      same-pack {x} e = ap of e
-        where
-          of : Option Record → Pack
-          of none = x
-          of (some (ArticleRecord a)) = x
-          of (some (PriceRecord r)) = x
-          of (some (RoundingRecord r)) = x
-          of (some (PackagingRecord p)) = p
-          of (some (SchemeRecord s)) = x
+      same-pack : (x : Pack) → some (PackagingRecord (packIn (part b at end) p)) ≡ some (PackagingRecord x) → packIn (part b at end) p ≡ x
+      same-pack x e = same-held packKind (packIn (part b at end) p) x (Option·some-injective (PackagingRecord _) (PackagingRecord x) e)
 
--- ---- what stands at a place
+-- ---- what stands at a spot
 
-pub there-is : {b : List ℕ} {p : Place} {o : Option Pack} → PlaceIs b p o → packThere b p ≡ o
+pub there-is : {b : List ℕ} {p : Spot} {o : Option Pack} → SpotIs b p o → packThere b p ≡ o
 unfolding packThere
-there-is {p = p} (NoPack z) = rw (eq-eqb (p .at) 0 z)
+there-is {p = p} (NoPack z) = rw z
 there-is {p = p} (OnePack x t) = rw (ne-eqb (p .at) 0 (λ z. omega (arith, t .low)), t .is)
 
-pub none-there : (b : List ℕ) (p : Place) → p .at ≡ 0 → packThere b p ≡ none
+none-there : (b : List ℕ) (p : Spot) → isEmpty p ≡ true → packThere b p ≡ none
 none-there b p z = there-is (NoPack z)
 
-module _ {b : List ℕ} {p : Place} where
-  pub some-there : Marks b p → (p .at ≡ 0 → ⊥) → (x : Pack) × PackThere b (p .at) (p .end) x × (packThere b p ≡ some x)
-  some-there m n = go (m .is) refl
-    where
-      go : {o : Option Pack} → PlaceIs b p o → packThere b p ≡ o → (x : Pack) × PackThere b (p .at) (p .end) x × (packThere b p ≡ some x)
-      go (NoPack z) e = absurd (n z)
-      go (OnePack x t) e = (x, t, e)
+some-there : {b : List ℕ} {p : Spot} → Marks b p → isEmpty p ≡ false → (x : Pack) × PackThere b (p .at) (p .end) x × (packThere b p ≡ some x)
+some-there {b} {p} m n = go (m .is) refl
+  where
+    go : {o : Option Pack} → SpotIs b p o → packThere b p ≡ o → (x : Pack) × PackThere b (p .at) (p .end) x × (packThere b p ≡ some x)
+    go (NoPack z) e = absurd (false≢true (sym n ∙ z))
+    go (OnePack x t) e = (x, t, e)
 
-  pub marks-held : Marks b p → (p .at ≡ 0 → ⊥) → Held b (p .at) (p .end)
-  marks-held m n = let x = some-there m n in record { pack = x .0; there = x .1 }
+-- by what the code asks
+module _ (b : List ℕ) (p : Spot) {t : Bool} (s : Says (isEmpty p) t) where
+  pub empty-there : t ≡ true → packThere b p ≡ none
+  empty-there e = none-there b p (s .is ∙ e)
 
-  pub place-empty : {s : Sums} → p .at ≡ 0 → WithPlace b s p s
-  place-empty {s} z = record {
-    is = λ us are. subst (λ (ps : List Pack). SumsAre ps s) (sym (ap (λ (o : Option Pack). us ++ consSome o []) (none-there b p z) ∙ append-nil us)) are;
+  pub full-there : Marks b p → t ≡ false → (x : Pack) × PackThere b (p .at) (p .end) x × (packThere b p ≡ some x)
+  full-there m e = some-there m (s .is ∙ e)
+
+  pub marks-held : Marks b p → t ≡ false → Held b (p .at) (p .end)
+  marks-held m e = let x = full-there m e in record { pack = x .0; there = x .1 }
+
+  pub spot-empty : {sums : Sums} → t ≡ true → WithSpot b sums p sums
+  spot-empty {sums} e = record {
+    is = λ us are.
+        let none-more : us ++ consSome (packThere b p) [] ≡ us = ap (λ (o : Option Pack). us ++ consSome o []) (empty-there e) ∙ append-nil us in
+        subst (λ (ps : List Pack). SumsAre ps sums) (sym none-more) are;
     near = λ i. omega arith;
   }
 
-  pub place-added : {s r : Sums} → Marks b p → (p .at ≡ 0 → ⊥) → WithRecord b s (p .at) (p .end) r → WithPlace b s p r
-  place-added {s} {r} m n w =
-      let x = some-there m n in
+  pub spot-added : {sums r : Sums} → Marks b p → t ≡ false → WithRecord b sums (p .at) (p .end) r → WithSpot b sums p r
+  spot-added {sums} {r} m e w =
+      let x = full-there m e in
       record { is = λ us are. subst (λ (o : Option Pack). SumsAre (us ++ consSome o []) r) (sym (x .2)) (w .is (x .0) (x .1) us are); near = w .near }
 
 -- ---- the own one, or that of any article
 
-module _ (own any : Place) where
-  pub first-any : own .at ≡ 0 → FirstOf own any any
-  first-any z = record { is = rw (eq-eqb (own .at) 0 z) }
+module _ (own any : Spot) where
+  module _ {t : Bool} (s : Says (isEmpty own) t) where
+    pub first-any : t ≡ true → FirstOf own any any
+    first-any e = record { is = rw (s .is ∙ e) }
 
-  pub first-own : (own .at ≡ 0 → ⊥) → FirstOf own any own
-  first-own n = record { is = rw (ne-eqb (own .at) 0 n) }
+    pub first-own : t ≡ false → FirstOf own any own
+    first-own e = record { is = rw (s .is ∙ e) }
 
-  module _ {b : List ℕ} {r : Place} (m : Marks b own) (k : Marks b any) (f : FirstOf own any r) where
-    first-cases : (P : Place → Type 0) → (own .at ≡ 0 → P any) → ((own .at ≡ 0 → ⊥) → P own) → P r
-    first-cases P x y = rw (f .is) (go (ℕ-discrete (own .at) 0))
+  module _ {b : List ℕ} {r : Spot} (m : Marks b own) (k : Marks b any) (f : FirstOf own any r) where
+    first-cases : (P : Spot → Type 0) → (isEmpty own ≡ true → P any) → (isEmpty own ≡ false → P own) → P r
+    first-cases P x y = rw (f .is) (go (isEmpty own) refl)
       where
-        go : Dec (own .at ≡ 0) → P (cond (eqb (own .at) 0) any own)
-        go (yes z) = rw (eq-eqb (own .at) 0 z) (x z)
-        go (no n) = rw (ne-eqb (own .at) 0 n) (y n)
+        go : (t : Bool) → isEmpty own ≡ t → P (cond t any own)
+        go true e = x e
+        go false e = y e
 
     first-marks : Marks b r
-    first-marks = first-cases (Marks b) (λ z. k) (λ n. m)
+    first-marks = first-cases (Marks b) (λ e. k) (λ e. m)
 
     first-there : packThere b r ≡ orElse (packThere b own) (packThere b any)
     first-there =
         first-cases (λ p. packThere b p ≡ orElse (packThere b own) (packThere b any))
-        (λ z. sym (ap (λ (o : Option Pack). orElse o (packThere b any)) (none-there b own z)))
-        (λ n. let x = some-there m n in x .2 ∙ sym (ap (λ (o : Option Pack). orElse o (packThere b any)) (x .2)))
+        (λ e. sym (ap (λ (o : Option Pack). orElse o (packThere b any)) (none-there b own e)))
+        (λ e. let x = some-there m e in x .2 ∙ sym (ap (λ (o : Option Pack). orElse o (packThere b any)) (x .2)))
 
 -- ---- place after place
 
 -- `before` are the records of the places below i, and with those from i on they are all
-pub record Adding (b : List ℕ) (own any : List Place) (s : Sums) (i : ℕ) : Type 0 where
+pub record Adding (b : List ℕ) (own any : List Spot) (s : Sums) (i : ℕ) : Type 0 where
   pub most : i ≤ 33
   pub before : List Pack
   pub sums : SumsAre before s
   pub rest : before ++ usedFrom b own any i (33 - i) ≡ usedIn b own any
   pub near : (k : ℕ) → natAbs (getD (s .values) k (pos 0)) ≤ i * 10_000_000
 
-module _ (b : List ℕ) (own any : List Place) where
+module _ (b : List ℕ) (own any : List Spot) where
   pub add-start : Adding b own any nothing 0
   add-start = record { most = omega arith; before = []; sums = record { present = refl; values = refl; units = refl; agree = refl }; rest = refl; near = zero-near }
     where
@@ -180,26 +183,26 @@ module _ (b : List ℕ) (own any : List Place) where
       pub add-room : Within mostBefore s
       add-room = record { each = λ k. omega (arith, inv .near k) }
 
-      module _ (m : AllMark b own) (n : AllMark b any) {place : Place} (f : FirstOf (getD own i noPlace) (getD any i noPlace) place) where
-        pub add-marks : Marks b place
-        add-marks = first-marks (getD own i noPlace) (getD any i noPlace) (m .each i l) (n .each i l) f
+      module _ (m : AllMark b own) (n : AllMark b any) {spot : Spot} (f : FirstOf (getD own i noSpot) (getD any i noSpot) spot) where
+        pub add-marks : Marks b spot
+        add-marks = first-marks (getD own i noSpot) (getD any i noSpot) (m .each i l) (n .each i l) f
 
-        step : usedFrom b own any i (33 - i) ≡ consSome (packThere b place) (usedFrom b own any (i + 1) (33 - (i + 1)))
+        step : usedFrom b own any i (33 - i) ≡ consSome (packThere b spot) (usedFrom b own any (i + 1) (33 - (i + 1)))
         unfolding usedFrom
         step =
             let e : 33 - i ≡ suc (33 - (i + 1)) = omega arith in
             let g : suc i ≡ i + 1 = omega arith in
-            ap (usedFrom b own any i) e
-            ∙ (λ k. consSome (sym (first-there (getD own i noPlace) (getD any i noPlace) (m .each i l) (n .each i l) f) k) (usedFrom b own any (g k) (33 - (i + 1))))
+            let here = first-there (getD own i noSpot) (getD any i noSpot) (m .each i l) (n .each i l) f in
+            ap (usedFrom b own any i) e ∙ (λ k. consSome (sym here k) (usedFrom b own any (g k) (33 - (i + 1))))
 
-        pub add-turn : {s′ : Sums} → WithPlace b s place s′ → Adding b own any s′ (i + 1)
+        pub add-turn : {s′ : Sums} → WithSpot b s spot s′ → Adding b own any s′ (i + 1)
         add-turn {s′} w = record {
           most = omega arith;
-          before = inv .before ++ consSome (packThere b place) [];
+          before = inv .before ++ consSome (packThere b spot) [];
           sums = w .is (inv .before) (inv .sums);
           rest =
-              append-assoc (inv .before) (consSome (packThere b place) []) (usedFrom b own any (i + 1) (33 - (i + 1)))
-              ∙ ap (λ (ps : List Pack). inv .before ++ ps) (one (packThere b place) (usedFrom b own any (i + 1) (33 - (i + 1))) ∙ sym step)
+              append-assoc (inv .before) (consSome (packThere b spot) []) (usedFrom b own any (i + 1) (33 - (i + 1)))
+              ∙ ap (λ (ps : List Pack). inv .before ++ ps) (one (packThere b spot) (usedFrom b own any (i + 1) (33 - (i + 1))) ∙ sym step)
               ∙ inv .rest;
           near = λ k. omega (arith, inv .near k, w .near k);
         }

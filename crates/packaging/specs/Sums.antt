@@ -16,11 +16,11 @@ use Rattle.rules.specs.declared.PackagingAnswer.{PackagingAnswer}
 use Rattle.rules.proofs.PackagingLaws.{unitAfter, goesWith}
 use Rattle.records.specs.declared.packagings.Packing.{Packing}
 use Rattle.records.specs.Ensures.{ValuesIn, unitsIn}
-use Rattle.packaging.specs.declared.places.Place.{Place}
+use Rattle.packaging.specs.declared.spots.Spot.{Spot}
 use Rattle.packaging.specs.declared.sums.UnitCode.{UnitCode}
 use Rattle.packaging.specs.declared.sums.Units.{Units}
 use Rattle.packaging.specs.declared.sums.Sums.{Sums}
-use Rattle.packaging.specs.Places.{noPlace, PackThere, packThere, usedIn}
+use Rattle.packaging.specs.Spots.{noSpot, PackThere, packThere, usedIn}
 
 -- ---- units
 
@@ -94,8 +94,8 @@ pub record WithRecord (b : List ℕ) (s : Sums) (at end : ℕ) (r : Sums) : Type
   pub is : (x : Pack) → PackThere b at end x → (us : List Pack) → SumsAre us s → SumsAre (us ++ (x ∷ [])) r
   pub near : (i : ℕ) → natAbs (getD (r .values) i (pos 0)) ≤ natAbs (getD (s .values) i (pos 0)) + 10_000_000
 
--- with the record at a place, if there is one
-pub record WithPlace (b : List ℕ) (s : Sums) (p : Place) (r : Sums) : Type 0 where
+-- with the record at a spot, if there is one
+pub record WithSpot (b : List ℕ) (s : Sums) (p : Spot) (r : Sums) : Type 0 where
   pub is : (us : List Pack) → SumsAre us s → SumsAre (us ++ consSome (packThere b p) []) r
   pub near : (i : ℕ) → natAbs (getD (r .values) i (pos 0)) ≤ natAbs (getD (s .values) i (pos 0)) + 10_000_000
 
@@ -121,11 +121,11 @@ summed us = do
 pub record Answers (s : Sums) (r : PackagingAnswer) : Type 0 where
   pub is : (us : List Pack) → SumsAre us s → r ≡ shown (summed us)
 
--- and once it has the places: 8 first
-unfoldable pub placed : List ℕ → List Place → List Place → Result Packed
-placed b own any = do
-  _ ← orRefuse 8 (packThere b (getD own 0 noPlace))
+-- and once it has the spots: 8 first
+unfoldable pub fromSpots : List ℕ → List Spot → List Spot → Result Packed
+fromSpots b own any = do
+  _ ← orRefuse 8 (packThere b (getD own 0 noSpot))
   summed (usedIn b own any)
 
-pub record AnswersFrom (b : List ℕ) (own any : List Place) (r : PackagingAnswer) : Type 0 where
-  pub is : r ≡ shown (placed b own any)
+pub record AnswersFrom (b : List ℕ) (own any : List Spot) (r : PackagingAnswer) : Type 0 where
+  pub is : r ≡ shown (fromSpots b own any)

@@ -1,11 +1,13 @@
 // Packaging data of an article: which packaging records a question uses, what their values come to, and in which units.
-mod places;
+mod spots;
 mod sums;
 
-use crate::places::Place;
-use crate::places::walk;
+use crate::spots::SPOTS;
+use crate::spots::Spot;
+use crate::spots::walk;
 use crate::sums::Sums;
 use crate::sums::add_up;
+use grants::grants_of;
 use rules::PackagingAnswer;
 ghost use mathlib.Core.Path.{_≡_};
 ghost use mathlib.Core.Bool.{true};
@@ -15,7 +17,7 @@ ghost use Rattle.rules.specs.Question.{questionOf};
 ghost use Rattle.rules.specs.Refusals.{refused};
 ghost use Rattle.rules.specs.Packaging.{packaging, shown};
 ghost use Rattle.layout.specs.Ensures.{Says};
-ghost use Rattle.packaging.specs.Places.{AllMark};
+ghost use Rattle.packaging.specs.Spots.{AllMark};
 ghost use Rattle.packaging.specs.Sums.{mostSum, Within, GrossIs, noneBelow, Answers, AnswersFrom};
 
 // Zeros beside the number of a refusal.
@@ -31,7 +33,7 @@ fn refusal(number: u8) -> PackagingAnswer
     }
 }
 
-// Places among the values, and among the presence bits: 16, 32 and 64 are the bits of these three.
+// Which of the values they are, and of the presence bits: 16, 32 and 64 are the bits of these three.
 const TARE: usize = 4;
 
 const NET: usize = 5;
@@ -98,31 +100,36 @@ fn answer_of(s: Sums) -> PackagingAnswer
     refusal(11)
 }
 
-// Of the places that the walk found.
-fn from_places(b: &[u8], own: [Place; 34], any: [Place; 34]) -> PackagingAnswer
+// Of the spots that the walk found. An article without a record that has no condition is refused.
+fn from_spots(b: &[u8], own: [Spot; SPOTS], any: [Spot; SPOTS]) -> PackagingAnswer
     requires { ⌜ AllMark (now b) own ⌝ }
     requires { ⌜ AllMark (now b) any ⌝ }
     ensures { λ r. ⌜ AnswersFrom (now (b .entry)) own any r ⌝ }
 {
     let unconditioned = own[0];
-    if unconditioned.at == 0 {
+    if unconditioned.is_empty() {
         return refusal(8);
     }
     answer_of(add_up(b, own, any))
 }
 
-// Of an accepted book and an accepted question.
+// Of an accepted book and an accepted question. The granted names are made into a table once, for all records.
 fn answered(b: &[u8], q: &[u8]) -> PackagingAnswer
     requires { ⌜ isSome (records (now b)) ≡ true ⌝ }
     requires { ⌜ isSome (questionOf (now q)) ≡ true ⌝ }
     ensures { λ r. ⌜ r ≡ shown (packaging (now (b .entry)) (now (q .entry))) ⌝ }
 {
     let ask = question::ask_of(q);
-    let found = walk(b, q, ask);
-    if found.article {
+    let names = ask.conditions;
+    let table = grants_of(q, ask.granted, names);
+    let article = ask.article;
+    let from = article.at;
+    let to = from + article.size;
+    let found = walk(b, &q[from..to], &table, names);
+    if found.known {
         let own = found.own;
         let any = found.any;
-        return from_places(b, own, any);
+        return from_spots(b, own, any);
     }
     refusal(3)
 }

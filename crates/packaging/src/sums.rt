@@ -1,5 +1,7 @@
 // What the used packaging records come to: their presence bits together, the sum of each value, and the units that they hold to.
-use crate::places::Place;
+use crate::spots::SPOTS;
+use crate::spots::Spot;
+use grants::NOWHERE;
 use records::Packing;
 use records::packaging_of;
 ghost use mathlib.Core.Path.{_≡_};
@@ -7,8 +9,8 @@ ghost use mathlib.Core.Bool.{_&&_};
 ghost use Rattle.rules.specs.Packaging.{isGiven};
 ghost use Rattle.rules.proofs.PackagingLaws.{goesWith};
 ghost use Rattle.layout.specs.Ensures.{Says};
-ghost use Rattle.packaging.specs.Places.{Held, Marks, AllMark, FirstOf, usedIn};
-ghost use Rattle.packaging.specs.Sums.{letters, AddableValues, ValuesAfter, UnitAfter, UnitsOf, UnitsAfter, unitsGo, Added, mostBefore, Within, WithRecord, WithPlace, SumsFrom};
+ghost use Rattle.packaging.specs.Spots.{Held, Marks, AllMark, FirstOf, usedIn};
+ghost use Rattle.packaging.specs.Sums.{letters, AddableValues, ValuesAfter, UnitAfter, UnitsOf, UnitsAfter, unitsGo, Added, mostBefore, Within, WithRecord, WithSpot, SumsFrom};
 
 // Three letters; three zeros: none is given.
 pub struct UnitCode(pub u8, pub u8, pub u8);
@@ -145,40 +147,38 @@ fn with_record(b: &[u8], s: Sums, at: usize, end: usize) -> Sums
     add_pack(s, p)
 }
 
-// With the record at a place, if there is one.
-fn with_place(b: &[u8], s: Sums, place: Place) -> Sums
-    requires { ⌜ Marks (now b) place ⌝ }
+// With the record at a spot, if there is one.
+fn with_spot(b: &[u8], s: Sums, spot: Spot) -> Sums
+    requires { ⌜ Marks (now b) spot ⌝ }
     requires { ⌜ Within mostBefore s ⌝ }
-    ensures { λ r. ⌜ WithPlace (now (b .entry)) s place r ⌝ }
+    ensures { λ r. ⌜ WithSpot (now (b .entry)) s spot r ⌝ }
 {
-    let at = place.at;
-    let end = place.end;
-    if at == 0 {
+    if spot.is_empty() {
         return s;
     }
-    with_record(b, s, at, end)
+    with_record(b, s, spot.at, spot.end)
 }
 
 // ---- all of them
 
 // A granted name's record: the article's own, or else that of any article.
-fn first_of(own: Place, any: Place) -> Place
+fn first_of(own: Spot, any: Spot) -> Spot
     ensures { λ r. ⌜ FirstOf own any r ⌝ }
 {
-    if own.at == 0 { any } else { own }
+    if own.is_empty() { any } else { own }
 }
 
 // Place after place. At 0 there is always an own one when this is called: an article without it is refused before.
-pub fn add_up(b: &[u8], own: [Place; 34], any: [Place; 34]) -> Sums
+pub fn add_up(b: &[u8], own: [Spot; SPOTS], any: [Spot; SPOTS]) -> Sums
     requires { ⌜ AllMark (now b) own ⌝ }
     requires { ⌜ AllMark (now b) any ⌝ }
     ensures { λ r. ⌜ SumsFrom (usedIn (now (b .entry)) own any) r ⌝ }
 {
     let mut sums = NOTHING;
     let mut i = 0;
-    while i < 33 {
-        let place = first_of(own[i], any[i]);
-        sums = with_place(b, sums, place);
+    while i < NOWHERE {
+        let spot = first_of(own[i], any[i]);
+        sums = with_spot(b, sums, spot);
         i += 1;
     }
     sums

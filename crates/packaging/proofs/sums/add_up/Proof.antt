@@ -25,7 +25,7 @@ add-up-spec =
     (λ c. search needs)  -- mul-first-of-2
     (λ c. search needs)  -- array-copy-out-first-of-2
     (λ c κs. search laws)  -- first-of-requires
-    (λ c κs. search laws)  -- with-place-requires
+    (λ c κs. search laws)  -- with-spot-requires
     (λ c. search needs)  -- add-i
     (λ c. search needs)  -- loop-less
     (λ c. search laws)  -- loop-again

@@ -10,5 +10,6 @@ pub first-of-spec : {M : Type 1} → statement M
 first-of-spec =
     tie.close
     (tie.spec
+    (λ c κs. search needs)  -- is-empty-requires
     (λ c. search laws)  -- returns
     (λ c. search laws))  -- returns-2

@@ -1,20 +1,19 @@
--- `packaging::places::walk` meets its contract: with the records that are left, each place will have the first of all, by the laws `walk-..`.
+-- `packaging::spots::walk` meets its contract: with the records left, the spot of each place will have the first of all, by the laws `walk-..`.
 use Prim.Native.Nat.{_-_}
 use lib.ListN.{length}
 use borrow.Author.Needs.{needs}
-use Rattle.question.specs.Asked.{askIn}
-use Rattle.choice.proofs.WalkLaws.{accepted}
+use Rattle.records.proofs.TestLaws.{accepted}
 use Rattle.packaging.proofs.WalkLaws.{Walking, walk-start, walk-here, walk-turn, walk-end}
-use Rattle.packaging.proofs.places.walk.Statement.{statement}
-use Rattle.packaging.proofs.places.walk.Tie as tie
+use Rattle.packaging.proofs.spots.walk.Statement.{statement}
+use Rattle.packaging.proofs.spots.walk.Tie as tie
 
 ruleset laws = (needs, accepted, walk-start, walk-here, walk-turn, walk-end)
 
 abbrev Inv-loop : tie.InvT-loop
-Inv-loop b q ask own₀ any₀ article₀ at₀ t12 own any article at = Walking b (askIn q ask) own any article at
+Inv-loop b article table names own₀ any₀ known₀ at₀ t12 own any known at = Walking b article table names own any known at
 
 abbrev μ-loop : tie.MeasureT-loop
-μ-loop b q ask own₀ any₀ article₀ at₀ t12 own any article at = length b - at
+μ-loop b article table names own₀ any₀ known₀ at₀ t12 own any known at = length b - at
 
 pub walk-spec : {M : Type 1} → statement M
 walk-spec =

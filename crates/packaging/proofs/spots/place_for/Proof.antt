@@ -1,9 +1,9 @@
--- `packaging::places::place_for` meets its contract: a packaging of the article by `place-named`, any other record by `place-none`.
+-- `packaging::spots::place_for` meets its contract: a packaging of the article by `place-named`, any other record by `place-none`.
 use borrow.Author.Needs.{needs}
 use Rattle.records.proofs.FieldLaws.{starts-kind}
-use Rattle.packaging.proofs.PlaceLaws.{place-named, place-none}
-use Rattle.packaging.proofs.places.place_for.Statement.{statement}
-use Rattle.packaging.proofs.places.place_for.Tie as tie
+use Rattle.packaging.proofs.SpotLaws.{place-named, place-none}
+use Rattle.packaging.proofs.spots.place_for.Statement.{statement}
+use Rattle.packaging.proofs.spots.place_for.Tie as tie
 
 ruleset laws = (needs, starts-kind, place-named, place-none)
 
