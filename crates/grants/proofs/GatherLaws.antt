@@ -7,7 +7,6 @@ use mathlib.Core.Option.{Option, none}
 use native.Mathlib.Omega.{arith}
 use native.Mathlib.Decide.{ℕ-discrete}
 use lib.Dec.{eqb}
-use lib.ListN.{length}
 use borrow.Author.Tests.{eqb-true, eqb-false, eq-eqb, ne-eqb}
 use Rattle.rules.specs.Lists.{same, keep, consIf, consSome, gather}
 use Rattle.rules.specs.Question.{Grant, placed, firsts, grants}

@@ -11,7 +11,7 @@ use lib.IntN.{ℤ, pos, natAbs, _+ℤ_}
 use lib.ListN.{take, drop, getD, replicate, getD-replicate, List·getD-eq-default}
 use borrow.Author.Tests.{ne-eqb}
 use Rattle.rules.specs.Lists.{isSome, all, consSome}
-use Rattle.rules.specs.Book.{Record, PackagingRecord, Pack}
+use Rattle.rules.specs.Book.{PackagingRecord, Pack}
 use Rattle.rules.specs.BookLayout.{eight, noUnit}
 use Rattle.rules.specs.Packaging.{orElse, unitIn, unitsAgree, three}
 use Rattle.rules.proofs.PackagingLaws.{unitAfter, goesWith, present-more, value-more, unit-more, agree-more}
