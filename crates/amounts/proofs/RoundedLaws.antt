@@ -38,7 +38,7 @@ module _ (r : Rounding) (x : Fraction) (ok : Roundable r x) where
   extra = r .before .0 *ℤ pos (x .bottom)
 
   extra-in : natAbs extra ≤ 10_000_000_000_000
-  extra-in = omega (arith, abs-mul (r .before .0) (pos (x .bottom)), mul-le-mul (ok .before-in) (ok .high))
+  extra-in = omega (arith, abs-mul (r .before .0) (pos (x .bottom)), mul-le-mul (ok .sound .before-in) (ok .high))
 
   pub extra-fits : SFits w64 extra
   extra-fits = fits64 extra (omega (arith, extra-in))
@@ -50,17 +50,17 @@ module _ (r : Rounding) (x : Fraction) (ok : Roundable r x) where
   raised-fits = fits64 (x .top +ℤ extra) (omega (arith, raised-in))
 
   pub parts-in : x .bottom * r .step ≤ 10_000_000_000_000
-  parts-in = omega (arith, mul-le-mul (ok .high) (ok .step-high))
+  parts-in = omega (arith, mul-le-mul (ok .high) (ok .sound .step-high))
 
   pub in-steps : InSteps (x .top +ℤ extra) (x .bottom * r .step)
-  in-steps = record { some = omega (arith, mul-le-mul (ok .low) (ok .step-low)); few = parts-in; z-in = raised-in }
+  in-steps = record { some = omega (arith, mul-le-mul (ok .low) (ok .sound .step-low)); few = parts-in; z-in = raised-in }
 
   -- the multiple of the step
   abbrev pub multiple : ℤ
   multiple = multipleBy (r .way) (r .step) (plus x (r .before))
 
   multiple-in : natAbs multiple ≤ natAbs (x .top) + 2_000_000
-  multiple-in = omega (arith, plus-bound r x (ok .low) (ok .step-low))
+  multiple-in = omega (arith, plus-bound r x (ok .low) (ok .sound .step-low))
 
   pub multiple-fits : SFits w64 multiple
   multiple-fits = fits64 multiple (omega (arith, multiple-in))

@@ -3,7 +3,7 @@ use Prim.Native.Nat.{ℕ, _+_, _<_, _≤_}
 use mathlib.Core.Path.{_≡_}
 use mathlib.Core.Bool.{true, cond}
 use lib.IntN.{ℤ, natAbs, _+ℤ_}
-use Rattle.rules.specs.Amounts.{exact, rounded}
+use Rattle.rules.specs.Amounts.{exact, rounded, SoundRounding}
 use Rattle.rules.specs.Bytes.{eitherSide}
 use Rattle.rules.specs.BookLayout.{inBounds}
 use Rattle.rules.specs.declared.Cents.{Cents}
@@ -36,10 +36,7 @@ pub record InSteps (z : ℤ) (n : ℕ) : Type 0 where
 
 -- a rounding as a book may have it, and an amount
 pub record Roundable (r : Rounding) (x : Fraction) : Type 0 where
-  pub step-low : 1 ≤ r .step
-  pub step-high : r .step ≤ 1_000_000
-  pub before-in : natAbs (r .before .0) ≤ 1_000_000
-  pub after-in : natAbs (r .after .0) ≤ 1_000_000
+  pub sound : SoundRounding r
   pub top-in : natAbs (x .top) ≤ 1_000_000_000_000_000_000
   pub low : 1 ≤ x .bottom
   pub high : x .bottom ≤ 10_000_000

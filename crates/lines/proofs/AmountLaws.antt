@@ -39,10 +39,7 @@ module _ (v : View) (base total : ℤ) (on : LineOn v base total) (t : Bool) (of
     pub can-round : Roundable (v .rounding) x
     can-round =
         record {
-          step-low = on .sound .rounding-in .step-low;
-          step-high = on .sound .rounding-in .step-high;
-          before-in = on .sound .rounding-in .before-in;
-          after-in = on .sound .rounding-in .after-in;
+          sound = on .sound .rounding-in;
           top-in = omega (arith, e .top-in);
           low = e .low;
           high = omega (arith, e .high);

@@ -11,8 +11,8 @@ use Rattle.rules.specs.BookLayout.{inBounds}
 use Rattle.rules.specs.Book.{Record, rows, roundings}
 use Rattle.rules.specs.Question.{Question}
 use Rattle.rules.specs.Lines.{chosen, totalOf}
+use Rattle.rules.specs.Amounts.{SoundRounding}
 use Rattle.rules.specs.declared.Cents.{Cents}
-use Rattle.rules.specs.declared.Rounding.{Rounding}
 use Rattle.rules.specs.declared.Total.the-variants.{InRange, OutOfRange}
 use Rattle.rules.proofs.ListLaws.{All}
 use Rattle.layout.specs.Reads.{only}
@@ -36,14 +36,7 @@ pub record OneOfTwo (test : Bool) (first second r : ℤ) : Type 0 where
 
 -- ---- amounts
 
--- a rounding as a book may have it
-pub record SoundRounding (r : Rounding) : Type 0 where
-  pub step-low : 1 ≤ r .step
-  pub step-high : r .step ≤ 1_000_000
-  pub before-in : natAbs (r .before .0) ≤ 1_000_000
-  pub after-in : natAbs (r .after .0) ≤ 1_000_000
-
--- and with it a row
+-- a row as a book may have it, with its rounding
 pub record Sound (v : View) : Type 0 where
   pub value-in : inBounds (v .value) ≡ true
   pub rounding-in : SoundRounding (v .rounding)

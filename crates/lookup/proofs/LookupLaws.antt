@@ -366,15 +366,15 @@ module _ {b : List ℕ} {from : ℕ} {numbers : List ℕ} {n : ℕ} where
 
 -- ---- the rounding at a place
 
+plain-sound : SoundRounding plain
+plain-sound = record { step-low = omega arith; step-high = omega arith; before-in = omega arith; after-in = omega arith }
+
 module _ {b : List ℕ} {place : ℕ} where
   pub plain-at : place ≡ 0 → {r : Rounding} → r ≡ plain → RoundingAt b place r
   plain-at z e =
       record {
         is = e ∙ sym (at-none b place plain z);
-        step-low = rw e (omega arith);
-        step-high = rw e (omega arith);
-        before-in = rw e (omega arith);
-        after-in = rw e (omega arith);
+        sound = rw e plain-sound;
       }
 
   module _ (w : PlaceHeld b place) (n : place ≡ 0 → ⊥) where
@@ -388,12 +388,9 @@ module _ {b : List ℕ} {place : ℕ} where
       pub rounding-at : {r : Rounding} → RoundingIs (part b (place + 2) e) r → RoundingAt b place r
       rounding-at i = record {
         is = sym (at-read s i n plain);
-        step-low = i .bounds .step-low;
-        step-high = i .bounds .step-high;
-        before-in = i .bounds .before-in;
-        after-in = i .bounds .after-in;
+        sound = i .bounds .sound;
       }
 
 -- a place that was found for a number has its rounding
 pub found-used : {b : List ℕ} {from number place : ℕ} → Found b from number place → {r : Rounding} → RoundingAt b place r → RoundingUsed b from number r
-found-used f r = record { is = r .is ∙ f .is; step-low = r .step-low; step-high = r .step-high; before-in = r .before-in; after-in = r .after-in }
+found-used f r = record { is = r .is ∙ f .is; sound = r .sound }

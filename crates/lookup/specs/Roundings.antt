@@ -5,11 +5,12 @@ use mathlib.Core.Bool.{Bool, true, false, _&&_, cond}
 use mathlib.Core.List.{List}
 use mathlib.Core.Option.{Option, some, none}
 use lib.Dec.{eqb}
-use lib.IntN.{natAbs}
 use lib.ListN.{length, getD}
+use Rattle.rules.specs.Lists.{ifSome}
 use Rattle.rules.specs.Layout.{whole}
-use Rattle.rules.specs.Book.{Record, ArticleRecord, PriceRecord, RoundingRecord, PackagingRecord, SchemeRecord, roundings, roundingFor, plain}
+use Rattle.rules.specs.Book.{Record, asRounding, roundings, roundingFor, plain}
 use Rattle.rules.specs.BookLayout.{kinded}
+use Rattle.rules.specs.Amounts.{SoundRounding}
 use Rattle.rules.specs.declared.Rounding.{Rounding}
 use Rattle.layout.specs.Reads.{part}
 use Rattle.book.specs.Records.{recordStop, recordsLeft}
@@ -20,20 +21,13 @@ use Rattle.lookup.specs.declared.roundings.Open.{Open}
 -- `r` is the rounding that a row with this number takes, among the records from a place on; its numbers are in their bounds
 pub record RoundingUsed (b : List ℕ) (from number : ℕ) (r : Rounding) : Type 0 where
   pub is : r ≡ roundingFor number (roundings (recordsLeft b from))
-  pub step-low : 1 ≤ r .step
-  pub step-high : r .step ≤ 1_000_000
-  pub before-in : natAbs (r .before .0) ≤ 1_000_000
-  pub after-in : natAbs (r .after .0) ≤ 1_000_000
+  pub sound : SoundRounding r
 
 -- ---- a place
 
 unfoldable pub roundingHeld : Option Record → Rounding
 roundingHeld none = plain
-roundingHeld (some (ArticleRecord a)) = plain
-roundingHeld (some (PriceRecord r)) = plain
-roundingHeld (some (RoundingRecord r)) = r
-roundingHeld (some (PackagingRecord p)) = plain
-roundingHeld (some (SchemeRecord s)) = plain
+roundingHeld (some r) = ifSome (asRounding r) plain (λ x. x)
 
 -- the rounding whose record stands at a place; 0 is the place of none, and has `other`
 unfoldable pub placedOr : List ℕ → ℕ → Rounding → Rounding
@@ -50,10 +44,7 @@ pub record PlaceHeld (b : List ℕ) (place : ℕ) : Type 0 where
 -- `r` is the rounding that stands there
 pub record RoundingAt (b : List ℕ) (place : ℕ) (r : Rounding) : Type 0 where
   pub is : r ≡ placedOr b place plain
-  pub step-low : 1 ≤ r .step
-  pub step-high : r .step ≤ 1_000_000
-  pub before-in : natAbs (r .before .0) ≤ 1_000_000
-  pub after-in : natAbs (r .after .0) ≤ 1_000_000
+  pub sound : SoundRounding r
 
 -- what stands there is the rounding of the number, among the records from a place on
 pub record Found (b : List ℕ) (from number place : ℕ) : Type 0 where

@@ -69,7 +69,7 @@ module _ {b : List ℕ} {w : Window} {at end found : ℕ} (held : Held b at end)
             subst (λ (x : Row). _≡_ {A = View} (record { place = place; level = row .level; rule = row .rule; text = row .text; value = row .value; currency = row .currency .0 ∷ row .currency .1 ∷ row .currency .2 ∷ []; rounding = rounding })
             (viewOf (roundings (recordsLeft b 5)) (record { place = place; row = x }))) e
             (λ i. record { place = place; level = row .level; rule = row .rule; text = row .text; value = row .value; currency = row .currency .0 ∷ row .currency .1 ∷ row .currency .2 ∷ []; rounding = used i });
-        sound = record { value-in = is .value-in; rounding-in = record { step-low = stands .step-low; step-high = stands .step-high; before-in = stands .before-in; after-in = stands .after-in } };
+        sound = record { value-in = is .value-in; rounding-in = stands .sound };
       }
 
 module _ {b : List ℕ} {h : Hand} where

@@ -52,10 +52,12 @@ gives-rounding =
     gives-value _
     (record {
       number-low = leb-true 1 n h₁;
-      step-low = between-low 1 1_000_000 step h₂;
-      step-high = between-high 1 1_000_000 step h₂;
-      before-in = either-in 1_000_000 before h₃;
-      after-in = either-in 1_000_000 after h₄;
+      sound = record {
+        step-low = between-low 1 1_000_000 step h₂;
+        step-high = between-high 1 1_000_000 step h₂;
+        before-in = either-in 1_000_000 before h₃;
+        after-in = either-in 1_000_000 after h₄;
+      };
     })
 
 -- values that are all within `most`, and what is behind them

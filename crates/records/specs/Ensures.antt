@@ -9,6 +9,7 @@ use lib.IntN.{ℤ, pos, natAbs}
 use Rattle.rules.specs.Layout.{whole}
 use Rattle.rules.specs.Book.{Record, ArticleRecord, PriceRecord, RoundingRecord, PackagingRecord, SchemeRecord, Article, Row, Pack, Scheme}
 use Rattle.rules.specs.BookLayout.{kinded, valueOf, inBounds, wayOf, zeroUnlessPresent}
+use Rattle.rules.specs.Amounts.{SoundRounding}
 use Rattle.rules.specs.declared.Part.{Part}
 use Rattle.rules.specs.declared.Value.{Value}
 use Rattle.rules.specs.declared.Way.{Way}
@@ -28,10 +29,7 @@ bytesIn t p = take (p .size) (drop (p .at) t)
 
 pub record RoundingBounds (r : Rounding) : Type 0 where
   pub number-low : 1 ≤ r .number
-  pub step-low : 1 ≤ r .step
-  pub step-high : r .step ≤ 1_000_000
-  pub before-in : natAbs (r .before .0) ≤ 1_000_000
-  pub after-in : natAbs (r .after .0) ≤ 1_000_000
+  pub sound : SoundRounding r
 
 -- its id is not empty, and no separator is longer than 8
 pub record SchemeBounds (s : Scheme) : Type 0 where

@@ -40,3 +40,10 @@ multipleBy way step x = stepsBy way (x .top) (x .bottom * step) *ℤ pos step
 -- some cents are added before, and some after
 unfoldable pub rounded : Rounding → Fraction → ℤ
 rounded r x = multipleBy (r .way) (r .step) (plus x (r .before)) +ℤ r .after .0
+
+-- a rounding as a book may have it, with the bounds of its layout
+pub record SoundRounding (r : Rounding) : Type 0 where
+  pub step-low : 1 ≤ r .step
+  pub step-high : r .step ≤ 1_000_000
+  pub before-in : natAbs (r .before .0) ≤ 1_000_000
+  pub after-in : natAbs (r .after .0) ≤ 1_000_000
