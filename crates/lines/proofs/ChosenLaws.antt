@@ -12,11 +12,12 @@ use Rattle.rules.specs.BookLayout.{inBounds}
 use Rattle.rules.specs.Question.{Question, Grant, grants}
 use Rattle.rules.specs.Choice.{component, better, step₅, surviving, choose}
 use Rattle.rules.specs.Lines.{Slot, slotsAt, slots, Chosen, rowsAt, chosenAt, chosen}
+use Rattle.rules.specs.Amounts.{SoundRounding}
 use Rattle.rules.specs.declared.Rounding.{Rounding}
 use Rattle.rules.proofs.ListLaws.{All, Holds, all-keep, first-holds}
 use Rattle.rules.proofs.NoPriceLaws.{survivors, level-at}
 use Rattle.lines.specs.Views.{viewOf, isBase, baseFirst}
-use Rattle.lines.specs.Contracts.{SoundRounding, Sound}
+use Rattle.lines.specs.Contracts.{Sound}
 
 -- ---- gathered and joined
 

@@ -14,6 +14,7 @@ use Rattle.rules.specs.Question.{Question}
 use Rattle.rules.specs.Lines.{chosen, Line, amounts, total, ofBase, linesOf, totalOf, linesBytes}
 use Rattle.rules.specs.Refusals.{Result, done, refused, _>>=_, orRefuse, refuseUnless}
 use Rattle.rules.specs.Price.{Priced, priced, inOneCurrency, inRange}
+use Rattle.rules.specs.Amounts.{SoundRounding}
 use Rattle.rules.specs.declared.Cents.{Cents}
 use Rattle.rules.specs.declared.Total.{Total}
 use Rattle.rules.specs.declared.Total.the-variants.{InRange, OutOfRange}
@@ -24,7 +25,7 @@ use Rattle.amounts.proofs.TotalLaws.{total-is-sum}
 use Rattle.lines.specs.declared.Pick.{Pick}
 use Rattle.lines.specs.declared.Listed.{Listed}
 use Rattle.lines.specs.Views.{View, viewOf, viewIn, viewsIn, noPick, letters, isBase, baseFirst, oneCurrency, amountsOf, amountsIn, viewsBytes}
-use Rattle.lines.specs.Contracts.{StandFor, FirstBase, SoundRounding, Sound, Listable, ListedIs}
+use Rattle.lines.specs.Contracts.{StandFor, FirstBase, Sound, Listable, ListedIs}
 use Rattle.lines.proofs.WalkLaws.{views-count}
 use Rattle.lines.proofs.ViewLaws.{run-amounts, run-base, run-currency, run-places, run-bytes}
 use Rattle.lines.proofs.ByteLaws.{lines-length}

@@ -10,13 +10,15 @@ use lib.Dec.{eqb}
 use lib.ListN.{length, drop, getD, set, replicate, length-set, length-replicate, getD-replicate}
 use lib.Seq.{getD-set-same, getD-set-other}
 use borrow.Author.Tests.{eqb-true, eq-eqb, ne-eqb, not-true}
-use Rattle.rules.specs.Lists.{isSome, consSome}
+use Rattle.rules.specs.Lists.{isSome, consSome, ifSome}
 use Rattle.rules.specs.Layout.{Layout, _>>=_, give, bytes, toEnd, whole, back}
 use Rattle.rules.specs.Bytes.{number}
-use Rattle.rules.specs.Book.{Record, ArticleRecord, PriceRecord, RoundingRecord, PackagingRecord, SchemeRecord, roundings, roundingFor, plain}
+use Rattle.rules.specs.Book.{Record, RoundingRecord, asRounding, roundings, roundingFor, plain}
 use Rattle.rules.specs.BookLayout.{kinded, oneRecord}
+use Rattle.rules.specs.Amounts.{SoundRounding}
 use Rattle.rules.specs.declared.Rounding.{Rounding}
 use Rattle.rules.proofs.ListLaws.{All}
+use Rattle.rules.proofs.KindLaws.{roundingKind, list-all}
 use Rattle.rules.proofs.GivesLaws.{Gives, gives-field, gives-any, gives-value, whole-gives}
 use Rattle.layout.specs.Reads.{part}
 use Rattle.layout.specs.Ensures.{Number}
@@ -25,7 +27,7 @@ use Rattle.book.specs.Ensures.{Between, RecordHere, StopIs}
 use Rattle.book.proofs.BookLaws.{from-end}
 use Rattle.book.proofs.WalkLaws.{pass-end, pass-here, pass-less, pass-next, pass-record}
 use Rattle.records.specs.Asks.{Accepted, OfKind}
-use Rattle.records.specs.Ensures.{Bounded, RoundingIs}
+use Rattle.records.specs.Ensures.{Bounded, RoundingBounds, RoundingIs}
 use Rattle.records.specs.Tests.{roundingNumber}
 use Rattle.records.proofs.BoundLaws.{in-bounds}
 use Rattle.records.proofs.RoundingLaws.{number-kind}
@@ -36,11 +38,11 @@ use Rattle.lookup.specs.Roundings.{RoundingUsed, roundingHeld, placedOr,
 passed : (n : ℕ) (o : Option Record) (rs : List Record) → (roundingNumber o ≡ n → ⊥) → roundingFor n (roundings (consSome o rs)) ≡ roundingFor n (roundings rs)
 unfolding roundingNumber roundingFor
 passed n none rs d = refl
-passed n (some (ArticleRecord a)) rs d = refl
-passed n (some (PriceRecord r)) rs d = refl
-passed n (some (RoundingRecord r)) rs d = rw (ne-eqb (r .number) n d)
-passed n (some (PackagingRecord p)) rs d = refl
-passed n (some (SchemeRecord s)) rs d = refl
+passed n (some r) rs d = go (asRounding r) d
+  where
+    go : (o : Option Rounding) → (ifSome o 0 (λ x. x .number) ≡ n → ⊥) → roundingFor n (consSome o (roundings rs)) ≡ roundingFor n (roundings rs)
+    go none d = refl
+    go (some x) d = rw (ne-eqb (x .number) n d)
 
 -- the first that has it
 hit : (n : ℕ) (r : Rounding) (rs : List Record) → r .number ≡ n → roundingFor n (roundings (RoundingRecord r ∷ rs)) ≡ r
@@ -84,17 +86,13 @@ module _ {P : Record → Type 0} (each : (t : List ℕ) (r : Record) → whole k
       go none e = tt
       go (some rs) e = whole-gives (record { sure = λ s v t f. gives-to-end (length s) gives-record .sure s v t f }) (drop at b) rs e
 
-none-zero : (rs : List Record) → All Bounded rs → roundingFor 0 (roundings rs) ≡ plain
+none-zero : (xs : List Rounding) → All RoundingBounds xs → roundingFor 0 xs ≡ plain
 unfolding roundingFor
 none-zero [] h = refl
-none-zero (ArticleRecord a ∷ rs) h = none-zero rs (h .1)
-none-zero (PriceRecord r ∷ rs) h = none-zero rs (h .1)
-none-zero (RoundingRecord r ∷ rs) h = rw (ne-eqb (r .number) 0 (λ e. omega (arith, h .0 .number-low))) (none-zero rs (h .1))
-none-zero (PackagingRecord p ∷ rs) h = none-zero rs (h .1)
-none-zero (SchemeRecord s ∷ rs) h = none-zero rs (h .1)
+none-zero (x ∷ xs) h = rw (ne-eqb (x .number) 0 (λ e. omega (arith, h .0 .number-low))) (none-zero xs (h .1))
 
 pub zero-plain : (b : List ℕ) (at : ℕ) → roundingFor 0 (roundings (recordsLeft b at)) ≡ plain
-zero-plain b at = none-zero (recordsLeft b at) (all-records in-bounds b at)
+zero-plain b at = none-zero (roundings (recordsLeft b at)) (list-all roundingKind Bounded (recordsLeft b at) (all-records in-bounds b at))
 
 -- ---- which numbers are looked for
 

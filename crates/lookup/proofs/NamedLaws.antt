@@ -1,6 +1,6 @@
 -- The first record of a kind with a name, by places: each turn, the hit, and the end; and what is found is what the definitions find.
 use Prim.Native.Nat.{ℕ, _+_, _-_, _≤_, _<_}
-use mathlib.Core.Path.{_≡_, refl, sym, _∙_, ap}
+use mathlib.Core.Path.{_≡_, refl, sym, _∙_, ap, subst}
 use mathlib.Core.Bool.{Bool, true, false, false≢true}
 use mathlib.Core.List.{List, [], _∷_}
 use mathlib.Core.Option.{Option, some, none}
@@ -8,10 +8,11 @@ use native.Mathlib.Omega.{arith}
 use lib.ListN.{length}
 use Rattle.rules.specs.Lists.{same, pick, first, consSome, isSome, ifSome}
 use Rattle.rules.specs.Layout.{whole}
-use Rattle.rules.specs.Book.{Record, ArticleRecord, PriceRecord, RoundingRecord, PackagingRecord, SchemeRecord, articleOf, schemeOf}
+use Rattle.rules.specs.Book.{Record, Scheme, asArticle, asScheme, articleOf, schemeOf}
 use Rattle.rules.specs.BookLayout.{kinded, records}
 use Rattle.rules.specs.declared.Part.{Part}
 use Rattle.rules.proofs.ListLaws.{All}
+use Rattle.rules.proofs.KindLaws.{Kind, listOf, articleKind, schemeKind, read-only}
 use Rattle.layout.specs.Reads.{part}
 use Rattle.layout.specs.Ensures.{Says}
 use Rattle.book.specs.Records.{listed, recordsOf, recordsLeft}
@@ -22,7 +23,8 @@ use Rattle.records.specs.Ensures.{Bounded, bytesIn}
 use Rattle.records.specs.Tests.{startsWith}
 use Rattle.records.proofs.FieldLaws.{starts-kind}
 use Rattle.records.proofs.BoundLaws.{book-bounds}
-use Rattle.lookup.specs.Ensures.{isNamed, FirstNamed, Seeking, asArticle, asScheme, articleHeld, schemeHeld}
+use Rattle.records.proofs.TestLaws.{article-read, scheme-read}
+use Rattle.lookup.specs.Ensures.{isNamed, FirstNamed, Seeking, articleHeld, schemeHeld}
 
 -- ---- the walk
 
@@ -77,28 +79,33 @@ module _ {b : List ℕ} {kind : ℕ} {name : List ℕ} where
 
 -- ---- what is found
 
--- a record of the kind, and the first of those behind it
-held-first : {A : Type 0} (f : Record → Option A) (b : Bool) (a : A) (r : Record) (x : Option Record) {o : Option A} → f r ≡ some a → o ≡ ifSome x none f → pick b a o ≡ ifSome (pick b r x) none f
-held-first f true a r x e h = sym e
-held-first f false a r x e h = h
+-- of records of any kind that are told by a name, the first that the list has is the first that the walk meets
+module _ {X : Type 0} (k : Kind X) (kind : ℕ) (name : List ℕ) (nameOf : X → List ℕ)
+    (told : (r : Record) → isNamed kind name r ≡ ifSome (k .read r) false λ x. same (nameOf x) name) where
+  abbrev named : X → Bool
+  named x = same (nameOf x) name
+
+  in-front : (b : Bool) (r : Record) (x : X) (o : Option X) (p : Option Record) → k .read r ≡ some x → o ≡ ifSome p none (k .read)
+      → pick b x o ≡ ifSome (pick b r p) none (k .read)
+  in-front true r x o p e h = sym e
+  in-front false r x o p e h = h
+
+  first-read : (rs : List Record) → first named (listOf k rs) ≡ ifSome (first (isNamed kind name) rs) none (k .read)
+  first-read [] = refl
+  first-read (r ∷ rs) = go (k .read r) refl (first-read rs)
+    where
+      go : (o : Option X) → k .read r ≡ o → first named (listOf k rs) ≡ ifSome (first (isNamed kind name) rs) none (k .read)
+          → first named (consSome o (listOf k rs)) ≡ ifSome (pick (isNamed kind name r) r (first (isNamed kind name) rs)) none (k .read)
+      go none e h = rw (told r, e) h
+      go (some x) e h = rw (told r, e) (in-front (named x) r x (first named (listOf k rs)) (first (isNamed kind name) rs) e h)
 
 article-first : (number : List ℕ) (rs : List Record) → articleOf rs number ≡ ifSome (first (isNamed 1 number) rs) none asArticle
-unfolding articleOf startsWith
-article-first number [] = refl
-article-first number (ArticleRecord a ∷ rs) = held-first asArticle (same (a .number) number) a (ArticleRecord a) (first (isNamed 1 number) rs) refl (article-first number rs)
-article-first number (PriceRecord r ∷ rs) = article-first number rs
-article-first number (RoundingRecord r ∷ rs) = article-first number rs
-article-first number (PackagingRecord p ∷ rs) = article-first number rs
-article-first number (SchemeRecord s ∷ rs) = article-first number rs
+unfolding articleOf
+article-first number rs = first-read articleKind 1 number (λ a. a .number) (article-read number) rs
 
 scheme-first : (id : List ℕ) (rs : List Record) → schemeOf rs id ≡ ifSome (first (isNamed 5 id) rs) none asScheme
-unfolding schemeOf startsWith
-scheme-first id [] = refl
-scheme-first id (ArticleRecord a ∷ rs) = scheme-first id rs
-scheme-first id (PriceRecord r ∷ rs) = scheme-first id rs
-scheme-first id (RoundingRecord r ∷ rs) = scheme-first id rs
-scheme-first id (PackagingRecord p ∷ rs) = scheme-first id rs
-scheme-first id (SchemeRecord s ∷ rs) = held-first asScheme (same (s .id) id) s (SchemeRecord s) (first (isNamed 5 id) rs) refl (scheme-first id rs)
+unfolding schemeOf
+scheme-first id rs = first-read schemeKind 5 id (λ s. s .id) (scheme-read id) rs
 
 pub article-found : {b number : List ℕ} {r : Part} → FirstNamed b 1 number r → articleOf (recordsOf b) number ≡ articleHeld (bytesIn b r)
 article-found {b} {number} p = article-first number (recordsOf b) ∙ ap (λ o. ifSome o none asArticle) (p .is)
@@ -110,16 +117,15 @@ scheme-found {b} {id} p = scheme-first id (recordsOf b) ∙ ap (λ o. ifSome o n
 
 -- no scheme has one
 unnamed : (r : Record) → Bounded r → isNamed 5 [] r ≡ false
-unfolding startsWith
-unnamed (ArticleRecord a) h = refl
-unnamed (PriceRecord r) h = refl
-unnamed (RoundingRecord r) h = refl
-unnamed (PackagingRecord p) h = refl
-unnamed (SchemeRecord s) h = not-empty (s .id) (h .named)
+unnamed r h = scheme-read [] r ∙ go (asScheme r) refl
   where
     not-empty : (xs : List ℕ) → 1 ≤ length xs → same xs [] ≡ false
     not-empty [] h = absurd (omega arith)
     not-empty (x ∷ xs) h = refl
+
+    go : (o : Option Scheme) → asScheme r ≡ o → ifSome o false (λ s. same (s .id) []) ≡ false
+    go none e = refl
+    go (some s) e = not-empty (s .id) (subst Bounded (read-only schemeKind r s e) h .named)
 
 none-unnamed : (rs : List Record) → All Bounded rs → first (isNamed 5 []) rs ≡ none
 none-unnamed [] hs = refl

@@ -7,7 +7,7 @@ use mathlib.Core.Option.{Option, some, none}
 use lib.ListN.{length}
 use Rattle.rules.specs.Lists.{first, ifSome}
 use Rattle.rules.specs.Layout.{whole}
-use Rattle.rules.specs.Book.{Record, ArticleRecord, PriceRecord, RoundingRecord, PackagingRecord, SchemeRecord, Article, Scheme}
+use Rattle.rules.specs.Book.{Record, Article, Scheme, asArticle, asScheme}
 use Rattle.rules.specs.BookLayout.{kinded}
 use Rattle.rules.specs.declared.Part.{Part}
 use Rattle.book.specs.Records.{recordsOf, recordsLeft}
@@ -29,20 +29,6 @@ pub record FirstNamed (b : List ℕ) (kind : ℕ) (name : List ℕ) (r : Part) :
 pub record Seeking (b : List ℕ) (kind : ℕ) (name : List ℕ) (at : ℕ) : Type 0 where
   pub between : Between b at
   pub rest : first (isNamed kind name) (recordsLeft b at) ≡ first (isNamed kind name) (recordsOf b)
-
-abbrev pub asArticle : Record → Option Article
-asArticle (ArticleRecord a) = some a
-asArticle (PriceRecord r) = none
-asArticle (RoundingRecord r) = none
-asArticle (PackagingRecord p) = none
-asArticle (SchemeRecord s) = none
-
-abbrev pub asScheme : Record → Option Scheme
-asScheme (ArticleRecord a) = none
-asScheme (PriceRecord r) = none
-asScheme (RoundingRecord r) = none
-asScheme (PackagingRecord p) = none
-asScheme (SchemeRecord s) = some s
 
 -- the article, or the scheme, that the bytes of a record are
 abbrev pub articleHeld : List ℕ → Option Article

@@ -11,7 +11,8 @@ use lib.IntN.{ℤ}
 use mir.Syntax.{w64}
 use mir.Val.{toZ, ofZ}
 use Rattle.rules.specs.Layout.{whole}
-use Rattle.rules.specs.Book.{Record, ArticleRecord, PriceRecord, RoundingRecord, PackagingRecord, SchemeRecord}
+use Rattle.rules.specs.Lists.{same, ifSome}
+use Rattle.rules.specs.Book.{Record, PriceRecord, Row, asRow}
 use Rattle.rules.specs.BookLayout.{priceBody, valueOf, kinded}
 use Rattle.rules.specs.declared.Value.{Value}
 use Rattle.rules.specs.declared.Value.the-variants.{Fixed, Percent}
@@ -27,6 +28,7 @@ use Rattle.records.specs.Tests.{startsWith, rowOf, isRow}
 use Rattle.records.specs.Ensures.{ValueIs, RowIs, rowIn}
 use Rattle.records.proofs.FieldLaws.{kept-is, told-kind, starts-not, starts-kind, first-there, second-there, two-names}
 use Rattle.records.proofs.BoundLaws.{in-bounds}
+use Rattle.records.proofs.TestLaws.{row-read}
 
 -- ---- the value
 module _ (t : List ℕ) (p : ℕ) {z : ℤ} (v : SignedNumber (signedAt t (p + 8)) 2147483648 z) where
@@ -91,11 +93,11 @@ module _ (t : List ℕ) (a p : ℕ) (here : TwoNames t a p 29 (PriceRecord (rowA
 of-another : (number : List ℕ) (sort : ℕ) (o : Option Record) → rowOf number o ≡ false → isRow number sort o ≡ false
 unfolding startsWith isRow
 of-another number sort none f = refl
-of-another number sort (some (ArticleRecord a)) f = refl
-of-another number sort (some (PriceRecord p)) f = ap (λ x. x && eqb (p .sort) sort) f
-of-another number sort (some (RoundingRecord x)) f = refl
-of-another number sort (some (PackagingRecord x)) f = refl
-of-another number sort (some (SchemeRecord x)) f = refl
+of-another number sort (some r) f = go (asRow r) (sym (row-read number r) ∙ f)
+  where
+    go : (o : Option Row) → ifSome o false (λ p. same (p .article) number) ≡ false → ifSome o false (λ p. same (p .article) number && eqb (p .sort) sort) ≡ false
+    go none f = refl
+    go (some p) f = ap (λ x. x && eqb (p .sort) sort) f
 
 module _ (t number : List ℕ) (sort : ℕ) {r : Bool} (said : Says (rowOf number (whole kinded t)) r) where
   -- a record of another kind, or of another article

@@ -1,6 +1,6 @@
 -- Rounding records: the way, the rounding, and its number alone.
 use Prim.Native.Nat.{ℕ, zero, suc, _≤_}
-use mathlib.Core.Path.{_≡_, refl, sym, _∙_}
+use mathlib.Core.Path.{_≡_, refl, sym, _∙_, ap}
 use mathlib.Core.List.{List}
 use mathlib.Core.Option.{Option, some, none}
 use native.Mathlib.Omega.{arith}
@@ -10,11 +10,14 @@ use lib.ListN.{length, getD}
 use lib.IntN.{ℤ}
 use mir.Syntax.{w64}
 use mir.Val.{toZ, ofZ}
+use Rattle.rules.specs.Lists.{ifSome}
 use Rattle.rules.specs.Layout.{whole}
-use Rattle.rules.specs.Book.{Record, ArticleRecord, PriceRecord, RoundingRecord, PackagingRecord, SchemeRecord}
+use Rattle.rules.specs.Book.{Record, RoundingRecord, asRounding}
 use Rattle.rules.specs.BookLayout.{kinded, roundingBody}
+use Rattle.rules.specs.declared.Rounding.{Rounding}
 use Rattle.rules.specs.declared.Way.{Way}
 use Rattle.rules.specs.declared.Way.the-variants.{Commercial}
+use Rattle.rules.proofs.KindLaws.{roundingKind, read-only}
 use Rattle.layout.specs.Ensures.{Number, SignedNumber}
 use Rattle.book.specs.Records.{kindOf, numberAt, signedAt, roundingAt}
 use Rattle.book.specs.Ensures.{Stands}
@@ -60,11 +63,11 @@ module _ (t : List ℕ) (p : Accepted t) where
     where
       go : (o : Option Record) → whole kinded t ≡ o → 0 ≡ roundingNumber o
       go none i = refl
-      go (some (ArticleRecord a)) i = refl
-      go (some (PriceRecord r)) i = refl
-      go (some (RoundingRecord r)) i = absurd (e (kind-byte t (RoundingRecord r) i))
-      go (some (PackagingRecord p)) i = refl
-      go (some (SchemeRecord s)) i = refl
+      go (some r) i = none-read (asRounding r) refl
+        where
+          none-read : (x : Option Rounding) → asRounding r ≡ x → 0 ≡ ifSome x 0 (λ y. y .number)
+          none-read none f = refl
+          none-read (some y) f = absurd (e (kind-byte t r i ∙ ap kindOf (read-only roundingKind r y f)))
 
   pub number-is : {x : ℕ} → getD t 0 0 ≡ 3 → Number (numberAt 2 t 1) 65536 x → Number (roundingNumber (whole kinded t)) 65536 x
   unfolding roundingNumber roundingAt

@@ -5,7 +5,7 @@ use mathlib.Core.Bool.{Bool, false, _&&_}
 use mathlib.Core.Option.{Option, some, none}
 use lib.Dec.{eqb}
 use Rattle.rules.specs.Lists.{same, ifSome}
-use Rattle.rules.specs.Book.{Record, ArticleRecord, PriceRecord, RoundingRecord, PackagingRecord, SchemeRecord, asRow}
+use Rattle.rules.specs.Book.{Record, ArticleRecord, PriceRecord, RoundingRecord, PackagingRecord, SchemeRecord, asRow, asRounding}
 use Rattle.book.specs.Records.{kindOf}
 
 -- the name that it starts with; a rounding has none
@@ -36,8 +36,4 @@ isRow number sort (some r) = ifSome (asRow r) false λ p. same (p .article) numb
 -- the number of a rounding; any other record has 0
 unfoldable pub roundingNumber : Option Record → ℕ
 roundingNumber none = 0
-roundingNumber (some (ArticleRecord a)) = 0
-roundingNumber (some (PriceRecord r)) = 0
-roundingNumber (some (RoundingRecord r)) = r .number
-roundingNumber (some (PackagingRecord p)) = 0
-roundingNumber (some (SchemeRecord s)) = 0
+roundingNumber (some r) = ifSome (asRounding r) 0 λ x. x .number

@@ -1,6 +1,6 @@
 -- "From rows to a total": the exact amount of a row, and its rounding.
-use Prim.Native.Nat.{ℕ, _*_}
-use lib.IntN.{ℤ, pos, negℤ, _+ℤ_, _*ℤ_}
+use Prim.Native.Nat.{ℕ, _*_, _≤_}
+use lib.IntN.{ℤ, pos, negℤ, _+ℤ_, _*ℤ_, natAbs}
 use Rattle.integers.specs.Floor.{floor}
 use Rattle.rules.specs.declared.Cents.{Cents}
 use Rattle.rules.specs.declared.Value.{Value}
