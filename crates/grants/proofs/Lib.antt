@@ -7,3 +7,4 @@ pub mod GatherLaws
 pub mod FillLaws
 pub mod IdleLaws
 pub mod Worked
+pub mod AskLaws

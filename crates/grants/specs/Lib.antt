@@ -1,3 +1,4 @@
 pub mod Table
 pub mod Places
 pub mod Idle
+pub mod Asks

@@ -1,0 +1,45 @@
+-- The question that stands in bytes asks for the article that is cut out of it, by its terms and the table of its granted names.
+use Prim.Native.Nat.{ℕ, _+_, _-_, _≤_}
+use mathlib.Core.Path.{_≡_, refl, sym, _∙_, ap}
+use mathlib.Core.List.{List}
+use native.Mathlib.Omega.{arith}
+use lib.ListN.{length, take, drop}
+use Rattle.rules.specs.Question.{Question, askedOf, on}
+use Rattle.question.specs.declared.Ask.{Ask}
+use Rattle.question.specs.declared.Terms.{Terms}
+use Rattle.question.specs.Parts.{namesAt}
+use Rattle.question.specs.Asked.{askIn, lettersOf, TermsAre, termsOn}
+use Rattle.grants.specs.Table.{tableSize, GrantsAre}
+use Rattle.grants.specs.Asks.{Asks, Tabled}
+use Rattle.grants.proofs.FillLaws.{names-count}
+
+module _ (s : List ℕ) (ask : Ask) {terms : Terms} (t : TermsAre ask terms) where
+  pub asks-in : {table : List ℕ} → GrantsAre (namesAt s (ask .granted) (ask .conditions)) table
+      → Asks (askIn s ask) (take (ask .article .at + ask .article .size - ask .article .at) (drop (ask .article .at) s)) table terms
+  asks-in g =
+      let k : ask .article .size ≡ ask .article .at + ask .article .size - ask .article .at = omega arith in
+      record {
+        article = ap (λ (n : ℕ). take n (drop (ask .article .at) s)) k;
+        sort = ap (λ (x : Terms). x .sort) (sym (t .is));
+        currency = ap (λ (x : Terms). askedOf (lettersOf (x .currency))) (sym (t .is));
+        date = ap (λ (x : Terms). x .date .0) (sym (t .is));
+        quantity = ap (λ (x : Terms). x .quantity) (sym (t .is));
+        granted = g;
+        count = names-count s (ask .granted) (ask .conditions) ∙ ap (λ (x : Terms). x .names) (sym (t .is));
+      }
+
+  pub tabled-in : ask .conditions ≤ 32 → {table : List ℕ} → length table ≡ tableSize → Tabled table terms
+  tabled-in few long = record { long = long; few = omega (arith, few, ap (λ (x : Terms). x .names) (t .is)) }
+
+-- on another day the same question asks by the same terms, but for the date
+pub asks-on : {q : Question} {article table : List ℕ} {terms : Terms} → Asks q article table terms → (d : ℕ) → Asks (on q d) article table (termsOn terms d)
+unfolding on
+asks-on a d = record {
+  article = a .article;
+  sort = a .sort;
+  currency = a .currency;
+  date = refl;
+  quantity = a .quantity;
+  granted = a .granted;
+  count = a .count;
+}
