@@ -1,18 +1,19 @@
 -- What the slots hold after the walk is what the definition chooses, slot by slot.
 use Prim.Native.Nat.{ℕ, zero, suc, _+_, _-_, _*_, _/_, _%_, _≤_, _<_}
 use mathlib.Core.Path.{_≡_, refl, sym, _∙_, ap, subst}
-use mathlib.Core.Bool.{Bool, true, false, _&&_, cond}
+use mathlib.Core.Bool.{Bool, true, false, _&&_, cond, false≢true}
 use mathlib.Core.List.{List}
 use mathlib.Core.Option.{Option, none, Option·map}
 use native.Mathlib.Omega.{arith}
 use lib.Dec.{eqb}
 use lib.ListN.{length, take, drop, getD, length-drop}
 use lib.Seq.{length-take-le}
+use borrow.Author.Tests.{eqb-true}
 use Rattle.rules.specs.Lists.{same, isSome, keep}
 use Rattle.rules.specs.Layout.{whole}
 use Rattle.rules.specs.Book.{Row, Record, PriceRecord, rows}
 use Rattle.rules.specs.BookLayout.{kinded}
-use Rattle.rules.specs.Question.{Question, on}
+use Rattle.rules.specs.Question.{Question, grants, on}
 use Rattle.rules.specs.Choice.{choose}
 use Rattle.rules.specs.Lines.{Chosen}
 use Rattle.rules.specs.declared.PriceRow.{PriceRow}
@@ -29,11 +30,14 @@ use Rattle.question.specs.Parts.{nameAt, namesAt, NamesStand}
 use Rattle.question.specs.Asked.{askIn, AskIs}
 use Rattle.question.proofs.CountedLaws.{walk-step}
 use Rattle.question.proofs.PartLaws.{granted-stop}
+use Rattle.grants.specs.Table.{tableOf, GrantsAre}
+use Rattle.grants.specs.Places as Grants
+use Rattle.grants.proofs.FillLaws.{names-sized}
 use Rattle.choice.specs.declared.hands.Hand.{Hand}
 use Rattle.choice.specs.declared.hands.Seen.{Seen}
 use Rattle.choice.specs.declared.span.Window.{Window}
-use Rattle.choice.specs.Slots.{levelOf, placeOf, inSlot, slotChosen}
-use Rattle.choice.specs.Hands.{takenOf, TakenIs, RowThere, HandIs, NoRow, OneRow, SeenIs}
+use Rattle.choice.specs.Slots.{levelOf, inSlot, slotChosen}
+use Rattle.choice.specs.Hands.{isEmpty, takenOf, TakenIs, RowThere, Holds, HandIs, NoRow, OneRow, SeenIs}
 use Rattle.choice.specs.Walk.{Asking, askOn, unseen, seenOf, Chooses, SlotsHold}
 use Rattle.choice.specs.Span.{ownRows, Windows}
 use Rattle.choice.proofs.PassingLaws.{same-row}
@@ -44,7 +48,7 @@ use Rattle.choice.proofs.SpanLaws.{front}
 
 pub seen-taken : {w : List ℕ} {s : Seen} {state : Choice.Seen} → SeenIs w s state → HandIs w (takenOf s) (Choice.taken state)
 unfolding takenOf
-seen-taken {w} {s} {state} p = rw (p .seen) (go (state .seen))
+seen-taken {w} {s} {state} p = rw (p .met) (go (state .seen))
   where
     go : (b : Bool) → HandIs w (cond b (s .asked) (s .other)) (cond b (state .asked) (state .other))
     go true = p .asked
@@ -66,23 +70,23 @@ module _ {w : List ℕ} {rs : List Row} {q : Question} {slots : List Seen} (hold
     here = rw (t .is) (slot-hand i h)
 
     -- no row in hand: the slot chooses none
-    pub slot-empty : hand .at ≡ 0 → slotChosen rs q (i / 33) (i % 33) ≡ none
+    pub slot-empty : isEmpty hand ≡ true → slotChosen rs q (i / 33) (i % 33) ≡ none
     unfolding slotChosen
     slot-empty z = go here
       where
         go : {o : Option Row} → HandIs w hand o → Option·map {B = Chosen} (λ x. record { place = i % 33; row = x }) o ≡ none
         go (NoRow e) = refl
-        go (OneRow b x u f) = absurd (omega (arith, x .low))
+        go (OneRow b h) = absurd (omega (arith, eqb-true (hand .at) 0 z, h .there .low))
 
     -- a row in hand: it is the slot's, and stands in the book
-    pub slot-full : (hand .at ≡ 0 → ⊥) → (x : Row) × RowThere w (hand .at) (hand .end) x × Chooses q rs i x
+    pub slot-full : isEmpty hand ≡ false → (x : Row) × Holds w hand x × Chooses q rs i x
     unfolding slotChosen
     slot-full n = go here refl
       where
         go : {o : Option Row} → HandIs w hand o → choose (q .date) (q .quantity) (q .currency) (keep (inSlot q (i / 33) (i % 33)) rs) ≡ o
-            → (x : Row) × RowThere w (hand .at) (hand .end) x × Chooses q rs i x
-        go (NoRow z) e = absurd (n z)
-        go (OneRow b x u f) e = (b, x, record { is = ap (Option·map (λ y. record { place = i % 33; row = y })) e })
+            → (x : Row) × Holds w hand x × Chooses q rs i x
+        go (NoRow z) e = absurd (false≢true (sym n ∙ z))
+        go (OneRow b h) e = (b, h, record { is = ap (Option·map (λ y. record { place = i % 33; row = y })) e })
 
 -- ---- the row in hand can be read
 
@@ -92,6 +96,10 @@ module _ {w : List ℕ} {at end : ℕ} {r : Row} (there : RowThere w at end r) w
 
   pub there-row : (row : PriceRow) → RowIs (take (end - at) (drop at w)) row → rowIn (take (end - at) (drop at w)) row ≡ r
   there-row row p = same-row (sym (p .is) ∙ there .is)
+
+  -- and there is one
+  pub there-same : {x : Row} → RowThere w at end x → r ≡ x
+  there-same also = same-row (sym (there .is) ∙ also .is)
 
 -- ---- the question
 
@@ -130,6 +138,14 @@ asking-granted {q} {ask} a = record {
   full = names-full q (ask .granted) (ask .conditions) (a .names);
 }
 
+-- and there is a table of them
+pub asking-grants : {q : List ℕ} {ask : Ask} → Asking q ask → GrantsAre (askIn q ask .granted) (tableOf (grants (askIn q ask .granted)))
+asking-grants {q} {ask} a = record {
+  is = refl;
+  few = asking-granted a .few;
+  sizes = names-sized q (ask .granted) (ask .conditions) (a .names);
+}
+
 -- ---- a walk over the window of another
 
 module _ {w : List ℕ} {n : ℕ} (fits : n ≤ length w) where
@@ -140,17 +156,17 @@ module _ {w : List ℕ} {n : ℕ} (fits : n ≤ length w) where
 
   hand-whole : {h : Hand} {o : Option Row} → HandIs (take n w) h o → HandIs w h o
   hand-whole (NoRow z) = NoRow z
-  hand-whole (OneRow r x u f) = OneRow r (there-whole x) u f
+  hand-whole (OneRow r x) = OneRow r (record { there = there-whole (x .there); upto = x .upto; from = x .from; rounding = x .rounding })
 
   seen-whole : {s : Seen} {state : Choice.Seen} → SeenIs (take n w) s state → SeenIs w s state
-  seen-whole p = record { seen = p .seen; asked = hand-whole (p .asked); other = hand-whole (p .other) }
+  seen-whole p = record { met = p .met; asked = hand-whole (p .asked); other = hand-whole (p .other) }
 
 -- the rows of a slot are of the asked article and sort
 slot-own : (q : Question) (level place : ℕ) (rs : List Record) → keep (inSlot q level place) (ownRows q rs) ≡ keep (inSlot q level place) (rows rs)
 unfolding ownRows inSlot
 slot-own q level place rs =
     keep-keep (inSlot q level place) _ (rows rs)
-    ∙ (λ i. keep (λ r. twice (same (r .article) (q .article)) (eqb (r .sort) (q .sort)) (eqb (levelOf (r .level)) level && eqb (placeOf (q .granted) (r .condition)) place) i) (rows rs))
+    ∙ (λ i. keep (λ r. twice (same (r .article) (q .article)) (eqb (r .sort) (q .sort)) (eqb (levelOf (r .level)) level && eqb (Grants.placeOf (q .granted) (r .condition)) place) i) (rows rs))
   where
     twice : (a b c : Bool) → ((a && b) && (a && (b && c))) ≡ (a && (b && c))
     twice true true c = refl

@@ -9,7 +9,7 @@ use Rattle.layout.specs.Ensures.{Number, Says}
 use Rattle.choice.specs.declared.hands.Hand.{Hand}
 use Rattle.choice.specs.declared.hands.Seen.{Seen}
 use Rattle.choice.specs.declared.hands.Passing.{Passing}
-use Rattle.choice.specs.Hands.{limitOf, betterHand, handAfter, seenAfter, takenOf, HandAfter, SeenAfter, TakenIs}
+use Rattle.choice.specs.Hands.{isEmpty, limitOf, betterHand, handAfter, seenAfter, takenOf, HandAfter, SeenAfter, TakenIs}
 
 -- ---- what the functions compute
 
@@ -31,30 +31,30 @@ module _ (new old : Hand) where
   unfolding handAfter
   hand-passed e = record { is = rw e }
 
-  module _ {counts : Bool} (e : counts ≡ true) where
-    pub hand-first : old .at ≡ 0 → HandAfter counts old new new
+  module _ {counts none : Bool} (e : counts ≡ true) (held : Says (isEmpty old) none) where
+    pub hand-first : none ≡ true → HandAfter counts old new new
     unfolding handAfter
-    hand-first z = record { is = rw (e, eq-eqb (old .at) 0 z) }
+    hand-first z = record { is = rw (e, held .is, z) }
 
-    module _ {b : Bool} (n : old .at ≡ 0 → ⊥) (p : Says (betterHand new old) b) where
+    module _ {b : Bool} (n : none ≡ false) (p : Says (betterHand new old) b) where
       pub hand-better : b ≡ true → HandAfter counts old new new
       unfolding handAfter
-      hand-better t = record { is = rw (e, ne-eqb (old .at) 0 n, p .is, t) }
+      hand-better t = record { is = rw (e, held .is, n, p .is, t) }
 
       pub hand-kept : b ≡ false → HandAfter counts old new old
       unfolding handAfter
-      hand-kept t = record { is = rw (e, ne-eqb (old .at) 0 n, p .is, t) }
+      hand-kept t = record { is = rw (e, held .is, n, p .is, t) }
 
 pub seen-is : (s : Seen) (p : Passing) {asked other : Hand} → HandAfter (p .stands && p .asked && p .reaches) (s .asked) (p .hand) asked → HandAfter (p .stands && p .reaches) (s .other) (p .hand) other
-    → SeenAfter s p (record { seen = s .seen || (p .stands && p .asked); asked = asked; other = other })
+    → SeenAfter s p (record { met = s .met || (p .stands && p .asked); asked = asked; other = other })
 unfolding seenAfter
-seen-is s p a o = record { is = λ i. record { seen = s .seen || (p .stands && p .asked); asked = a .is i; other = o .is i } }
+seen-is s p a o = record { is = λ i. record { met = s .met || (p .stands && p .asked); asked = a .is i; other = o .is i } }
 
 module _ (s : Seen) where
-  pub taken-asked : s .seen ≡ true → TakenIs s (s .asked)
+  pub taken-asked : s .met ≡ true → TakenIs s (s .asked)
   unfolding takenOf
   taken-asked e = record { is = rw e }
 
-  pub taken-other : s .seen ≡ false → TakenIs s (s .other)
+  pub taken-other : s .met ≡ false → TakenIs s (s .other)
   unfolding takenOf
   taken-other e = record { is = rw e }

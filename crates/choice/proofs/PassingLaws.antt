@@ -1,24 +1,25 @@
 -- A record that goes by: its slot, whether it holds, and in which currency it is, by its fields.
 use Prim.Native.Nat.{ℕ, _+_, _-_, _*_, _≤_, _<_}
 use mathlib.Core.Path.{_≡_, refl, sym, _∙_, ap}
-use mathlib.Core.Bool.{Bool, true, false, _&&_, _||_, not, cond, false≢true}
+use mathlib.Core.Bool.{Bool, true, false, _&&_, _||_, not, cond, and-assoc, false≢true}
 use mathlib.Core.List.{List}
-use mathlib.Core.Option.{Option, some, none}
+use mathlib.Core.Option.{Option, some, none, Option·some-injective}
 use native.Mathlib.Omega.{arith}
 use native.Mathlib.Decide.{decLt}
 use lib.Dec.{eqb, leb, ltb}
 use lib.ListN.{take, drop, getD}
 use borrow.Author.Tests.{lt-leb, le-leb, lt-ltb, le-ltb, eq-eqb, ne-eqb, eqb-true, eqb-false}
-use Rattle.rules.specs.Lists.{same, isSome, between}
+use Rattle.rules.specs.Lists.{same, isSome, ifSome, between}
 use Rattle.rules.specs.Layout.{whole}
 use Rattle.rules.specs.Days.{isDay}
-use Rattle.rules.specs.Book.{Row, Record, ArticleRecord, PriceRecord, RoundingRecord, PackagingRecord, SchemeRecord}
+use Rattle.rules.specs.Book.{Row, Record, PriceRecord, asRow}
 use Rattle.rules.specs.BookLayout.{kinded}
 use Rattle.rules.specs.Question.{Question, noCurrency, askedOf}
 use Rattle.rules.specs.Choice.{isPercent}
 use Rattle.rules.specs.declared.PriceRow.{PriceRow}
 use Rattle.rules.specs.declared.Currency.{Currency}
 use Rattle.rules.proofs.TestLaws.{and-left, and-true, and-false, so, not-so}
+use Rattle.rules.proofs.KindLaws.{rowKind, same-held}
 use Rattle.rules.proofs.ChoiceLaws.{isAsked, stands}
 use Rattle.layout.specs.Ensures.{Number, Says}
 use Rattle.book.specs.Records.{kindOf}
@@ -27,45 +28,37 @@ use Rattle.records.specs.Asks.{Accepted, OfKind}
 use Rattle.records.proofs.FieldLaws.{kind-byte}
 use Rattle.records.specs.Ensures.{rowIn, RowIs}
 use Rattle.question.specs.declared.Ask.{Ask}
-use Rattle.question.specs.Parts.{namesAt}
+use Rattle.question.specs.declared.Terms.{Terms}
 use Rattle.question.specs.Asked.{askIn, lettersOf}
+use Rattle.grants.specs.Places.{placeOf, PlaceIs}
+use Rattle.grants.specs.Asks.{Asks}
 use Rattle.choice.specs.declared.hands.Passing.{Passing}
-use Rattle.choice.specs.Slots.{levelOf, placeOf, inSlot}
-use Rattle.choice.specs.Walk.{slotAt, slotOf, standing, passingOf, inAsked, RowPasses, Passes, unasked, isRounding}
+use Rattle.choice.specs.Slots.{levelOf, inSlot}
+use Rattle.choice.specs.Walk.{slotAt, slotOf, standing, passingOf, isOwn, passingIn, inAsked, SlotIs, RowPasses, Passes, uncounted, isRounding}
 
 -- ---- the slot
 
 module _ (level place : ℕ) where
-  pub slot-high : 2 < level → Number (slotAt level place) 100 99
+  pub slot-high : 3 ≤ level → Number (slotAt level place) 100 99
   unfolding slotAt
   slot-high h = record { is = rw (le-ltb level 3 h); below = omega arith }
 
-  module _ (l : level ≤ 2) where
-    pub slot-far : 32 < place → Number (slotAt level place) 100 99
+  module _ (l : level < 3) where
+    pub slot-far : 33 ≤ place → Number (slotAt level place) 100 99
     unfolding slotAt
-    slot-far h =
-        let k : level < 3 = omega arith in
-        record { is = rw (lt-ltb level 3 k, le-ltb place 33 h); below = omega arith }
+    slot-far h = record { is = rw (lt-ltb level 3 l, le-ltb place 33 h); below = omega arith }
 
-    pub slot-near : place ≤ 32 → Number (slotAt level place) 100 (level * 33 + place)
+    pub slot-near : place < 33 → Number (slotAt level place) 100 (level * 33 + place)
     unfolding slotAt
-    slot-near h =
-        let k : level < 3 = omega arith in
-        let j : place < 33 = omega arith in
-        record { is = rw (lt-ltb level 3 k, lt-ltb place 33 j); below = omega arith }
+    slot-near h = record { is = rw (lt-ltb level 3 l, lt-ltb place 33 h); below = omega arith }
 
-module _ (t : List ℕ) (row : PriceRow) (q : List ℕ) (ask : Ask) where
-  pub slot-other : (row .sort ≡ ask .sort → ⊥) → Number (slotOf (askIn q ask) (rowIn t row)) 100 99
-  unfolding slotOf rowIn
-  slot-other n = record { is = rw (ne-eqb (row .sort) (ask .sort) n); below = omega arith }
-
-  pub slot-is : {level place i : ℕ} → row .sort ≡ ask .sort → Number (levelOf (row .level)) 4 level
-      → Number (placeOf (namesAt q (ask .granted) (ask .conditions)) (take (row .condition .at + row .condition .size - row .condition .at) (drop (row .condition .at) t))) 34 place
-      → Number (slotAt level place) 100 i → Number (slotOf (askIn q ask) (rowIn t row)) 100 i
-  unfolding slotOf rowIn
-  slot-is e l p s =
-      let k : row .condition .at + row .condition .size - row .condition .at ≡ row .condition .size = omega arith in
-      record { is = s .is ∙ rw (eq-eqb (row .sort) (ask .sort) e, l .is, p .is, k); below = s .below }
+pub slot-is : (t : List ℕ) (row : PriceRow) {table : List ℕ} {terms : Terms} {level place i : ℕ} → Number (levelOf (row .level)) 4 level
+    → PlaceIs table (terms .names) (take (row .condition .at + row .condition .size - row .condition .at) (drop (row .condition .at) t)) place
+    → Number (slotAt level place) 100 i → SlotIs table terms (rowIn t row) i
+unfolding slotOf rowIn
+slot-is t row l p s =
+    let k : row .condition .at + row .condition .size - row .condition .at ≡ row .condition .size = omega arith in
+    record { below = s .below; of = λ q a. s .is ∙ rw (l .is, p .of (q .granted) (a .granted) (a .count) .is, k) }
 
 -- a slot has one level and one place
 slot-test : (a b level place : ℕ) → level < 3 → place < 33 → eqb (slotAt a b) (level * 33 + place) ≡ (eqb a level && eqb b place)
@@ -94,14 +87,12 @@ slot-test a b level place l p = go (decLt a 3) (decLt b 33)
         let j : 3 ≤ a = omega arith in
         rw (le-ltb a 3 j) (far (λ x y. h x))
 
-pub slot-in : (q : Question) (r : Row) (level place : ℕ) → level < 3 → place < 33 → inSlot q level place r ≡ (same (r .article) (q .article) && eqb (slotOf q r) (level * 33 + place))
+pub slot-in : (q : Question) (r : Row) (level place : ℕ) → level < 3 → place < 33
+    → inSlot q level place r ≡ (isOwn q r && eqb (slotOf q r) (level * 33 + place))
 unfolding inSlot slotOf
-slot-in q r level place l p = ap (λ b. same (r .article) (q .article) && b) (go (eqb (r .sort) (q .sort)))
-  where
-    go : (b : Bool) → (b && (eqb (levelOf (r .level)) level && eqb (placeOf (q .granted) (r .condition)) place))
-        ≡ eqb (cond b (slotAt (levelOf (r .level)) (placeOf (q .granted) (r .condition))) 99) (level * 33 + place)
-    go true = sym (slot-test (levelOf (r .level)) (placeOf (q .granted) (r .condition)) level place l p)
-    go false = sym (ne-eqb 99 (level * 33 + place) (λ e. omega arith))
+slot-in q r level place l p =
+    sym (and-assoc (same (r .article) (q .article)) (eqb (r .sort) (q .sort)) _)
+    ∙ ap (λ b. isOwn q r && b) (sym (slot-test (levelOf (r .level)) (placeOf (q .granted) (r .condition)) level place l p))
 
 -- ---- the tests
 
@@ -149,53 +140,52 @@ in-asked : (o : Option (List ℕ)) (r : Row) → isAsked o r ≡ inAsked o (r .c
 in-asked none r = refl
 in-asked (some c) r = refl
 
-module _ (t : List ℕ) (row : PriceRow) (at end : ℕ) (q : List ℕ) (ask : Ask) {percent holds : Bool} (p : Says (isPercent (row .value)) percent)
-    (h : Says (isDay (row .from) && (isDay (row .to) && between (row .from) (row .to) (ask .date .0))) holds) where
-  counts : stands (ask .date .0) (rowIn t row) ≡ (not (eqb (row .level) 66 && percent) && holds)
+module _ (t : List ℕ) (row : PriceRow) (at end : ℕ) (table : List ℕ) (terms : Terms) {percent holds : Bool} (p : Says (isPercent (row .value)) percent)
+    (h : Says (isDay (row .from) && (isDay (row .to) && between (row .from) (row .to) (terms .date .0))) holds) where
+  counts : {article : List ℕ} (q : Question) → Asks q article table terms
+      → stands (q .date) (rowIn t row) ≡ (not (eqb (row .level) 66 && percent) && holds)
   unfolding rowIn
-  counts = λ i. not (eqb (row .level) 66 && p .is i) && h .is i
+  counts q a = ap (λ (d : ℕ). stands d (rowIn t row)) (a .date) ∙ (λ i. not (eqb (row .level) 66 && p .is i) && h .is i)
 
-  pub row-past : not (not (eqb (row .level) 66 && percent) && holds) ≡ true → RowPasses (askIn q ask) at end (rowIn t row) unasked
-  unfolding passingOf rowIn
-  row-past e = record { is = ap (λ (x : Bool). cond x (standing (askIn q ask) at end (rowIn t row)) unasked) (sym (counts ∙ not-so _ e)); below = omega arith }
+  pub row-past : not (not (eqb (row .level) 66 && percent) && holds) ≡ true → RowPasses table terms at end (rowIn t row) uncounted
+  unfolding passingOf
+  row-past e = record {
+    below = omega arith;
+    of = λ q a. ap (λ (x : Bool). cond x (standing q at end (rowIn t row)) uncounted) (sym (counts q a ∙ not-so _ e));
+  }
 
-  pub row-passes : not (not (eqb (row .level) 66 && percent) && holds) ≡ false → {slot : ℕ} {asked : Bool} → Number (slotOf (askIn q ask) (rowIn t row)) 100 slot
-      → Says (inAsked (askedOf (lettersOf (ask .currency))) (lettersOf (row .currency))) asked
-      → RowPasses (askIn q ask) at end (rowIn t row)
+  pub row-passes : not (not (eqb (row .level) 66 && percent) && holds) ≡ false → {slot : ℕ} {asked : Bool} → SlotIs table terms (rowIn t row) slot
+      → Says (inAsked (askedOf (lettersOf (terms .currency))) (lettersOf (row .currency))) asked
+      → RowPasses table terms at end (rowIn t row)
       (record {
         slot = slot;
         stands = not (eqb (row .level) 66 && percent) && holds;
         asked = asked;
-        reaches = eqb (row .upto) 0 || leb (ask .quantity) (row .upto);
-        hand = record { at = at; end = end; upto = row .upto; from = row .from };
+        reaches = eqb (row .upto) 0 || leb (terms .quantity) (row .upto);
+        hand = record { at = at; end = end; upto = row .upto; from = row .from; rounding = row .rounding };
       })
   unfolding passingOf rowIn
-  row-passes e s a = record {
-    is = (λ i.
-        record {
-          slot = s .is i;
-          stands = sym counts i;
-          asked = (sym (a .is) ∙ sym (in-asked (askedOf (lettersOf (ask .currency))) (rowIn t row))) i;
-          reaches = eqb (row .upto) 0 || leb (ask .quantity) (row .upto);
-          hand = record { at = at; end = end; upto = row .upto; from = row .from };
-        })
-        ∙ ap (λ (x : Bool). cond x (standing (askIn q ask) at end (rowIn t row)) unasked) (sym (counts ∙ so _ e));
+  row-passes e s c = record {
     below = s .below;
+    of = λ q a.
+        let asked-too =
+        sym (c .is) ∙ ap (λ (o : Option (List ℕ)). inAsked o (lettersOf (row .currency))) (sym (a .currency)) ∙ sym (in-asked (q .currency) (rowIn t row)) in
+        (λ i.
+        record {
+          slot = s .of q a i;
+          stands = sym (counts q a) i;
+          asked = asked-too i;
+          reaches = eqb (row .upto) 0 || leb (sym (a .quantity) i) (row .upto);
+          hand = record { at = at; end = end; upto = row .upto; from = row .from; rounding = row .rounding };
+        })
+        ∙ ap (λ (x : Bool). cond x (standing q at end (rowIn t row)) uncounted) (sym (counts q a ∙ so _ e));
   }
 
 -- ---- any record
 
 -- a record is one row
 pub same-row : {x y : Row} → some (PriceRecord x) ≡ some (PriceRecord y) → x ≡ y
-same-row {x} e = ap asRow e
-  where
-    asRow : Option Record → Row
-    asRow none = x
-    asRow (some (ArticleRecord a)) = x
-    asRow (some (PriceRecord r)) = r
-    asRow (some (RoundingRecord r)) = x
-    asRow (some (PackagingRecord p)) = x
-    asRow (some (SchemeRecord s)) = x
+same-row {x} {y} e = same-held rowKind x y (Option·some-injective (PriceRecord x) (PriceRecord y) e)
 
 -- the asked article's number, as the code takes it out of the question
 abbrev pub numberIn : List ℕ → Ask → List ℕ
@@ -222,21 +212,32 @@ module _ (t q : List ℕ) (ask : Ask) {b : Bool} where
         go none f g = absurd (false≢true g)
         go (some r) f g = record { kind = kind-byte t r f ∙ eqb-true (kindOf r) 2 (and-left (eqb (kindOf r) 2) _ g); ok = a .ok }
 
-    module _ (at end : ℕ) where
-      pub passes-row : {row : PriceRow} {p : Passing} → b ≡ true → RowIs t row → RowPasses (askIn q ask) at end (rowIn t row) p → Passes (askIn q ask) at end (whole kinded t) p
-      passes-row {row} {p} e r h = record {
-        below = h .below;
-        row = λ x f g. h .is ∙ ap (passingOf (askIn q ask) at end) (same-row (sym (r .is) ∙ f));
-        other = λ f. absurd (false≢true (sym f ∙ says ∙ e));
-      }
+-- no row of the asked article and sort
+foreign : (q : Question) (at end : ℕ) (o : Option Record) → Tests.isRow (q .article) (q .sort) o ≡ false → passingIn q at end o ≡ uncounted
+unfolding passingIn Tests.isRow
+foreign q at end none e = refl
+foreign q at end (some x) e = go (asRow x) e
+  where
+    go : (o : Option Row) → ifSome o false (isOwn q) ≡ false → ifSome o uncounted (λ r. cond (isOwn q r) (passingOf q at end r) uncounted) ≡ uncounted
+    go none e = refl
+    go (some r) e = ap (λ (b : Bool). cond b (passingOf q at end r) uncounted) e
 
-      pub passes-other : b ≡ false → Passes (askIn q ask) at end (whole kinded t) unasked
-      unfolding Tests.startsWith
-      passes-other e = record {
-        below = omega arith;
-        row = λ x f g. absurd (false≢true (sym (says ∙ e) ∙ (ap (Tests.rowOf (askIn q ask .article)) f ∙ g)));
-        other = λ f. refl;
-      }
+module _ (t article table : List ℕ) (terms : Terms) (at end : ℕ) {b : Bool} (s : Says (Tests.isRow article (terms .sort) (whole kinded t)) b) where
+  told : (q : Question) → Asks q article table terms → Tests.isRow (q .article) (q .sort) (whole kinded t) ≡ b
+  told q a = (λ i. Tests.isRow (a .article i) (a .sort i) (whole kinded t)) ∙ s .is
+
+  pub passes-row : {row : PriceRow} {p : Passing} → b ≡ true → RowIs t row → RowPasses table terms at end (rowIn t row) p
+      → Passes article table terms at end (whole kinded t) p
+  unfolding passingIn Tests.isRow
+  passes-row {row} {p} e r h = record {
+    below = h .below;
+    of = λ q a.
+        let own : isOwn q (rowIn t row) ≡ true = sym (ap (Tests.isRow (q .article) (q .sort)) (r .is)) ∙ told q a ∙ e in
+        h .of q a ∙ ap (λ (x : Bool). cond x (passingOf q at end (rowIn t row)) uncounted) (sym own) ∙ ap (passingIn q at end) (sym (r .is));
+  }
+
+  pub passes-other : b ≡ false → Passes article table terms at end (whole kinded t) uncounted
+  passes-other e = record { below = omega arith; of = λ q a. sym (foreign q at end (whole kinded t) (told q a ∙ e)) }
 
 -- ---- roundings
 

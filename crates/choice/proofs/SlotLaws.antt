@@ -17,6 +17,9 @@ use Rattle.rules.specs.Choice.{component, choose, step₁, step₂, step₃, st
 use Rattle.rules.specs.Lines.{Slot, slotsAt, slots, Chosen, rowsAt, chosenAt, chosen}
 use Rattle.rules.proofs.TestLaws.{and-false, and-true}
 use Rattle.rules.proofs.ListLaws.{All, same-eq, same-refl, keep-keep}
+use Rattle.grants.specs.Table.{GrantsAre}
+use Rattle.grants.specs.Places as Grants
+use Rattle.grants.proofs.GatherLaws as Gathered
 use Rattle.choice.specs.Slots.{nowhere, placeFrom, placeOf, levelOf, inSlot, slotChosen, upFrom, slotsChosen}
 
 -- ---- lists
@@ -325,15 +328,15 @@ level-is Discount x = go (eqb x base) (eqb x surcharge) (eqb x discount) refl re
     go false false true e f g = refl
     go false false false e f g = refl
 
-module _ (q : Question) (ok : Granted (q .granted)) {l : ℕ} {letter : ℕ} (level : Level l letter) (rs : List Row) where
-  in-component : (place : ℕ) (name : List ℕ) → ((c : List ℕ) → eqb (placeOf (q .granted) c) place ≡ same c name)
+module _ (q : Question) {table : List ℕ} (ok : GrantsAre (q .granted) table) {l : ℕ} {letter : ℕ} (level : Level l letter) (rs : List Row) where
+  in-component : (place : ℕ) (name : List ℕ) → ((c : List ℕ) → eqb (Grants.placeOf (q .granted) c) place ≡ same c name)
       → keep (inSlot q l place) rs ≡ component (q .article) (q .sort) letter name rs
   unfolding inSlot component
   in-component place name h =
       keep-same _ _ rs (all-of (λ r. λ i. same (r .article) (q .article) && (eqb (r .sort) (q .sort) && (level-is level (r .level) i && h (r .condition) i))) rs)
 
   -- a slot that no row is of
-  empty-slot : (place : ℕ) → ((c : List ℕ) → eqb (placeOf (q .granted) c) place ≡ false) → slotChosen rs q l place ≡ none
+  empty-slot : (place : ℕ) → ((c : List ℕ) → eqb (Grants.placeOf (q .granted) c) place ≡ false) → slotChosen rs q l place ≡ none
   unfolding slotChosen inSlot
   empty-slot place h =
       ap (λ (xs : List Row). Option·map (λ r. record { place = place; row = r }) (choose (q .date) (q .quantity) (q .currency) xs)) (keep-none (inSlot q l place) rs (all-of none-in rs))
@@ -347,29 +350,29 @@ module _ (q : Question) (ok : Granted (q .granted)) {l : ℕ} {letter : ℕ} (le
       nothing none = unfold choose surviving step₁ step₂ step₃ step₄ step₅ in refl
       nothing (some c) = unfold choose surviving step₁ step₂ step₃ step₄ step₅ in refl
 
-  slot-component : (place : ℕ) (name : List ℕ) → ((c : List ℕ) → eqb (placeOf (q .granted) c) place ≡ same c name)
+  slot-component : (place : ℕ) (name : List ℕ) → ((c : List ℕ) → eqb (Grants.placeOf (q .granted) c) place ≡ same c name)
       → slotChosen rs q l place ≡ chosenAt rs q (record { level = letter; place = place; condition = name })
   unfolding slotChosen chosenAt rowsAt
   slot-component place name h =
       ap (λ (xs : List Row). Option·map (λ r. record { place = place; row = r }) (choose (q .date) (q .quantity) (q .currency) xs)) (in-component place name h)
 
   -- all places of a level
-  level-chosen : gather (slotChosen rs q l) (upFrom 0 33) ≡ gather (chosenAt rs q) (slotsAt (grants (q .granted)) letter)
+  level-chosen : gather (slotChosen rs q l) (Grants.upFrom 0 33) ≡ gather (chosenAt rs q) (slotsAt (grants (q .granted)) letter)
   level-chosen =
       let of : Grant → Slot = λ g. record { level = letter; place = g .place; condition = g .name } in
-      let rest : gather (slotChosen rs q l) (upFrom 1 32) ≡ gather (chosenAt rs q) (map of (grants (q .granted))) =
-      places-gathered (q .granted) ok (slotChosen rs q l) (λ g. chosenAt rs q (of g)) (λ g h. slot-component (g .place) (g .name) h) empty-slot
+      let rest : gather (slotChosen rs q l) (Grants.upFrom 1 32) ≡ gather (chosenAt rs q) (map of (grants (q .granted))) =
+      Gathered.places-gathered ok (slotChosen rs q l) (λ g. chosenAt rs q (of g)) (λ g h. slot-component (g .place) (g .name) h) empty-slot
       ∙ sym (gather-map (chosenAt rs q) of (grants (q .granted))) in
-      (λ i. consSome (slot-component 0 [] (none-is (q .granted) ok) i) (rest i))
+      (λ i. consSome (slot-component 0 [] (Gathered.none-is ok) i) (rest i))
 
 -- ---- all three levels
 
 -- Slot after slot, the 99 slots choose the rows of the definition, in its order.
-pub slots-choose : (q : Question) → Granted (q .granted) → (rs : List Row) → slotsChosen rs q ≡ chosen rs q
+pub slots-choose : (q : Question) {table : List ℕ} → GrantsAre (q .granted) table → (rs : List Row) → slotsChosen rs q ≡ chosen rs q
 unfolding slotsChosen chosen slots
 slots-choose q ok rs =
-    gather-append at (upFrom 0 33) (upFrom 33 33 ++ upFrom 66 33)
-    ∙ ap (λ (xs : List Chosen). gather at (upFrom 0 33) ++ xs) (gather-append at (upFrom 33 33) (upFrom 66 33))
+    gather-append at (Grants.upFrom 0 33) (Grants.upFrom 33 33 ++ Grants.upFrom 66 33)
+    ∙ ap (λ (xs : List Chosen). gather at (Grants.upFrom 0 33) ++ xs) (gather-append at (Grants.upFrom 33 33) (Grants.upFrom 66 33))
     ∙ (λ i. level-chosen q ok Base rs i ++ (level-chosen q ok Surcharge rs i ++ level-chosen q ok Discount rs i))
     ∙ sym (gather-append (chosenAt rs q) (slotsAt (grants (q .granted)) base) (slotsAt (grants (q .granted)) surcharge ++ slotsAt (grants (q .granted)) discount)
     ∙ ap (λ (xs : List Chosen). gather (chosenAt rs q) (slotsAt (grants (q .granted)) base) ++ xs) (gather-append (chosenAt rs q) (slotsAt (grants (q .granted)) surcharge) (slotsAt (grants (q .granted)) discount)))

@@ -9,26 +9,34 @@ use lib.Dec.{eqb}
 use lib.ListN.{length, take, drop, getD, set, replicate, length-set, length-replicate, getD-replicate}
 use lib.Seq.{getD-set-same, getD-set-other}
 use borrow.Author.Tests.{eq-eqb, ne-eqb, eqb-true, eqb-false}
-use Rattle.rules.specs.Lists.{same, isSome, keep, consIf, consSome, pick, first}
+use Rattle.rules.specs.Lists.{same, isSome, ifSome, keep, consIf, consSome, pick, first}
 use Rattle.rules.specs.Layout.{whole}
-use Rattle.rules.specs.Book.{Row, Record, ArticleRecord, PriceRecord, RoundingRecord, PackagingRecord, SchemeRecord, rows, articles, articleOf}
+use Rattle.rules.specs.Book.{Row, Record, ArticleRecord, PriceRecord, RoundingRecord, PackagingRecord, SchemeRecord, asRow, rows, articles, articleOf}
 use Rattle.rules.specs.BookLayout.{kinded}
 use Rattle.rules.specs.Question.{Question}
 use Rattle.rules.specs.Choice.{better, reaches}
 use Rattle.rules.proofs.TestLaws.{or-false}
 use Rattle.rules.proofs.BestLaws.{inHand}
+use Rattle.rules.proofs.KindLaws.{rowKind, read-only}
 use Rattle.rules.proofs.ChoiceLaws as Choice
 use Rattle.book.specs.Records.{recordsLeft}
 use Rattle.book.specs.Ensures.{Between, RecordHere, StopIs}
 use Rattle.book.proofs.WalkLaws.{pass-here, pass-next, pass-record, pass-end}
 use Rattle.records.specs.Asks.{Accepted}
 use Rattle.records.specs.Tests as Tests
+use Rattle.question.specs.declared.Ask.{Ask}
+use Rattle.question.specs.declared.Terms.{Terms}
+use Rattle.question.specs.Parts.{namesAt}
+use Rattle.question.specs.Asked.{askIn, TermsAre}
+use Rattle.grants.specs.Table.{GrantsAre}
+use Rattle.grants.specs.Asks.{Asks, Tabled}
+use Rattle.grants.proofs.AskLaws.{asks-in, tabled-in}
 use Rattle.choice.specs.declared.hands.Hand.{Hand}
 use Rattle.choice.specs.declared.hands.Seen.{Seen}
 use Rattle.choice.specs.declared.hands.Passing.{Passing}
 use Rattle.choice.specs.Slots.{inSlot}
-use Rattle.choice.specs.Hands.{limitOf, betterHand, handAfter, seenAfter, SeenAfter, RowThere, HandIs, NoRow, OneRow, SeenIs}
-use Rattle.choice.specs.Walk.{slotOf, standing, passingOf, unasked, Passes, unseen, seenOf, SlotsHold}
+use Rattle.choice.specs.Hands.{limitOf, betterHand, handAfter, seenAfter, SeenAfter, RowThere, Holds, HandIs, NoRow, OneRow, SeenIs}
+use Rattle.choice.specs.Walk.{Asking, slotOf, standing, passingOf, isOwn, passingIn, uncounted, Passes, unseen, seenOf, SlotsHold, SlotsFor}
 use Rattle.choice.proofs.PassingLaws.{slot-in}
 
 -- ---- a slot sees a row
@@ -37,17 +45,17 @@ better-hand : (new old : Hand) (r b : Row) → new .upto ≡ r .upTo → old .up
 unfolding betterHand limitOf
 better-hand new old r b u v f g = rw (u, v, f, g)
 
-module _ {w : List ℕ} {new : Hand} {r : Row} (there : RowThere w (new .at) (new .end) r) (u : new .upto ≡ r .upTo) (f : new .from ≡ r .from) where
+module _ {w : List ℕ} {new : Hand} {r : Row} (n : Holds w new r) where
   hand-counts : {old : Hand} {o : Option Row} → HandIs w old o → HandIs w (handAfter true old new) (inHand o r)
   unfolding handAfter
-  hand-counts {old} (NoRow z) = rw (eq-eqb (old .at) 0 z) (OneRow r there u f)
-  hand-counts {old} (OneRow b x v g) =
-      rw (ne-eqb (old .at) 0 (λ e. omega (arith, x .low)), better-hand new old r b u v f g)
+  hand-counts {old} (NoRow z) = rw z (OneRow r n)
+  hand-counts {old} (OneRow b h) =
+      rw (ne-eqb (old .at) 0 (λ e. omega (arith, h .there .low)), better-hand new old r b (n .upto) (h .upto) (n .from) (h .from))
       (go (better r b))
     where
       go : (t : Bool) → HandIs w (cond t new old) (some (cond t r b))
-      go true = OneRow r there u f
-      go false = OneRow b x v g
+      go true = OneRow r n
+      go false = OneRow b h
 
   hand-is : (counts : Bool) {old : Hand} {o : Option Row} → HandIs w old o → HandIs w (handAfter counts old new) (Choice.handIf counts o r)
   hand-is true h = hand-counts h
@@ -56,11 +64,14 @@ module _ {w : List ℕ} {new : Hand} {r : Row} (there : RowThere w (new .at) (ne
 pub seen-row : (q : Question) (at end : ℕ) {w : List ℕ} {r : Row} {s : Seen} {state : Choice.Seen} → RowThere w at end r → SeenIs w s state
     → SeenIs w (seenAfter s (standing q at end r)) (Choice.see (q .date) (q .quantity) (q .currency) state r)
 unfolding seenAfter
-seen-row q at end {r = r} there p = record {
-  seen = ap (λ b. b || (Choice.stands (q .date) r && Choice.isAsked (q .currency) r)) (p .seen);
-  asked = hand-is there refl refl _ (p .asked);
-  other = hand-is there refl refl _ (p .other);
-}
+seen-row q at end {w} {r} there p =
+    let holds : Holds w (record { at = at; end = end; upto = r .upTo; from = r .from; rounding = r .rounding }) r =
+    record { there = there; upto = refl; from = refl; rounding = refl } in
+    record {
+      met = ap (λ b. b || (Choice.stands (q .date) r && Choice.isAsked (q .currency) r)) (p .met);
+      asked = hand-is holds _ (p .asked);
+      other = hand-is holds _ (p .other);
+    }
 
 -- ---- a slot, and the rows that are left
 
@@ -118,49 +129,54 @@ module _ {w : List ℕ} {q : Question} {level place : ℕ} (l : level < 3) (m : 
         }
 
 -- any record goes by
-module _ {w : List ℕ} {q : Question} {at end : ℕ} {o : Option Record} {p : Passing} (pass : Passes q at end o p) (there : (r : Row) → o ≡ some (PriceRecord r) → RowThere w at end r)
+module _ {w : List ℕ} {q : Question} {at end : ℕ} {o : Option Record} {p : Passing} (pass : p ≡ passingIn q at end o)
+    (there : (r : Row) → o ≡ some (PriceRecord r) → RowThere w at end r)
     (slots : List Seen) (long : length slots ≡ 100) {new : Seen} (after : SeenAfter (getD slots (p .slot) unseen) p new) (rs : List Record) {all : List Row} {level place : ℕ}
     (l : level < 3) (m : place < 33) where
   sees-turn : Sees w q level place (getD slots (level * 33 + place) unseen) (rows (consSome o rs)) all → Sees w q level place (getD (set slots (p .slot) new) (level * 33 + place) unseen) (rows rs) all
-  unfolding Tests.startsWith passingOf
+  unfolding passingIn passingOf
   sees-turn = go o refl
     where
-      Seen-to : List Record → Type 0
-      Seen-to xs = Sees w q level place (getD slots (level * 33 + place) unseen) (rows xs) all
+      Left : List Row → Type 0
+      Left xs = Sees w q level place (getD slots (level * 33 + place) unseen) xs all
 
       Done : Type 0
       Done = Sees w q level place (getD (set slots (p .slot) new) (level * 33 + place) unseen) (rows rs) all
 
-      skip : Tests.rowOf (q .article) o ≡ false → Seen-to rs → Done
-      skip e s = sees-not l m slots (p .slot) new (λ f. omega (arith, ap (λ (x : Passing). x .slot) (pass .other e))) s
+      skip : p ≡ uncounted → Left (rows rs) → Done
+      skip e s = sees-not l m slots (p .slot) new (λ f. omega (arith, ap (λ (x : Passing). x .slot) e)) s
 
-      mine : (r : Row) → o ≡ some (PriceRecord r) → p ≡ standing q at end r → same (r .article) (q .article) ≡ true → (b : Bool) → eqb (slotOf q r) (level * 33 + place) ≡ b → Seen-to (PriceRecord r ∷ rs) → Done
-      mine r e f a true h s =
-          sees-row l m slots (p .slot) new at end long (there r e) (ap (λ x. x .slot) f ∙ eqb-true (slotOf q r) (level * 33 + place) h) (slot-in q r level place l m ∙ rw (a, h))
+      -- a row that counts that day is of this slot, or of another
+      counted : (r : Row) → RowThere w at end r → isOwn q r ≡ true → p ≡ standing q at end r
+          → (b : Bool) → eqb (slotOf q r) (level * 33 + place) ≡ b → Left (r ∷ rows rs) → Done
+      counted r t a f true h s =
+          sees-row l m slots (p .slot) new at end long t (ap (λ x. x .slot) f ∙ eqb-true (slotOf q r) (level * 33 + place) h) (slot-in q r level place l m ∙ rw (a, h))
           (after .is ∙ ap (seenAfter (getD slots (p .slot) unseen)) f) s
-      mine r e f a false h s =
+      counted r t a f false h s =
           sees-not l m slots (p .slot) new (λ g. eqb-false (slotOf q r) (level * 33 + place) h (sym (ap (λ x. x .slot) f) ∙ g))
           (sees-past l m (slot-in q r level place l m ∙ rw (a, h)) s)
 
-      -- a row of the asked article, which counts that day or does not
-      article : (r : Row) → o ≡ some (PriceRecord r) → same (r .article) (q .article) ≡ true → (b : Bool) → Choice.stands (q .date) r ≡ b → Seen-to (PriceRecord r ∷ rs) → Done
-      article r e a true h s =
-          mine r e (pass .row r e a ∙ ap (λ (b : Bool). cond b (standing q at end r) unasked) h) a (eqb (slotOf q r) (level * 33 + place)) refl s
-      article r e a false h s =
-          let f : p ≡ unasked = pass .row r e a ∙ ap (λ (b : Bool). cond b (standing q at end r) unasked) h in
-          sees-not l m slots (p .slot) new (λ g. omega (arith, ap (λ (x : Passing). x .slot) f)) (sees-still l m h s)
+      -- a row of the asked article and sort counts that day, or does not
+      own : (r : Row) → RowThere w at end r → isOwn q r ≡ true → p ≡ passingOf q at end r
+          → (b : Bool) → Choice.stands (q .date) r ≡ b → Left (r ∷ rows rs) → Done
+      own r t a f true h s =
+          counted r t a (f ∙ ap (λ (b : Bool). cond b (standing q at end r) uncounted) h) (eqb (slotOf q r) (level * 33 + place)) refl s
+      own r t a f false h s = skip (f ∙ ap (λ (b : Bool). cond b (standing q at end r) uncounted) h) (sees-still l m h s)
 
-      priced : (r : Row) → o ≡ some (PriceRecord r) → (b : Bool) → same (r .article) (q .article) ≡ b → Seen-to (PriceRecord r ∷ rs) → Done
-      priced r e true a s = article r e a (Choice.stands (q .date) r) refl s
-      priced r e false a s = skip (ap (Tests.rowOf (q .article)) e ∙ a) (sees-past l m (slot-in q r level place l m ∙ rw a) s)
+      priced : (r : Row) → RowThere w at end r → p ≡ cond (isOwn q r) (passingOf q at end r) uncounted
+          → (b : Bool) → isOwn q r ≡ b → Left (r ∷ rows rs) → Done
+      priced r t f true a s = own r t a (f ∙ ap (λ (b : Bool). cond b (passingOf q at end r) uncounted) a) (Choice.stands (q .date) r) refl s
+      priced r t f false a s =
+          skip (f ∙ ap (λ (b : Bool). cond b (passingOf q at end r) uncounted) a) (sees-past l m (slot-in q r level place l m ∙ rw a) s)
 
-      go : (x : Option Record) → o ≡ x → Seen-to (consSome x rs) → Done
-      go none e s = skip (ap (Tests.rowOf (q .article)) e) s
-      go (some (ArticleRecord a)) e s = skip (ap (Tests.rowOf (q .article)) e) s
-      go (some (PriceRecord r)) e s = priced r e (same (r .article) (q .article)) refl s
-      go (some (RoundingRecord r)) e s = skip (ap (Tests.rowOf (q .article)) e) s
-      go (some (PackagingRecord x)) e s = skip (ap (Tests.rowOf (q .article)) e) s
-      go (some (SchemeRecord x)) e s = skip (ap (Tests.rowOf (q .article)) e) s
+      read : (x : Record) → o ≡ some x → (y : Option Row) → asRow x ≡ y
+          → p ≡ ifSome y uncounted (λ r. cond (isOwn q r) (passingOf q at end r) uncounted) → Left (consSome y (rows rs)) → Done
+      read x e none f g s = skip g s
+      read x e (some r) f g s = priced r (there r (e ∙ ap some (read-only rowKind x r f))) g (isOwn q r) refl s
+
+      go : (x : Option Record) → o ≡ x → Left (rows (consSome x rs)) → Done
+      go none e s = skip (pass ∙ ap (passingIn q at end) e) s
+      go (some x) e s = read x e (asRow x) refl (pass ∙ ap (passingIn q at end) e) s
 
 -- ---- whether the article is there
 
@@ -182,44 +198,60 @@ article-turn (some (SchemeRecord s)) rs number = refl
 pub accepted : {w : List ℕ} {at end : ℕ} → StopIs w at end → Accepted (take (end - (at + 2)) (drop (at + 2) w))
 accepted s = record { ok = s .ok }
 
--- once the records from `at` on have gone by, the slots will have seen all from `from` on
-pub record Walking (w : List ℕ) (from : ℕ) (q : Question) (slots : List Seen) (at : ℕ) : Type 0 where
+-- once the records from `at` on have gone by, the slots will have seen all from `from` on, for every question that asks so
+pub record Walking (w : List ℕ) (from : ℕ) (article table : List ℕ) (terms : Terms) (slots : List Seen) (at : ℕ) : Type 0 where
   pub between : Between w at
   pub long : length slots ≡ 100
-  pub sees : (level place : ℕ) → level < 3 → place < 33 → Sees w q level place (getD slots (level * 33 + place) unseen) (rows (recordsLeft w at)) (rows (recordsLeft w from))
+  pub sees : (q : Question) → Asks q article table terms → (level place : ℕ) → level < 3 → place < 33
+      → Sees w q level place (getD slots (level * 33 + place) unseen) (rows (recordsLeft w at)) (rows (recordsLeft w from))
 
-module _ (w : List ℕ) (from : ℕ) (q : Question) where
-  pub walk-start : Between w from → Walking w from q (replicate 100 unseen) from
+module _ (w : List ℕ) (from : ℕ) (article table : List ℕ) (terms : Terms) where
+  pub walk-start : Between w from → Walking w from article table terms (replicate 100 unseen) from
   unfolding seenOf
   walk-start b = record {
     between = b;
     long = length-replicate 100 unseen;
-    sees = λ level place l p.
+    sees = λ q a level place l p.
         let k : level * 33 + place < 100 = omega arith in
-        rw (getD-replicate 100 (level * 33 + place) unseen unseen k) (record { state = Choice.start; is = record { seen = refl; asked = NoRow refl; other = NoRow refl }; rest = refl });
+        rw (getD-replicate 100 (level * 33 + place) unseen unseen k)
+        (record { state = Choice.start; is = record { met = refl; asked = NoRow refl; other = NoRow refl }; rest = refl });
   }
 
-  module _ {slots : List Seen} {at : ℕ} (inv : Walking w from q slots at) where
+  module _ {slots : List Seen} {at : ℕ} (inv : Walking w from article table terms slots at) where
     pub walk-here : at < length w → RecordHere w at
     walk-here h = pass-here (inv .between) h
 
-    pub walk-turn : at < length w → {end : ℕ} → StopIs w at end → {p : Passing} → Passes q (at + 2) end (whole kinded (take (end - (at + 2)) (drop (at + 2) w))) p
-        → {new : Seen} → SeenAfter (getD slots (p .slot) unseen) p new → Walking w from q (set slots (p .slot) new) end
+    pub walk-turn : at < length w → {end : ℕ} → StopIs w at end
+        → {p : Passing} → Passes article table terms (at + 2) end (whole kinded (take (end - (at + 2)) (drop (at + 2) w))) p
+        → {new : Seen} → SeenAfter (getD slots (p .slot) unseen) p new → Walking w from article table terms (set slots (p .slot) new) end
     walk-turn h {end} stop {p} pass {new} after =
         let step = pass-record (inv .between) h stop in
         record {
           between = pass-next (inv .between) h stop;
           long = length-set slots (p .slot) new ∙ inv .long;
-          sees = λ level place l m.
-              sees-turn pass (λ r e. record { low = omega arith; order = omega (arith, stop .low); fits = stop .fits; is = e }) slots (inv .long) after (recordsLeft w end) l m
-              (subst (λ (rs : List Record). Sees w q level place (getD slots (level * 33 + place) unseen) (rows rs) (rows (recordsLeft w from))) step (inv .sees level place l m));
+          sees = λ q a level place l m.
+              sees-turn (pass .of q a) (λ r e. record { low = omega arith; order = omega (arith, stop .low); fits = stop .fits; is = e }) slots (inv .long) after (recordsLeft w end) l m
+              (subst (λ (rs : List Record). Sees w q level place (getD slots (level * 33 + place) unseen) (rows rs) (rows (recordsLeft w from))) step (inv .sees q a level place l m));
         }
 
-    pub walk-end : length w ≤ at → SlotsHold w (rows (recordsLeft w from)) q slots
+    pub walk-end : length w ≤ at → SlotsFor w (rows (recordsLeft w from)) article table terms slots
     walk-end h = record {
-      long = inv .long;
-      each = λ level place l p.
-          let s = inv .sees level place l p in
-          subst (SeenIs w (getD slots (level * 33 + place) unseen))
-          (sym (ap (λ (rs : List Record). Choice.walk (q .date) (q .quantity) (q .currency) (s .state) (keep (inSlot q level place) (rows rs))) (pass-end (inv .between) h)) ∙ s .rest) (s .is);
+      of = λ q a. record {
+        long = inv .long;
+        each = λ level place l p.
+            let s = inv .sees q a level place l p in
+            subst (SeenIs w (getD slots (level * 33 + place) unseen))
+            (sym (ap (λ (rs : List Record). Choice.walk (q .date) (q .quantity) (q .currency) (s .state) (keep (inSlot q level place) (rows rs))) (pass-end (inv .between) h)) ∙ s .rest) (s .is);
+      };
     }
+
+-- ---- for the question that stands in bytes
+
+module _ (q : List ℕ) {ask : Ask} {terms : Terms} (t : TermsAre ask terms) {table : List ℕ} where
+  pub walk-tabled : Asking q ask → length table ≡ 672 → Tabled table terms
+  walk-tabled a long = tabled-in q ask t (a .few) long
+
+  pub walk-holds : {w : List ℕ} {rs : List Row} {slots : List Seen} → GrantsAre (namesAt q (ask .granted) (ask .conditions)) table
+      → SlotsFor w rs (take (ask .article .at + ask .article .size - ask .article .at) (drop (ask .article .at) q)) table terms slots
+      → SlotsHold w rs (askIn q ask) slots
+  walk-holds g s = s .of (askIn q ask) (asks-in q ask t g)

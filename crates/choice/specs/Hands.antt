@@ -1,7 +1,7 @@
 -- A slot's state as the code keeps it, and the rows of the definition that it stands for.
 use Prim.Native.Nat.{ℕ, _^_, _≤_, _<_}
 use mathlib.Core.Path.{_≡_}
-use mathlib.Core.Bool.{Bool, _&&_, _||_, cond}
+use mathlib.Core.Bool.{Bool, true, _&&_, _||_, cond}
 use mathlib.Core.List.{List}
 use mathlib.Core.Option.{Option, some, none}
 use lib.Dec.{eqb, ltb}
@@ -17,6 +17,10 @@ use Rattle.choice.specs.declared.hands.Passing.{Passing}
 
 -- ---- what the functions compute
 
+-- no row is in hand
+abbrev pub isEmpty : Hand → Bool
+isEmpty h = eqb (h .at) 0
+
 unfoldable pub limitOf : ℕ → ℕ
 limitOf upto = cond (eqb upto 0) (2 ^ 32) upto
 
@@ -24,18 +28,18 @@ unfoldable pub betterHand : Hand → Hand → Bool
 betterHand new old = ltb (limitOf (new .upto)) (limitOf (old .upto)) || (eqb (limitOf (new .upto)) (limitOf (old .upto)) && ltb (old .from) (new .from))
 
 unfoldable pub handAfter : Bool → Hand → Hand → Hand
-handAfter counts old new = cond counts (cond (eqb (old .at) 0) new (cond (betterHand new old) new old)) old
+handAfter counts old new = cond counts (cond (isEmpty old) new (cond (betterHand new old) new old)) old
 
 unfoldable pub seenAfter : Seen → Passing → Seen
 seenAfter s p =
     record {
-      seen = s .seen || (p .stands && p .asked);
+      met = s .met || (p .stands && p .asked);
       asked = handAfter (p .stands && p .asked && p .reaches) (s .asked) (p .hand);
       other = handAfter (p .stands && p .reaches) (s .other) (p .hand);
     }
 
 unfoldable pub takenOf : Seen → Hand
-takenOf s = cond (s .seen) (s .asked) (s .other)
+takenOf s = cond (s .met) (s .asked) (s .other)
 
 -- `r` is the row in hand after another one that counts, or does not, has gone by
 pub record HandAfter (counts : Bool) (old new r : Hand) : Type 0 where
@@ -58,11 +62,18 @@ pub record RowThere (w : List ℕ) (at end : ℕ) (r : Row) : Type 0 where
   pub fits : end ≤ length w
   pub is : whole kinded (part w at end) ≡ some (PriceRecord r)
 
+-- the hand holds the row r, which stands in w
+pub record Holds (w : List ℕ) (h : Hand) (r : Row) : Type 0 where
+  pub there : RowThere w (h .at) (h .end) r
+  pub upto : h .upto ≡ r .upTo
+  pub from : h .from ≡ r .from
+  pub rounding : h .rounding ≡ r .rounding
+
 pub data HandIs (w : List ℕ) (h : Hand) : Option Row → Type 0 where
-  NoRow : h .at ≡ 0 → HandIs w h none
-  OneRow : (r : Row) → RowThere w (h .at) (h .end) r → h .upto ≡ r .upTo → h .from ≡ r .from → HandIs w h (some r)
+  NoRow : isEmpty h ≡ true → HandIs w h none
+  OneRow : (r : Row) → Holds w h r → HandIs w h (some r)
 
 pub record SeenIs (w : List ℕ) (s : Seen) (state : Choice.Seen) : Type 0 where
-  pub seen : s .seen ≡ state .seen
+  pub met : s .met ≡ state .seen
   pub asked : HandIs w (s .asked) (state .asked)
   pub other : HandIs w (s .other) (state .other)

@@ -10,10 +10,11 @@ use Rattle.rules.specs.Book.{Row, base, surcharge, discount}
 use Rattle.rules.specs.Question.{Question}
 use Rattle.rules.specs.Choice.{choose}
 use Rattle.rules.specs.Lines.{Chosen}
+use Rattle.grants.specs.Places as Grants
 
--- ---- which slot a row is of
+-- ---- where a condition stands, by the names as they were sent
 
--- one past the last place, and one past the last level: no slot
+-- one past the last place
 abbrev pub nowhere : ℕ
 nowhere = 33
 
@@ -27,13 +28,19 @@ unfoldable pub placeOf : List (List ℕ) → List ℕ → ℕ
 placeOf names [] = 0
 placeOf names (b ∷ c) = placeFrom 1 names (b ∷ c)
 
+-- ---- which slot a row is of
+
+-- one past the last level
+abbrev pub noLevel : ℕ
+noLevel = 3
+
 unfoldable pub levelOf : ℕ → ℕ
-levelOf l = cond (eqb l base) 0 (cond (eqb l surcharge) 1 (cond (eqb l discount) 2 3))
+levelOf l = cond (eqb l base) 0 (cond (eqb l surcharge) 1 (cond (eqb l discount) 2 noLevel))
 
 -- the row is of the asked article and sort, and stands at this level and place
 unfoldable pub inSlot : Question → ℕ → ℕ → Row → Bool
 inSlot q level place r =
-    same (r .article) (q .article) && (eqb (r .sort) (q .sort) && (eqb (levelOf (r .level)) level && eqb (placeOf (q .granted) (r .condition)) place))
+    same (r .article) (q .article) && (eqb (r .sort) (q .sort) && (eqb (levelOf (r .level)) level && eqb (Grants.placeOf (q .granted) (r .condition)) place))
 
 -- ---- what the slots choose
 
@@ -48,4 +55,4 @@ upFrom k (suc n) = k ∷ upFrom (suc k) n
 
 -- slot i is of level i / 33 and place i % 33
 unfoldable pub slotsChosen : List Row → Question → List Chosen
-slotsChosen rs q = gather (λ i. slotChosen rs q (i / 33) (i % 33)) (upFrom 0 99)
+slotsChosen rs q = gather (λ i. slotChosen rs q (i / 33) (i % 33)) (Grants.upFrom 0 99)

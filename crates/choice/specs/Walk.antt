@@ -1,4 +1,4 @@
--- What a record that goes by is to the question, and what the walk over the records leaves in the slots.
+-- What a record that goes by is to the questions that ask so, and what the walk over the records leaves in the slots.
 use Prim.Native.Nat.{ℕ, _+_, _*_, _/_, _%_, _≤_, _<_}
 use mathlib.Core.Path.{_≡_}
 use mathlib.Core.Bool.{Bool, true, false, _&&_, cond}
@@ -6,19 +6,21 @@ use mathlib.Core.List.{List}
 use mathlib.Core.Option.{Option, some, none}
 use lib.Dec.{eqb, ltb}
 use lib.ListN.{length, getD}
-use Rattle.rules.specs.Lists.{same, keep}
-use Rattle.rules.specs.Book.{Row, Record, PriceRecord}
+use Rattle.rules.specs.Lists.{same, keep, ifSome}
+use Rattle.rules.specs.Book.{Row, Record, asRow}
 use Rattle.rules.specs.Question.{Question}
 use Rattle.rules.specs.Choice.{reaches}
 use Rattle.rules.proofs.ChoiceLaws as Choice
 use Rattle.book.specs.Records.{kindOf}
-use Rattle.records.specs.Tests.{rowOf}
 use Rattle.question.specs.declared.Ask.{Ask}
+use Rattle.question.specs.declared.Terms.{Terms}
 use Rattle.question.specs.Parts.{NamesStand}
+use Rattle.grants.specs.Places.{nowhere, placeOf}
+use Rattle.grants.specs.Asks.{Asks}
 use Rattle.choice.specs.declared.hands.Hand.{Hand}
 use Rattle.choice.specs.declared.hands.Seen.{Seen}
 use Rattle.choice.specs.declared.hands.Passing.{Passing}
-use Rattle.choice.specs.Slots.{levelOf, placeOf, inSlot, slotChosen}
+use Rattle.choice.specs.Slots.{noLevel, levelOf, inSlot, slotChosen}
 use Rattle.choice.specs.Hands.{SeenIs}
 
 -- ---- the question, as far as its date plays no part
@@ -44,13 +46,17 @@ askOn ask d = record {
 
 -- ---- a record that goes by
 
--- the slot of a level and a place, or 99
-unfoldable pub slotAt : ℕ → ℕ → ℕ
-slotAt level place = cond (ltb level 3 && ltb place 33) (level * 33 + place) 99
+-- one past the last slot
+abbrev pub noSlot : ℕ
+noSlot = 99
 
--- that of a row of the asked article
+-- the slot of a level and a place
+unfoldable pub slotAt : ℕ → ℕ → ℕ
+slotAt level place = cond (ltb level noLevel && ltb place nowhere) (level * 33 + place) noSlot
+
+-- that of a row of the asked article and sort
 unfoldable pub slotOf : Question → Row → ℕ
-slotOf q r = cond (eqb (r .sort) (q .sort)) (slotAt (levelOf (r .level)) (placeOf (q .granted) (r .condition))) 99
+slotOf q r = slotAt (levelOf (r .level)) (placeOf (q .granted) (r .condition))
 
 -- what one is that counts that day
 abbrev pub standing : Question → ℕ → ℕ → Row → Passing
@@ -59,36 +65,49 @@ standing q at end r = record {
   stands = Choice.stands (q .date) r;
   asked = Choice.isAsked (q .currency) r;
   reaches = reaches (q .quantity) r;
-  hand = record { at = at; end = end; upto = r .upTo; from = r .from };
+  hand = record { at = at; end = end; upto = r .upTo; from = r .from; rounding = r .rounding };
 }
 
 -- no row in hand
 abbrev pub noHand : Hand
-noHand = record { at = 0; end = 0; upto = 0; from = 0 }
+noHand = record { at = 0; end = 0; upto = 0; from = 0; rounding = 0 }
 
 -- what any other record is
-abbrev pub unasked : Passing
-unasked = record { slot = 99; stands = false; asked = false; reaches = false; hand = noHand }
+abbrev pub uncounted : Passing
+uncounted = record { slot = noSlot; stands = false; asked = false; reaches = false; hand = noHand }
 
--- a row of the asked article on another day is like one of another article
+-- a row of the asked article and sort on another day is like one of another article
 unfoldable pub passingOf : Question → ℕ → ℕ → Row → Passing
-passingOf q at end r = cond (Choice.stands (q .date) r) (standing q at end r) unasked
+passingOf q at end r = cond (Choice.stands (q .date) r) (standing q at end r) uncounted
+
+-- the row is of the asked article and sort
+abbrev pub isOwn : Question → Row → Bool
+isOwn q r = same (r .article) (q .article) && eqb (r .sort) (q .sort)
+
+-- what any record is
+unfoldable pub passingIn : Question → ℕ → ℕ → Option Record → Passing
+passingIn q at end none = uncounted
+passingIn q at end (some x) = ifSome (asRow x) uncounted λ r. cond (isOwn q r) (passingOf q at end r) uncounted
 
 -- a row in this currency is in the asked one
 abbrev pub inAsked : Option (List ℕ) → List ℕ → Bool
 inAsked none c = false
 inAsked (some d) c = same c d
 
--- `p` is what the row r of the asked article is to the question; it stands from `at` to `end`
-pub record RowPasses (q : Question) (at end : ℕ) (r : Row) (p : Passing) : Type 0 where
-  pub is : p ≡ passingOf q at end r
-  pub below : p .slot < 100
+-- `i` is the slot of the row r, for every question that asks by these terms and this table
+pub record SlotIs (table : List ℕ) (terms : Terms) (r : Row) (i : ℕ) : Type 0 where
+  pub below : i < 100
+  pub of : {article : List ℕ} (q : Question) → Asks q article table terms → i ≡ slotOf q r
 
--- and what any record is
-pub record Passes (q : Question) (at end : ℕ) (o : Option Record) (p : Passing) : Type 0 where
+-- `p` is what the row r is to it, if it asks for the row's article and sort; the row stands from `at` to `end`
+pub record RowPasses (table : List ℕ) (terms : Terms) (at end : ℕ) (r : Row) (p : Passing) : Type 0 where
   pub below : p .slot < 100
-  pub row : (r : Row) → o ≡ some (PriceRecord r) → same (r .article) (q .article) ≡ true → p ≡ passingOf q at end r
-  pub other : rowOf (q .article) o ≡ false → p ≡ unasked
+  pub of : {article : List ℕ} (q : Question) → Asks q article table terms → p ≡ passingOf q at end r
+
+-- and what any record is to one that asks for this article
+pub record Passes (article table : List ℕ) (terms : Terms) (at end : ℕ) (o : Option Record) (p : Passing) : Type 0 where
+  pub below : p .slot < 100
+  pub of : (q : Question) → Asks q article table terms → p ≡ passingIn q at end o
 
 -- whether a record is a rounding
 unfoldable pub isRounding : Option Record → Bool
@@ -99,7 +118,7 @@ isRounding (some r) = eqb (kindOf r) 3
 
 -- a slot that saw nothing
 abbrev pub unseen : Seen
-unseen = record { seen = false; asked = noHand; other = noHand }
+unseen = record { met = false; asked = noHand; other = noHand }
 
 -- what the definition's walk sees of the rows of a slot
 unfoldable pub seenOf : Question → List Row → ℕ → ℕ → Choice.Seen
@@ -113,3 +132,7 @@ pub record Chooses (q : Question) (rs : List Row) (i : ℕ) (r : Row) : Type 0 w
 pub record SlotsHold (w : List ℕ) (rs : List Row) (q : Question) (slots : List Seen) : Type 0 where
   pub long : length slots ≡ 100
   pub each : (level place : ℕ) → level < 3 → place < 33 → SeenIs w (getD slots (level * 33 + place) unseen) (seenOf q rs level place)
+
+-- and so they do for every question that asks so
+pub record SlotsFor (w : List ℕ) (rs : List Row) (article table : List ℕ) (terms : Terms) (slots : List Seen) : Type 0 where
+  pub of : (q : Question) → Asks q article table terms → SlotsHold w rs q slots

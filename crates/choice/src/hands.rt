@@ -1,13 +1,14 @@
 // What a slot keeps while the records go by: whether a row in the asked currency was seen, and the best rows so far.
 ghost use Rattle.layout.specs.Ensures.{Number, Says};
-ghost use Rattle.choice.specs.Hands.{limitOf, betterHand, HandAfter, SeenAfter, TakenIs};
+ghost use Rattle.choice.specs.Hands.{isEmpty, limitOf, betterHand, HandAfter, SeenAfter, TakenIs};
 
-// A row in hand: where its kind byte and body stand in the book, and what it is compared by. With `at` 0 there is none.
+// A row in hand: where its kind byte and body stand in the book, what it is compared by, and the number of its rounding.
 pub struct Hand {
     pub at: usize,
     pub end: usize,
     pub upto: u32,
     pub from: u32,
+    pub rounding: u16,
 }
 
 impl Hand {
@@ -16,25 +17,36 @@ impl Hand {
         end: 0,
         upto: 0,
         from: 0,
+        rounding: 0,
     };
+
+    // A book has its length in front, so no row stands at 0.
+    pub fn is_empty(self) -> bool
+        ensures { λ r. ⌜ Says (isEmpty self) r ⌝ }
+    {
+        self.at == 0
+    }
 }
 
-// `asked` is the best row in the asked currency, `other` the best in any.
+// `met` says whether a row in the asked currency was there; `asked` is the best of those, `other` the best in any.
 pub struct Seen {
-    pub seen: bool,
+    pub met: bool,
     pub asked: Hand,
     pub other: Hand,
 }
 
 impl Seen {
     pub const NOTHING: Seen = Seen {
-        seen: false,
+        met: false,
         asked: Hand::EMPTY,
         other: Hand::EMPTY,
     };
 }
 
-// A row that goes by: the slot it is of, or 99 for none; whether it counts that day, is in the asked currency, and reaches the quantity.
+// One past the last slot: none.
+pub const NO_SLOT: usize = 99;
+
+// A row that goes by: the slot it is of; whether it counts that day, is in the asked currency, and reaches the quantity.
 pub struct Passing {
     pub slot: usize,
     pub stands: bool,
@@ -44,8 +56,9 @@ pub struct Passing {
 }
 
 impl Passing {
-    pub const FOREIGN: Passing = Passing {
-        slot: 99,
+    // No row that counts.
+    pub const UNCOUNTED: Passing = Passing {
+        slot: NO_SLOT,
         stands: false,
         asked: false,
         reaches: false,
@@ -73,7 +86,7 @@ fn in_hand(counts: bool, old: Hand, new: Hand) -> Hand
     ensures { λ r. ⌜ HandAfter counts old new r ⌝ }
 {
     if counts {
-        if old.at == 0 {
+        if old.is_empty() {
             return new;
         }
         if better(new, old) {
@@ -91,7 +104,7 @@ pub fn see(s: Seen, p: Passing) -> Seen
     let asked = in_hand(hit & p.reaches, s.asked, hand);
     let other = in_hand(p.stands & p.reaches, s.other, hand);
     Seen {
-        seen: s.seen | hit,
+        met: s.met | hit,
         asked,
         other,
     }
@@ -101,5 +114,5 @@ pub fn see(s: Seen, p: Passing) -> Seen
 pub fn taken(s: Seen) -> Hand
     ensures { λ r. ⌜ TakenIs s r ⌝ }
 {
-    if s.seen { s.asked } else { s.other }
+    if s.met { s.asked } else { s.other }
 }

@@ -1,12 +1,16 @@
-// What a record that goes by is to the question.
+// What a record that goes by is to the questions that ask so: for an article, by terms, and with a table of their granted names.
 use crate::hands::Hand;
+use crate::hands::NO_SLOT;
 use crate::hands::Passing;
+use crate::slots::LEVELS;
 use crate::slots::level_of;
-use crate::slots::place_of;
 use days::Day;
+use grants::NOWHERE;
+use grants::place_of;
 use question::Ask;
+use question::Terms;
 use records::is_article;
-use records::is_row_of;
+use records::is_row;
 use records::row_of;
 use rules::Currency;
 use rules::PriceRow;
@@ -23,33 +27,31 @@ ghost use Rattle.records.specs.Asks.{Accepted};
 ghost use Rattle.records.specs.Tests.{articleOf};
 ghost use Rattle.records.specs.Ensures.{rowIn, RowIs};
 ghost use Rattle.question.specs.Asked.{askIn, lettersOf};
-ghost use Rattle.choice.specs.Walk.{Asking, slotAt, slotOf, inAsked, RowPasses, Passes, isRounding};
+ghost use Rattle.grants.specs.Asks.{Tabled};
+ghost use Rattle.choice.specs.Walk.{Asking, slotAt, inAsked, SlotIs, RowPasses, Passes, isRounding};
 
 fn slot_at(level: usize, place: usize) -> usize
     ensures { λ r. ⌜ Number (slotAt level place) 100 r ⌝ }
 {
-    if 2 < level {
-        return 99;
+    if LEVELS <= level {
+        return NO_SLOT;
     }
-    if 32 < place {
-        return 99;
+    if NOWHERE <= place {
+        return NO_SLOT;
     }
-    level * 33 + place
+    level * NOWHERE + place
 }
 
-// The slot of a row of the asked article: 99 if it is of the other sort or its condition is not granted.
-fn slot_of(t: &[u8], row: PriceRow, q: &[u8], ask: Ask) -> usize
+// The slot of a row of the asked article and sort: none if its condition is not granted.
+fn slot_of(t: &[u8], row: PriceRow, table: &[u8], terms: Terms) -> usize
     requires { ⌜ RowIs (now t) row ⌝ }
-    requires { ⌜ Asking (now q) ask ⌝ }
-    ensures { λ r. ⌜ Number (slotOf (askIn (now (q .entry)) ask) (rowIn (now (t .entry)) row)) 100 r ⌝ }
+    requires { ⌜ Tabled (now table) terms ⌝ }
+    ensures { λ r. ⌜ SlotIs (now (table .entry)) terms (rowIn (now (t .entry)) row) r ⌝ }
 {
-    if row.sort != ask.sort {
-        return 99;
-    }
     let condition = row.condition;
     let from = condition.at;
     let end = from + condition.size;
-    let place = place_of(q, ask.granted, ask.conditions, &t[from..end]);
+    let place = place_of(table, terms.names, &t[from..end]);
     slot_at(level_of(row.level), place)
 }
 
@@ -83,28 +85,36 @@ fn is_asked(asked: Currency, currency: Currency) -> bool
     !none & (currency.0 == asked.0) & (currency.1 == asked.1) & (currency.2 == asked.2)
 }
 
-// A row of the asked article, which stands from `at` to `end`. Few hold that day: only of these the condition is looked for.
-fn row_passing(t: &[u8], row: PriceRow, at: usize, end: usize, q: &[u8], ask: Ask) -> Passing
+// A row of the asked article and sort, which stands from `at` to `end`. Few hold that day: only of these the condition is looked for.
+fn row_passing(
+    t: &[u8],
+    row: PriceRow,
+    at: usize,
+    end: usize,
+    table: &[u8],
+    terms: Terms,
+) -> Passing
     requires { ⌜ RowIs (now t) row ⌝ }
-    requires { ⌜ Asking (now q) ask ⌝ }
-    ensures { λ r. ⌜ RowPasses (askIn (now (q .entry)) ask) at end (rowIn (now (t .entry)) row) r ⌝ }
+    requires { ⌜ Tabled (now table) terms ⌝ }
+    ensures { λ r. ⌜ RowPasses (now (table .entry)) terms at end (rowIn (now (t .entry)) row) r ⌝ }
 {
     let value = row.value;
     let percent_base = (row.level == b'B') & is_percent(value);
-    let stands = !percent_base & holds(row.from, row.to, ask.date);
+    let stands = !percent_base & holds(row.from, row.to, terms.date);
     if !stands {
-        return Passing::FOREIGN;
+        return Passing::UNCOUNTED;
     }
-    let slot = slot_of(t, row, q, ask);
-    let wanted = ask.currency;
+    let slot = slot_of(t, row, table, terms);
+    let wanted = terms.currency;
     let currency = row.currency;
     let asked = is_asked(wanted, currency);
-    let reaches = (row.upto == 0) | (ask.quantity <= row.upto);
+    let reaches = (row.upto == 0) | (terms.quantity <= row.upto);
     let hand = Hand {
         at,
         end,
         upto: row.upto,
         from: row.from,
+        rounding: row.rounding,
     };
     Passing {
         slot,
@@ -115,20 +125,24 @@ fn row_passing(t: &[u8], row: PriceRow, at: usize, end: usize, q: &[u8], ask: As
     }
 }
 
-// The record t, which stands from `at` to `end`. Most are no row of the asked article: of these the kind and the name are read, and no more.
-pub fn passing(t: &[u8], at: usize, end: usize, q: &[u8], ask: Ask) -> Passing
+// The record t, which stands from `at` to `end`. Most are no row of the article and sort: of these the kind, the name and one byte are read.
+pub fn passing(
+    t: &[u8],
+    at: usize,
+    end: usize,
+    article: &[u8],
+    table: &[u8],
+    terms: Terms,
+) -> Passing
     requires { ⌜ Accepted (now t) ⌝ }
-    requires { ⌜ Asking (now q) ask ⌝ }
-    ensures { λ r. ⌜ Passes (askIn (now (q .entry)) ask) at end (whole kinded (now (t .entry))) r ⌝ }
+    requires { ⌜ Tabled (now table) terms ⌝ }
+    ensures { λ r. ⌜ Passes (now (article .entry)) (now (table .entry)) terms at end (whole kinded (now (t .entry))) r ⌝ }
 {
-    let article = ask.article;
-    let from = article.at;
-    let to = from + article.size;
-    if is_row_of(t, &q[from..to]) {
+    if is_row(t, article, terms.sort) {
         let row = row_of(t);
-        row_passing(t, row, at, end, q, ask)
+        row_passing(t, row, at, end, table, terms)
     } else {
-        Passing::FOREIGN
+        Passing::UNCOUNTED
     }
 }
 

@@ -48,6 +48,9 @@ pub fn place_of(q: &[u8], at: usize, n: usize, condition: &[u8]) -> usize
     33
 }
 
+// Base, surcharge and discount.
+pub const LEVELS: usize = 3;
+
 pub fn level_of(letter: u8) -> usize
     ensures { λ r. ⌜ Number (levelOf letter) 4 r ⌝ }
 {
@@ -57,5 +60,5 @@ pub fn level_of(letter: u8) -> usize
     if letter == b'X' {
         return 1;
     }
-    if letter == b'D' { 2 } else { 3 }
+    if letter == b'D' { 2 } else { LEVELS }
 }

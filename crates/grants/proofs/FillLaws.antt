@@ -34,7 +34,7 @@ names-count q at (suc n) = ap suc (names-count q (nameStop q at) n)
 name-size : {q : List ℕ} {at stop : ℕ} → NameStop q at stop → length (part q (at + 1) stop) ≡ stop - (at + 1)
 name-size {q} {at} {stop} s = length-take-le (stop - (at + 1)) (drop (at + 1) q) (rw length-drop (omega (arith, s .fits, s .low)))
 
-names-sized : (q : List ℕ) (at n : ℕ) → NamesStand q at n → all (λ c. between 1 20 (length c)) (namesAt q at n) ≡ true
+pub names-sized : (q : List ℕ) (at n : ℕ) → NamesStand q at n → all (λ c. between 1 20 (length c)) (namesAt q at n) ≡ true
 unfolding valuesAt
 names-sized q at zero p = refl
 names-sized q at (suc n) p =

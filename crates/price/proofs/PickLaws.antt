@@ -1,14 +1,12 @@
 -- A chosen row by value is the definition's, and its line can be worked out.
 use Prim.Native.Nat.{ℕ, suc, _+_, _-_, _/_, _%_, _≤_, _<_}
 use mathlib.Core.Path.{_≡_, refl, sym, _∙_, ap, subst}
-use mathlib.Core.Bool.{Bool, true, false, cond}
+use mathlib.Core.Bool.{Bool, true, false, cond, false≢true}
 use mathlib.Core.List.{List, [], _∷_, _++_, map, append-assoc, append-nil}
 use mathlib.Core.Option.{Option, some, none}
 use native.Mathlib.Omega.{arith}
-use lib.Dec.{eqb}
 use lib.ListN.{length, take, drop, getD, set, length-set}
 use lib.Seq.{length-take-le, take-set-le, take-suc-set}
-use borrow.Author.Tests.{eqb-true, eqb-false, ne-eqb}
 use Rattle.rules.specs.Lists.{gather, consSome}
 use Rattle.rules.specs.Book.{Row, Record, rows, roundings, roundingFor}
 use Rattle.rules.specs.Question.{Question}
@@ -22,25 +20,28 @@ use Rattle.records.specs.Asks.{OfKind}
 use Rattle.records.specs.Ensures.{RowIs, rowIn}
 use Rattle.lookup.specs.Roundings.{RoundingUsed, PlaceHeld, RoundingAt, Found, PlacesFound}
 use Rattle.lookup.proofs.LookupLaws.{found-used}
-use Rattle.choice.specs.Hands.{TakenIs, takenOf}
+use Rattle.grants.specs.Table.{GrantsAre}
+use Rattle.grants.specs.Places.{upFrom}
+use Rattle.layout.specs.Ensures.{Says}
+use Rattle.choice.specs.Hands.{isEmpty, TakenIs, takenOf}
 use Rattle.question.specs.declared.Ask.{Ask}
 use Rattle.question.specs.Asked.{askIn}
 use Rattle.choice.specs.Walk.{Asking, SlotsHold, unseen}
 use Rattle.choice.specs.Span.{Windows}
-use Rattle.choice.specs.Slots.{slotChosen, slotsChosen, upFrom}
+use Rattle.choice.specs.Slots.{slotChosen, slotsChosen}
 use Rattle.choice.specs.declared.hands.Seen.{Seen}
 use Rattle.choice.specs.declared.span.Window.{Window}
-use Rattle.choice.proofs.SlotLaws.{Granted, slots-choose}
+use Rattle.choice.proofs.SlotLaws.{slots-choose}
 use Rattle.choice.specs.declared.hands.Hand.{Hand}
-use Rattle.choice.proofs.ChosenLaws.{there-kind, there-row, slot-empty, slot-full, asking-granted, walk-within}
+use Rattle.choice.proofs.ChosenLaws.{there-kind, there-row, there-same, slot-empty, slot-full, asking-grants, walk-within}
 use Rattle.lines.specs.declared.Pick.{Pick}
 use Rattle.lines.specs.Views.{View, viewOf, viewIn, viewsIn}
 use Rattle.lines.specs.Contracts.{Sound}
 use Rattle.price.specs.declared.picks.Picks.{Picks}
 use Rattle.price.specs.declared.numbers.Numbers.{Numbers}
-use Rattle.price.specs.Numbers.{Counted, SlotRows, filledBefore, NumbersIn}
+use Rattle.price.specs.Numbers.{Counted, filledBefore, NumbersIn}
 use Rattle.price.specs.Picks.{RoundingsIn, Held, RowFound, HandHeld, HandFound, RowPicked, HandPicked, viewsFrom, Picking, PicksSoFar, Filled, PickedAre, PicksFrom}
-use Rattle.price.proofs.NumberLaws.{rows-held, filled-next}
+use Rattle.price.proofs.NumberLaws.{filled-next}
 
 pub held-kind : {b : List ℕ} {at end : ℕ} → Held b at end → OfKind 2 (take (end - at) (drop at b))
 held-kind h = there-kind (h .there)
@@ -72,18 +73,19 @@ module _ {b : List ℕ} {w : Window} {at end found : ℕ} (held : Held b at end)
         sound = record { value-in = is .value-in; rounding-in = stands .sound };
       }
 
-module _ {b : List ℕ} {h : Hand} where
-  pub nothing-picked : h .at ≡ 0 → (place : ℕ) (p : Pick) → HandPicked b h place p
-  nothing-picked e place p = record { picked = λ n. absurd (n e) }
+module _ {b : List ℕ} {h : Hand} {none : Bool} (p : Says (isEmpty h) none) where
+  pub nothing-picked : none ≡ true → (place : ℕ) (p : Pick) → HandPicked b h place p
+  nothing-picked e place q = record { picked = λ n. absurd (false≢true (sym n ∙ (p .is ∙ e))) }
 
-  pub hand-held : HandHeld b h → (h .at ≡ 0 → ⊥) → Held b (h .at) (h .end)
-  hand-held w n = w .held n
+  module _ (n : none ≡ false) where
+    pub hand-held : HandHeld b h → Held b (h .at) (h .end)
+    hand-held w = w .held (p .is ∙ n)
 
-  pub hand-found : {w : Window} {found : ℕ} → HandFound b w h found → (h .at ≡ 0 → ⊥) → RowFound b w (h .at) (h .end) found
-  hand-found f n = f .is n
+    pub hand-found : {w : Window} {found : ℕ} → HandFound b w h found → RowFound b w (h .at) (h .end) found
+    hand-found f = f .is (p .is ∙ n)
 
-  pub hand-picked : {place : ℕ} {p : Pick} → RowPicked b (h .at) (h .end) place p → HandPicked b h place p
-  hand-picked r = record { picked = λ n. r }
+pub hand-picked : {b : List ℕ} {h : Hand} {place : ℕ} {p : Pick} → RowPicked b (h .at) (h .end) place p → HandPicked b h place p
+hand-picked r = record { picked = λ n. r }
 
 -- ---- slot after slot
 
@@ -113,7 +115,7 @@ module _ {w : List ℕ} {q : Question} {slots : List Seen} (holds : SlotsHold w 
     {picks : List Pick} {n i : ℕ} (p : Picking (recordsLeft w 5) q picks n i) (l : i < 99) {hand : Hand} (t : TakenIs (getD slots i unseen) hand)
     {pick : Pick} (h : HandPicked w hand (i % 33) pick) where
   -- no row: the slots go on
-  skipped : hand .at ≡ 0 → Picking (recordsLeft w 5) q (set picks n pick) n (i + 1)
+  skipped : isEmpty hand ≡ true → Picking (recordsLeft w 5) q (set picks n pick) n (i + 1)
   unfolding viewsFrom
   skipped e =
       let same : take n (set picks n pick) ≡ take n picks = take-set-le n picks n pick (omega arith) in
@@ -129,7 +131,7 @@ module _ {w : List ℕ} {q : Question} {slots : List Seen} (holds : SlotsHold w 
       }
 
   -- a row: it is the next
-  taken-in : (hand .at ≡ 0 → ⊥) → Picking (recordsLeft w 5) q (set picks n pick) (n + 1) (i + 1)
+  taken-in : isEmpty hand ≡ false → Picking (recordsLeft w 5) q (set picks n pick) (n + 1) (i + 1)
   unfolding viewsFrom
   taken-in e =
       let x = slot-full holds l t e in
@@ -137,7 +139,7 @@ module _ {w : List ℕ} {q : Question} {slots : List Seen} (holds : SlotsHold w 
       let m : n + 1 ≡ suc n = omega arith in
       let front : take (n + 1) (set picks n pick) ≡ take n picks ++ (pick ∷ []) = ap (λ (j : ℕ). take j (set picks n pick)) m ∙ take-suc-set picks n pick k in
       let views : viewsIn (set picks n pick) (n + 1) ≡ viewsIn picks n ++ (viewIn pick ∷ []) = ap (map viewIn) front ∙ map-append viewIn (take n picks) pick in
-      let v : viewIn pick ≡ viewOf (roundings (recordsLeft w 5)) (record { place = i % 33; row = x .0 }) = h .picked e .is (x .0) (x .1) in
+      let v : viewIn pick ≡ viewOf (roundings (recordsLeft w 5)) (record { place = i % 33; row = x .0 }) = h .picked e .is (x .0) (x .1 .there) in
       record {
         few = omega (arith, p .few);
         most = omega arith;
@@ -151,19 +153,20 @@ module _ {w : List ℕ} {q : Question} {slots : List Seen} (holds : SlotsHold w 
       }
 
   pub pick-turn : {c : ℕ} → Counted hand c → Picking (recordsLeft w 5) q (set picks n pick) (n + c) (i + 1)
-  pick-turn {c} d = go (eqb (hand .at) 0) refl
+  pick-turn {c} d = go (isEmpty hand) refl
     where
-      go : (b : Bool) → eqb (hand .at) 0 ≡ b → Picking (recordsLeft w 5) q (set picks n pick) (n + c) (i + 1)
+      go : (b : Bool) → isEmpty hand ≡ b → Picking (recordsLeft w 5) q (set picks n pick) (n + c) (i + 1)
       go true e =
           let z : n ≡ n + c = omega (arith, d .is ∙ ap (λ (b : Bool). cond b 0 1) e) in
-          subst (λ (k : ℕ). Picking (recordsLeft w 5) q (set picks n pick) k (i + 1)) z (skipped (eqb-true (hand .at) 0 e))
+          subst (λ (k : ℕ). Picking (recordsLeft w 5) q (set picks n pick) k (i + 1)) z (skipped e)
       go false e =
           let z : n + 1 ≡ n + c = omega (arith, d .is ∙ ap (λ (b : Bool). cond b 0 1) e) in
-          subst (λ (k : ℕ). Picking (recordsLeft w 5) q (set picks n pick) k (i + 1)) z (taken-in (eqb-false (hand .at) 0 e))
+          subst (λ (k : ℕ). Picking (recordsLeft w 5) q (set picks n pick) k (i + 1)) z (taken-in e)
 
-pub pick-end : {w : List ℕ} {q : Question} → Granted (q .granted) → {picks : List Pick} {n i : ℕ} → Picking (recordsLeft w 5) q picks n i → 99 ≤ i → PickedAre w q picks n
+pub pick-end : {w : List ℕ} {q : Question} {table : List ℕ} → GrantsAre (q .granted) table
+    → {picks : List Pick} {n i : ℕ} → Picking (recordsLeft w 5) q picks n i → 99 ≤ i → PickedAre w q picks n
 unfolding viewsFrom slotsChosen
-pick-end {w} {q} g {picks} {n} {i} p h =
+pick-end {w} {q} {table} g {picks} {n} {i} p h =
     let e : i ≡ 99 = omega (arith, p .most) in
     let rest : viewsFrom (recordsLeft w 5) q i ≡ [] = ap (viewsFrom (recordsLeft w 5) q) e in
     record {
@@ -193,11 +196,8 @@ module _ {b : List ℕ} {slots : List Seen} {w : Window} (filled : Filled b slot
   pub filled-roundings : RoundingsIn b w
   filled-roundings = record { asked = filled .asked; window = filled .window }
 
-  pub filled-rows : SlotRows b slots
-  filled-rows = record { asked = filled .asked; holds = filled .holds }
-
   pub filled-held : {i : ℕ} → i < 99 → {hand : Hand} → TakenIs (getD slots i unseen) hand → HandHeld b hand
-  filled-held l t = rows-held filled-rows l t
+  filled-held l t = record { held = λ n. let x = slot-full (filled .holds) l t n in record { row = x .0; there = x .1 .there } }
 
   pub filled-between : Between (take (w .to) b) (w .from)
   filled-between = filled .window .rounding-between
@@ -205,21 +205,26 @@ module _ {b : List ℕ} {slots : List Seen} {w : Window} (filled : Filled b slot
   pub filled-long : length (take (w .to) b) ≡ w .to
   filled-long = window-long filled-roundings
 
-pub numbers-few : {b : List ℕ} {slots : List Seen} {numbers : Numbers} → NumbersIn b slots numbers → numbers .n ≤ 99
-numbers-few m = m .few
+  -- the place that was found for the number of a slot's row
+  pub slot-found : {numbers : Numbers} → NumbersIn slots numbers → {places : List ℕ} → PlacesFound (take (w .to) b) (w .from) (numbers .of) (numbers .n) places
+      → {picks : List Pick} {n i : ℕ} → PicksSoFar b slots picks n i → i < 99 → {hand : Hand} → TakenIs (getD slots i unseen) hand → HandFound b w hand (getD places n 0)
+  slot-found {numbers} m {places} f {picks} {n} {i} s l {hand} t =
+      let k : ℕ = filledBefore slots i in
+      subst (λ (j : ℕ). HandFound b w hand (getD places j 0)) (sym (s .count))
+      (record {
+        is = λ full.
+            let x = slot-full (filled .holds) l t full in
+            let full′ : isEmpty (takenOf (getD slots i unseen)) ≡ false = ap isEmpty (sym (t .is)) ∙ full in
+            let number : getD (numbers .of) k 0 ≡ x .0 .rounding = m .each i l .is full′ ∙ ap (λ (h : Hand). h .rounding) (sym (t .is)) ∙ x .1 .rounding in
+            record {
+              is = λ r there.
+                  subst (λ (j : ℕ). Found (take (w .to) b) (w .from) j (getD places k 0))
+                  (number ∙ ap (λ (y : Row). y .rounding) (there-same (x .1 .there) there)) (f .each k (m .each i l .below full′));
+            };
+      })
 
--- the place that was found for the number of a slot's row
-pub slot-found : {b : List ℕ} {slots : List Seen} {w : Window} {numbers : Numbers} → NumbersIn b slots numbers → {places : List ℕ} → PlacesFound (take (w .to) b) (w .from) (numbers .of) (numbers .n) places
-    → {picks : List Pick} {n i : ℕ} → PicksSoFar b slots picks n i → i < 99 → {hand : Hand} → TakenIs (getD slots i unseen) hand → HandFound b w hand (getD places n 0)
-slot-found {b} {slots} {w} {numbers} m {places} f {picks} {n} {i} s l {hand} t =
-    subst (λ (h : Hand). HandFound b w h (getD places n 0)) (sym (t .is))
-    (subst (λ (k : ℕ). HandFound b w (takenOf (getD slots i unseen)) (getD places k 0)) (sym (s .count))
-    (record {
-      is = λ full. record {
-        is = λ r there.
-            subst (λ (k : ℕ). Found (take (w .to) b) (w .from) k (getD places (filledBefore slots i) 0)) (m .each i l .is .number full .is r there) (f .each (filledBefore slots i) (m .each i l .below full));
-      };
-    }))
+pub numbers-few : {slots : List Seen} {numbers : Numbers} → NumbersIn slots numbers → numbers .n ≤ 99
+numbers-few m = m .few
 
 -- ---- by a walk over a window of the book
 
@@ -230,7 +235,7 @@ within-filled {q = q} window holds = record { asked = q; holds = walk-within win
 pub within-picks : {b q : List ℕ} {ask : Ask} {w : Window} → Asking q ask → Windows b 5 (askIn q ask) w
     → {slots : List Seen} → SlotsHold (take (w .last) b) (rows (recordsLeft (take (w .last) b) (w .first))) (askIn q ask) slots
     → {r : Picks} → PicksFrom b slots r → PickedAre b (askIn q ask) (r .rows) (r .n)
-within-picks {q = q} {ask = ask} a window holds p = p .each (askIn q ask) (walk-within window holds) (asking-granted a)
+within-picks {q = q} {ask = ask} a window holds p = p .each (askIn q ask) (walk-within window holds) (asking-grants a)
 
 pub within-long : {b : List ℕ} {q : Question} {w : Window} → Windows b 5 q w → length (take (w .last) b) ≡ w .last
 within-long {b} {w = w} window = length-take-le (w .last) b (window .fits)

@@ -1,6 +1,7 @@
 -- The chosen rows by value: what a pick stands for, and how far the slots were gone through.
 use Prim.Native.Nat.{ℕ, _+_, _-_, _/_, _%_, _≤_}
 use mathlib.Core.Path.{_≡_}
+use mathlib.Core.Bool.{false}
 use mathlib.Core.List.{List, _++_, map}
 use lib.ListN.{length, take}
 use Rattle.rules.specs.Lists.{gather}
@@ -10,13 +11,14 @@ use Rattle.rules.specs.Lines.{chosen}
 use Rattle.rules.proofs.ListLaws.{All}
 use Rattle.book.specs.Records.{recordsLeft}
 use Rattle.lookup.specs.Roundings.{Found}
+use Rattle.grants.specs.Table.{GrantsAre}
+use Rattle.grants.specs.Places.{upFrom}
 use Rattle.choice.specs.declared.hands.Hand.{Hand}
 use Rattle.choice.specs.declared.span.Window.{Window}
-use Rattle.choice.specs.Hands.{RowThere}
-use Rattle.choice.specs.Slots.{slotChosen, upFrom}
+use Rattle.choice.specs.Hands.{isEmpty, RowThere}
+use Rattle.choice.specs.Slots.{slotChosen}
 use Rattle.choice.specs.Span.{Windows}
 use Rattle.choice.specs.Walk.{SlotsHold}
-use Rattle.choice.proofs.SlotLaws.{Granted}
 use Rattle.choice.specs.declared.hands.Seen.{Seen}
 use Rattle.price.specs.declared.picks.Picks.{Picks}
 use Rattle.price.specs.Numbers.{filledBefore}
@@ -40,10 +42,10 @@ pub record RowFound (b : List ℕ) (w : Window) (at end found : ℕ) : Type 0 wh
 
 -- and where the hand holds one
 pub record HandHeld (b : List ℕ) (h : Hand) : Type 0 where
-  pub held : (h .at ≡ 0 → ⊥) → Held b (h .at) (h .end)
+  pub held : isEmpty h ≡ false → Held b (h .at) (h .end)
 
 pub record HandFound (b : List ℕ) (w : Window) (h : Hand) (found : ℕ) : Type 0 where
-  pub is : (h .at ≡ 0 → ⊥) → RowFound b w (h .at) (h .end) found
+  pub is : isEmpty h ≡ false → RowFound b w (h .at) (h .end) found
 
 -- `p` is the row that stands there, brought by the granted name at `place`
 pub record RowPicked (b : List ℕ) (at end place : ℕ) (p : Pick) : Type 0 where
@@ -51,7 +53,7 @@ pub record RowPicked (b : List ℕ) (at end place : ℕ) (p : Pick) : Type 0 whe
   pub sound : Sound (viewIn p)
 
 pub record HandPicked (b : List ℕ) (h : Hand) (place : ℕ) (p : Pick) : Type 0 where
-  pub picked : (h .at ≡ 0 → ⊥) → RowPicked b (h .at) (h .end) place p
+  pub picked : isEmpty h ≡ false → RowPicked b (h .at) (h .end) place p
 
 -- ---- slot after slot
 
@@ -89,4 +91,4 @@ pub record PickedAre (b : List ℕ) (q : Question) (picks : List Pick) (n : ℕ)
 
 -- `r` has the rows of the slots, for every question that they were filled for
 pub record PicksFrom (b : List ℕ) (slots : List Seen) (r : Picks) : Type 0 where
-  pub each : (q : Question) → SlotsHold b (rows (recordsLeft b 5)) q slots → Granted (q .granted) → PickedAre b q (r .rows) (r .n)
+  pub each : (q : Question) → SlotsHold b (rows (recordsLeft b 5)) q slots → {table : List ℕ} → GrantsAre (q .granted) table → PickedAre b q (r .rows) (r .n)

@@ -72,12 +72,10 @@ fn hand_pick(b: &[u8], window: Window, hand: Hand, place: u8, found: usize) -> P
     requires { ⌜ HandFound (now b) window hand found ⌝ }
     ensures { λ r. ⌜ HandPicked (now (b .entry)) hand place r ⌝ }
 {
-    let at = hand.at;
-    let end = hand.end;
-    if at == 0 {
+    if hand.is_empty() {
         return NONE;
     }
-    row_pick(b, window, at, end, place, found)
+    row_pick(b, window, hand.at, hand.end, place, found)
 }
 
 // The filled slots, one after the other: those that hold a row count.
@@ -85,7 +83,7 @@ fn picks_from(b: &[u8], slots: [Seen; 100], window: Window) -> Picks
     requires { ⌜ Filled (now b) slots window ⌝ }
     ensures { λ r. ⌜ PicksFrom (now (b .entry)) slots r ⌝ }
 {
-    let numbers = numbers_in(b, slots);
+    let numbers = numbers_in(slots);
     let to = window.to;
     let of = numbers.of;
     let places = rounding_places(&b[..to], window.from, of, numbers.n);

@@ -1,38 +1,21 @@
--- `choice::walk` meets its contract: the slots, once they have seen the records that are left, hold what all of them leave, by the laws `walk-..`.
-use Prim.Native.Nat.{_-_}
-use lib.ListN.{length}
-use Rattle.question.specs.Asked.{askIn}
+-- `choice::walk` meets its contract: the question asks for the article that is cut out of it, by its terms and the table of its names (`walk-tabled`, `walk-holds`).
 use borrow.Author.Needs.{needs}
-use Rattle.choice.proofs.WalkLaws.{Walking, accepted, walk-start, walk-here, walk-turn, walk-end}
+use Rattle.choice.proofs.WalkLaws.{walk-tabled, walk-holds}
 use Rattle.choice.proofs.walk.Statement.{statement}
 use Rattle.choice.proofs.walk.Tie as tie
 
-ruleset laws = (needs, accepted, walk-start, walk-here, walk-turn, walk-end)
-
-abbrev Inv-loop : tie.InvT-loop
-Inv-loop w from q ask slots₀ at₀ slots at = Walking w from (askIn q ask) slots at
-
-abbrev μ-loop : tie.MeasureT-loop
-μ-loop w from q ask slots₀ at₀ slots at = length w - at
+ruleset laws = (needs, walk-tabled, walk-holds)
 
 pub walk-spec : {M : Type 1} → statement M
 walk-spec =
     tie.close
     (tie.spec
-    Inv-loop
-    μ-loop
-    (λ c. search laws)  -- loop-holds
-    (λ c κs. search laws)  -- record-stop-requires
-    (λ c. search needs)  -- add-start
-    (λ c. search needs)  -- sub-passing
-    (λ c. search needs)  -- part-passing-start
-    (λ c. search needs)  -- part-passing-end
-    (λ c κs. search laws)  -- passing-requires
-    (λ c. search needs)  -- mul-old
-    (λ c. search needs)  -- array-copy-out-old
-    (λ c κs. search laws)  -- see-requires
-    (λ c. search needs)  -- mul-slots
-    (λ c. search needs)  -- array-set-from-slots
-    (λ c. search needs)  -- loop-less
-    (λ c. search laws)  -- loop-again
+    (λ c κs. search laws)  -- grants-of-requires
+    (λ c κs. search laws)  -- terms-of-requires
+    (λ c. search needs)  -- add-end
+    (λ c. search needs)  -- sub-slots-for
+    (λ c. search needs)  -- part-slots-for-start
+    (λ c. search needs)  -- part-slots-for-end
+    (λ c. search needs)  -- slice-aggregate-slots-for
+    (λ c κs. search laws)  -- slots-for-requires
     (λ c. search laws))  -- returns

@@ -10,6 +10,7 @@ pub in-hand-spec : {M : Type 1} → statement M
 in-hand-spec =
     tie.close
     (tie.spec
+    (λ c κs. search laws)  -- is-empty-requires
     (λ c. search laws)  -- returns
     (λ c κs. search laws)  -- better-requires
     (λ c. search laws)  -- returns-2

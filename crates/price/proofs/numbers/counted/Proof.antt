@@ -10,5 +10,6 @@ pub counted-spec : {M : Type 1} → statement M
 counted-spec =
     tie.close
     (tie.spec
+    (λ c κs. search laws)  -- is-empty-requires
     (λ c. search laws)  -- returns
     (λ c. search laws))  -- returns-2

@@ -2,17 +2,17 @@
 use Prim.Native.Nat.{_-_}
 use Rattle.price.specs.Numbers.{Numbering}
 use borrow.Author.Needs.{needs}
-use Rattle.price.proofs.NumberLaws.{rows-held, numbering-start, numbering-again, numbering-end}
+use Rattle.price.proofs.NumberLaws.{numbering-start, numbering-again, numbering-end}
 use Rattle.price.proofs.numbers.numbers_in.Statement.{statement}
 use Rattle.price.proofs.numbers.numbers_in.Tie as tie
 
-ruleset laws = (needs, rows-held, numbering-start, numbering-again, numbering-end)
+ruleset laws = (needs, numbering-start, numbering-again, numbering-end)
 
 abbrev Inv-loop : tie.InvT-loop
-Inv-loop b slots of₀ n₀ i₀ of n i = Numbering b slots of n i
+Inv-loop slots of₀ n₀ i₀ of n i = Numbering slots of n i
 
 abbrev μ-loop : tie.MeasureT-loop
-μ-loop b slots of₀ n₀ i₀ of n i = 99 - i
+μ-loop slots of₀ n₀ i₀ of n i = 99 - i
 
 pub numbers-in-spec : {M : Type 1} → statement M
 numbers-in-spec =
@@ -24,7 +24,6 @@ numbers-in-spec =
     (λ c. search needs)  -- mul-taken
     (λ c. search needs)  -- array-copy-out-taken
     (λ c κs. search laws)  -- taken-requires
-    (λ c κs. search laws)  -- hand-number-requires
     (λ c. search needs)  -- mul-of
     (λ c. search needs)  -- array-write-of
     (λ c κs. search laws)  -- counted-requires

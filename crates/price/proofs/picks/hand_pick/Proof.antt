@@ -10,6 +10,7 @@ pub hand-pick-spec : {M : Type 1} → statement M
 hand-pick-spec =
     tie.close
     (tie.spec
+    (λ c κs. search laws)  -- is-empty-requires
     (λ c. search laws)  -- returns
     (λ c κs. search laws)  -- row-pick-requires
     (λ c. search laws))  -- returns-2

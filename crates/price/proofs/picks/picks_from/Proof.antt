@@ -3,11 +3,11 @@
 use Prim.Native.Nat.{_-_}
 use Rattle.price.specs.Picks.{PicksSoFar}
 use borrow.Author.Needs.{needs}
-use Rattle.price.proofs.PickLaws.{filled-roundings, filled-rows, filled-held, filled-between, filled-long, slot-found, numbers-few, so-far-start, so-far-turn, so-far-end}
+use Rattle.price.proofs.PickLaws.{filled-roundings, filled-held, filled-between, filled-long, slot-found, numbers-few, so-far-start, so-far-turn, so-far-end}
 use Rattle.price.proofs.picks.picks_from.Statement.{statement}
 use Rattle.price.proofs.picks.picks_from.Tie as tie
 
-ruleset laws = (needs, filled-roundings, filled-rows, filled-held, filled-between, filled-long, slot-found, numbers-few, so-far-start, so-far-turn, so-far-end)
+ruleset laws = (needs, filled-roundings, filled-held, filled-between, filled-long, slot-found, numbers-few, so-far-start, so-far-turn, so-far-end)
 
 abbrev Inv-loop : tie.InvT-loop
 Inv-loop b window slots to places rows₀ n₀ i₀ rows n i = PicksSoFar b slots rows n i
@@ -31,7 +31,7 @@ picks-from-spec =
     (λ c. search needs)  -- cast-hand-pick
     (λ c. search needs)  -- mul-hand-pick
     (λ c. search needs)  -- array-read-hand-pick
-    (λ c κs. (search laws, (search laws, slot-found (c .before .before .before .before .before .before .before .numbers-in .ensures) (c .before .before .before .before .rounding-places .ensures) (c .before .before .before .loop .inv) (c .before .before .loop-test .taken) (c .taken .ensures))))  -- hand-pick-requires
+    (λ c κs. (search laws, (search laws, slot-found (search needs) (c .before .before .before .before .before .before .before .numbers-in .ensures) (c .before .before .before .before .rounding-places .ensures) (c .before .before .before .loop .inv) (c .before .before .loop-test .taken) (c .taken .ensures))))  -- hand-pick-requires
     (λ c. search needs)  -- mul-rows
     (λ c. search needs)  -- array-set-from-rows
     (λ c κs. search laws)  -- counted-requires
