@@ -1,5 +1,5 @@
 -- What is listed: the marks make only days of change due, and each refusal stands in its order.
-use Prim.Native.Nat.{ℕ, _+_, _≤_, _<_}
+use Prim.Native.Nat.{ℕ, _+_, _<_}
 use mathlib.Core.Path.{_≡_, refl, sym, _∙_, ap, subst}
 use mathlib.Core.Bool.{Bool, true, false, false≢true}
 use mathlib.Core.List.{List}
@@ -9,24 +9,21 @@ use lib.Dec.{eqb}
 use lib.ListN.{length, take, getD, replicate, length-replicate}
 use lib.Seq.{length-take-le}
 use borrow.Author.Tests.{ne-eqb}
-use Rattle.rules.specs.Lists.{any, keep, isSome}
+use Rattle.rules.specs.Lists.{any, isSome}
 use Rattle.rules.specs.Days.{isDay, next}
-use Rattle.rules.specs.Book.{Row, Record, Article, articleOf, rows}
-use Rattle.rules.specs.BookLayout.{records}
-use Rattle.rules.specs.Question.{Question, questionOf}
+use Rattle.rules.specs.Book.{Record, Article, articleOf, rowsOf}
+use Rattle.rules.specs.Question.{Question}
 use Rattle.rules.specs.Refusals.{Result, done, refused, _>>=_, orRefuse}
-use Rattle.rules.specs.Calendar.{Stretch, stretches, outcome, periodTo, mostDays}
-use Rattle.rules.specs.Changes.{dated, movingRows, daysOfChange, changes, isChange}
+use Rattle.rules.specs.Calendar.{Stretch, stretches, outcome, periodTo}
+use Rattle.rules.specs.Changes.{isChange}
+use Rattle.rules.proofs.AlikeLaws.{same-changes}
 use Rattle.rules.proofs.StaysLaws.{stays-next}
 use Rattle.rules.proofs.CalendarLaws.{period-days, period-end, period-count}
 use Rattle.layout.proofs.StoreLaws.{all-same}
 use Rattle.book.specs.Records.{recordsLeft}
 use Rattle.book.specs.Ensures.{Between}
-use Rattle.book.proofs.WalkLaws.{book-left}
 use Rattle.question.specs.declared.Ask.{Ask}
 use Rattle.question.specs.Asked.{askIn, AskIs}
-use Rattle.choice.specs.declared.span.Window.{Window}
-use Rattle.choice.specs.Span.{ownRows, Windows}
 use Rattle.period.specs.declared.Period.{Period}
 use Rattle.period.specs.Contracts.{PeriodIs}
 use Rattle.period.specs.Places.{Dates}
@@ -34,25 +31,31 @@ use Rattle.period.specs.Marks.{MarksAre}
 use Rattle.period.proofs.PlaceLaws.{period-dates}
 use Rattle.stretches.specs.declared.runs.Runs.{Runs}
 use Rattle.calendar.specs.declared.listing.Listing.{Listing}
-use Rattle.survey.specs.declared.Surveyed.{Surveyed}
-use Rattle.survey.specs.Survey.{SurveyIs}
+use Rattle.survey.specs.declared.Found.{Found}
+use Rattle.survey.specs.declared.entrance.Entered.{Entered}
+use Rattle.survey.specs.declared.window.Window.{Window}
+use Rattle.survey.specs.Window.{Windows}
+use Rattle.survey.specs.Survey.{FoundIs}
+use Rattle.survey.specs.Entrance.{EnteredIs}
+use Rattle.survey.proofs.EntranceLaws.{stays-out, goes-in}
 use Rattle.stretches.specs.Runs.{noRun, Marked, RunsAre}
 use Rattle.calendar.specs.Listing.{within, listing, listed, ListingIs, Refused}
 
 -- ---- the marks
 
--- the days of change are those of the rows of the article and sort
-change-own : (rs ss : List Record) (q : Question) (d : ℕ) → ownRows q rs ≡ ownRows q ss → isChange rs q d ≡ isChange ss q d
-unfolding isChange changes movingRows ownRows
-change-own rs ss q d e = ap (λ (l : List Row). any (eqb d) (daysOfChange (keep dated l))) e
-
-module _ {b : List ℕ} {q : Question} {w : Window} (h : Windows b 5 q w) where
+module _ {b article : List ℕ} {sort : ℕ} {w : Window} (h : Windows b 5 article sort w) where
   pub window-size : w .last ≡ length (take (w .last) b)
   window-size = sym (length-take-le (w .last) b (h .fits))
 
   pub window-between : Between (take (w .last) b) (w .first)
   window-between = h .between
 
+-- the days of change are those of the rows of the article and sort
+change-own : (rs ss : List Record) (q : Question) (d : ℕ) → rowsOf (q .article) (q .sort) rs ≡ rowsOf (q .article) (q .sort) ss → isChange rs q d ≡ isChange ss q d
+unfolding isChange
+change-own rs ss q d e = ap (any (eqb d)) (same-changes rs ss q e)
+
+module _ {b : List ℕ} {q : Question} {w : Window} (h : Windows b 5 (q .article) (q .sort) w) where
   pub marked : {dates : List ℕ} {marks : List Bool} → Dates dates → 0 < length dates → MarksAre (take (w .last) b) (w .first) q dates marks → Marked (outcome (recordsLeft b 5) q) dates marks
   marked {dates} {marks} d l m = record {
     some-day = l;
@@ -99,14 +102,14 @@ module _ (b s : List ℕ) (ask : Ask) {end : ℕ} {p : Period} (h : PeriodIs (as
     is-period : periodTo (ask .date .0) end ≡ some days
     is-period = h .some-is (omega arith)
 
-    pub within-3 : {k : Surveyed} → SurveyIs b (askIn s ask) k → k .ok ≡ true → k .found ≡ false → {r : Listing} → Refused 3 r → ListingIs listed-within r
+    pub within-3 : {k : Found} → FoundIs b (askIn s ask .article) (ask .sort) k → k .article ≡ false → {r : Listing} → Refused 3 r → ListingIs listed-within r
     unfolding within
-    within-3 k t f w = record { long = w .long; few = w .few; behind = w .behind; empty = w .empty; is = rw is-period (article-3 (articleOf (recordsLeft b 5) (askIn s ask .article)) (stretches (outcome (recordsLeft b 5) (askIn s ask)) days) (k .found t) f ∙ sym (w .is)) }
+    within-3 k f w = record { long = w .long; few = w .few; behind = w .behind; empty = w .empty; is = rw is-period (article-3 (articleOf (recordsLeft b 5) (askIn s ask .article)) (stretches (outcome (recordsLeft b 5) (askIn s ask)) days) (k .there) f ∙ sym (w .is)) }
 
-    pub within-done : {k : Surveyed} → SurveyIs b (askIn s ask) k → k .ok ≡ true → k .found ≡ true → {r : Runs} → RunsAre (stretches (outcome (recordsLeft b 5) (askIn s ask)) days) r
+    pub within-done : {k : Found} → FoundIs b (askIn s ask .article) (ask .sort) k → k .article ≡ true → {r : Runs} → RunsAre (stretches (outcome (recordsLeft b 5) (askIn s ask)) days) r
         → ListingIs listed-within (record { runs = r; number = 0 })
     unfolding within
-    within-done k t f w = record { long = w .long; few = w .few; behind = w .behind; empty = λ z. absurd (z refl); is = rw is-period (article-there (articleOf (recordsLeft b 5) (askIn s ask .article)) (stretches (outcome (recordsLeft b 5) (askIn s ask)) days) (k .found t) f ∙ ap done (sym (w .is))) }
+    within-done k f w = record { long = w .long; few = w .few; behind = w .behind; empty = λ z. absurd (z refl); is = rw is-period (article-there (articleOf (recordsLeft b 5) (askIn s ask .article)) (stretches (outcome (recordsLeft b 5) (askIn s ask)) days) (k .there) f ∙ ap done (sym (w .is))) }
 
 module _ {start end : ℕ} {p : Period} (h : PeriodIs start end p) where
   pub days-size : p .n ≡ length (take (p .n) (p .dates))
@@ -124,40 +127,36 @@ module _ {start end : ℕ} {p : Period} (h : PeriodIs start end p) where
 
 -- ---- any bytes
 
-pub is-question : (s : List ℕ) {y : Bool} → y ≡ isSome (questionOf s) → y ≡ true → isSome (questionOf s) ≡ true
-is-question s e f = sym e ∙ f
-
-pub surveyed-window : {b : List ℕ} {q : Question} {k : Surveyed} → SurveyIs b q k → k .ok ≡ true → Windows b 5 q (k .window)
-surveyed-window k t = k .window t
-
-module _ (b s : List ℕ) (end : ℕ) {x : Bool} (e : x ≡ isSome (records b)) where
-  pub listing-1 : x ≡ false → {r : Listing} → Refused 1 r → ListingIs (listing b s end) r
+module _ {b s : List ℕ} {k : Entered} (told : EnteredIs b s k) where
+  pub listing-refused : (end : ℕ) → (k .number ≡ 0 → ⊥) → {r : Listing} → Refused (k .number) r → ListingIs (listing b s end) r
   unfolding listing
-  listing-1 f w = record { long = w .long; few = w .few; behind = w .behind; empty = w .empty; is = go (records b) (sym e ∙ f) ∙ sym (w .is) }
-    where
-      go : (o : Option (List Record)) → isSome o ≡ false → (orRefuse 1 o >>= λ book. orRefuse 2 (questionOf s) >>= λ q. within book q end) ≡ refused 1
-      go none g = refl
-      go (some rs) g = absurd (false≢true (sym g))
+  listing-refused end n w = record {
+    long = w .long;
+    few = w .few;
+    behind = w .behind;
+    empty = w .empty;
+    is = stays-out (λ book q. within book q end) told n ∙ sym (w .is);
+  }
 
-  module _ (f : x ≡ true) where
-    book-is : records b ≡ some (recordsLeft b 5)
-    book-is = book-left b (sym e ∙ f)
-
-    pub listing-2 : {y : Bool} → y ≡ isSome (questionOf s) → y ≡ false → {r : Listing} → Refused 2 r → ListingIs (listing b s end) r
+  module _ (z : k .number ≡ 0) where
+    pub listing-is : (end : ℕ) {r : Listing} → ListingIs (within (recordsLeft b 5) (askIn s (k .ask)) end) r → ListingIs (listing b s end) r
     unfolding listing
-    listing-2 g k w = record { long = w .long; few = w .few; behind = w .behind; empty = w .empty; is = rw book-is (go (questionOf s) (sym g ∙ k) ∙ sym (w .is)) }
-      where
-        go : (o : Option Question) → isSome o ≡ false → (orRefuse 2 o >>= λ q. within (recordsLeft b 5) q end) ≡ refused 2
-        go none g = refl
-        go (some q) g = absurd (false≢true (sym g))
+    listing-is end w = record {
+      long = w .long;
+      few = w .few;
+      behind = w .behind;
+      empty = w .empty;
+      is = goes-in (λ book q. within book q end) told z ∙ w .is;
+    }
 
-    listing-is : {ask : Ask} → AskIs s ask → {r : Listing} → ListingIs (within (recordsLeft b 5) (askIn s ask) end) r → ListingIs (listing b s end) r
-    unfolding listing
-    listing-is a w = record { long = w .long; few = w .few; behind = w .behind; empty = w .empty; is = rw (book-is, a .is) (w .is) }
+    pub ask-there : AskIs s (k .ask)
+    ask-there = told .ask-is z
 
-module _ (b s : List ℕ) (end : ℕ) {ask : Ask} (a : AskIs s ask) {k : Surveyed} (told : SurveyIs b (askIn s ask) k) where
-  pub surveyed-1 : k .ok ≡ false → {r : Listing} → Refused 1 r → ListingIs (listing b s end) r
-  surveyed-1 = listing-1 b s end (told .ok)
+    pub day-there : isDay (k .ask .date .0) ≡ true
+    day-there = told .ask-is z .day
 
-  pub surveyed-is : k .ok ≡ true → {r : Listing} → ListingIs (within (recordsLeft b 5) (askIn s ask) end) r → ListingIs (listing b s end) r
-  surveyed-is t = listing-is b s end (told .ok) t a
+    pub found-there : FoundIs b (askIn s (k .ask) .article) (k .ask .sort) (k .found)
+    found-there = told .found-is z
+
+pub found-window : {b article : List ℕ} {sort : ℕ} {k : Found} → FoundIs b article sort k → Windows b 5 article sort (k .window)
+found-window k = k .window

@@ -5,7 +5,6 @@ use mathlib.Core.Bool.{Bool, true, false, _&&_, cond, false≢true}
 use mathlib.Core.List.{List}
 use mathlib.Core.Option.{Option, none, Option·map}
 use native.Mathlib.Omega.{arith}
-use lib.Dec.{eqb}
 use lib.ListN.{length, take, drop, getD, length-drop}
 use lib.Seq.{length-take-le}
 use borrow.Author.Tests.{eqb-true}
@@ -18,9 +17,8 @@ use Rattle.rules.specs.Choice.{choose}
 use Rattle.rules.specs.Lines.{Chosen}
 use Rattle.rules.specs.declared.PriceRow.{PriceRow}
 use Rattle.rules.proofs.ChoiceLaws as Choice
-use Rattle.rules.proofs.ListLaws.{All, keep-keep}
+use Rattle.rules.proofs.ListLaws.{All}
 use Rattle.layout.specs.Reads.{nameStop}
-use Rattle.book.specs.Records.{recordsLeft}
 use Rattle.records.specs.Asks.{OfKind}
 use Rattle.records.specs.Ensures.{rowIn, RowIs}
 use Rattle.records.proofs.FieldLaws.{kind-byte}
@@ -35,14 +33,11 @@ use Rattle.grants.specs.Places as Grants
 use Rattle.grants.proofs.FillLaws.{names-sized}
 use Rattle.choice.specs.declared.hands.Hand.{Hand}
 use Rattle.choice.specs.declared.hands.Seen.{Seen}
-use Rattle.choice.specs.declared.span.Window.{Window}
 use Rattle.choice.specs.Slots.{levelOf, inSlot, slotChosen}
 use Rattle.choice.specs.Hands.{isEmpty, takenOf, TakenIs, RowThere, Holds, HandIs, NoRow, OneRow, SeenIs}
 use Rattle.choice.specs.Walk.{Asking, askOn, unseen, seenOf, Chooses, SlotsHold}
-use Rattle.choice.specs.Span.{ownRows, Windows}
 use Rattle.choice.proofs.PassingLaws.{same-row}
 use Rattle.choice.proofs.SlotLaws.{Granted}
-use Rattle.choice.proofs.SpanLaws.{front}
 
 -- ---- a slot's hand
 
@@ -144,43 +139,4 @@ asking-grants {q} {ask} a = record {
   is = refl;
   few = asking-granted a .few;
   sizes = names-sized q (ask .granted) (ask .conditions) (a .names);
-}
-
--- ---- a walk over the window of another
-
-module _ {w : List ℕ} {n : ℕ} (fits : n ≤ length w) where
-  there-whole : {at end : ℕ} {r : Row} → RowThere (take n w) at end r → RowThere w at end r
-  there-whole {at} {end} p =
-      let k : end ≤ n = omega (arith, p .fits, length-take-le n w fits) in
-      record { low = p .low; order = p .order; fits = omega arith; is = sym (ap (whole kinded) (front (end - at) at n w (omega (arith, p .order)))) ∙ p .is }
-
-  hand-whole : {h : Hand} {o : Option Row} → HandIs (take n w) h o → HandIs w h o
-  hand-whole (NoRow z) = NoRow z
-  hand-whole (OneRow r x) = OneRow r (record { there = there-whole (x .there); upto = x .upto; from = x .from; rounding = x .rounding })
-
-  seen-whole : {s : Seen} {state : Choice.Seen} → SeenIs (take n w) s state → SeenIs w s state
-  seen-whole p = record { met = p .met; asked = hand-whole (p .asked); other = hand-whole (p .other) }
-
--- the rows of a slot are of the asked article and sort
-slot-own : (q : Question) (level place : ℕ) (rs : List Record) → keep (inSlot q level place) (ownRows q rs) ≡ keep (inSlot q level place) (rows rs)
-unfolding ownRows inSlot
-slot-own q level place rs =
-    keep-keep (inSlot q level place) _ (rows rs)
-    ∙ (λ i. keep (λ r. twice (same (r .article) (q .article)) (eqb (r .sort) (q .sort)) (eqb (levelOf (r .level)) level && eqb (Grants.placeOf (q .granted) (r .condition)) place) i) (rows rs))
-  where
-    twice : (a b c : Bool) → ((a && b) && (a && (b && c))) ≡ (a && (b && c))
-    twice true true c = refl
-    twice true false c = refl
-    twice false b c = refl
-
-pub walk-within : {w : List ℕ} {from : ℕ} {q : Question} {window : Window} {slots : List Seen} → Windows w from q window
-    → SlotsHold (take (window .last) w) (rows (recordsLeft (take (window .last) w) (window .first))) q slots → SlotsHold w (rows (recordsLeft w from)) q slots
-unfolding seenOf
-walk-within {w} {from} {q} {window} {slots} a b = record {
-  long = b .long;
-  each = λ level place l m.
-      subst (SeenIs w (getD slots (level * 33 + place) unseen))
-      (ap (Choice.walk (q .date) (q .quantity) (q .currency) Choice.start)
-      (sym (slot-own q level place (recordsLeft (take (window .last) w) (window .first))) ∙ ap (keep (inSlot q level place)) (a .same) ∙ slot-own q level place (recordsLeft w from)))
-      (seen-whole (a .fits) (b .each level place l m));
 }

@@ -4,4 +4,3 @@ pub mod PlaceLaws
 pub mod PassingLaws
 pub mod WalkLaws
 pub mod ChosenLaws
-pub mod SpanLaws

@@ -7,7 +7,7 @@ use mathlib.Core.Option.{Option, some, none, Option·some-injective}
 use native.Mathlib.Omega.{arith}
 use native.Mathlib.Decide.{decLt}
 use lib.Dec.{eqb, leb, ltb}
-use lib.ListN.{take, drop, getD}
+use lib.ListN.{take, drop}
 use borrow.Author.Tests.{lt-leb, le-leb, lt-ltb, le-ltb, eq-eqb, ne-eqb, eqb-true, eqb-false}
 use Rattle.rules.specs.Lists.{same, isSome, ifSome, between}
 use Rattle.rules.specs.Layout.{whole}
@@ -34,7 +34,7 @@ use Rattle.grants.specs.Places.{placeOf, PlaceIs}
 use Rattle.grants.specs.Asks.{Asks}
 use Rattle.choice.specs.declared.hands.Passing.{Passing}
 use Rattle.choice.specs.Slots.{levelOf, inSlot}
-use Rattle.choice.specs.Walk.{slotAt, slotOf, standing, passingOf, isOwn, passingIn, inAsked, SlotIs, RowPasses, Passes, uncounted, isRounding}
+use Rattle.choice.specs.Walk.{slotAt, slotOf, standing, passingOf, isOwn, passingIn, inAsked, SlotIs, RowPasses, Passes, uncounted}
 
 -- ---- the slot
 
@@ -238,13 +238,3 @@ module _ (t article table : List ℕ) (terms : Terms) (at end : ℕ) {b : Bool} 
 
   pub passes-other : b ≡ false → Passes article table terms at end (whole kinded t) uncounted
   passes-other e = record { below = omega arith; of = λ q a. sym (foreign q at end (whole kinded t) (told q a ∙ e)) }
-
--- ---- roundings
-
-pub rounding-says : (t : List ℕ) → Accepted t → Says (isRounding (whole kinded t)) (eqb (getD t 0 0) 3)
-unfolding isRounding
-rounding-says t a = record { is = go (whole kinded t) refl }
-  where
-    go : (o : Option Record) → whole kinded t ≡ o → isRounding o ≡ eqb (getD t 0 0) 3
-    go none e = absurd (false≢true (sym (ap isSome e) ∙ a .ok))
-    go (some r) e = ap (λ (k : ℕ). eqb k 3) (sym (kind-byte t r e))

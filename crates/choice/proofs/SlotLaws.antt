@@ -16,7 +16,7 @@ use Rattle.rules.specs.Question.{Question, Grant, placed, firsts, grants}
 use Rattle.rules.specs.Choice.{component, choose, step₁, step₂, step₃, step₄, step₅, surviving}
 use Rattle.rules.specs.Lines.{Slot, slotsAt, slots, Chosen, rowsAt, chosenAt, chosen}
 use Rattle.rules.proofs.TestLaws.{and-false, and-true}
-use Rattle.rules.proofs.ListLaws.{All, same-eq, same-refl, keep-keep}
+use Rattle.rules.proofs.ListLaws.{All, same-eq, same-refl, keep-keep, gather-append}
 use Rattle.grants.specs.Table.{GrantsAre}
 use Rattle.grants.specs.Places as Grants
 use Rattle.grants.proofs.GatherLaws as Gathered
@@ -38,10 +38,6 @@ module _ {A : Type 0} where
   keep-none p (x ∷ xs) h = rw (h .0) (keep-none p xs (h .1))
 
 module _ {B : Type 0} where
-  some-append : (o : Option B) (xs ys : List B) → consSome o (xs ++ ys) ≡ consSome o xs ++ ys
-  some-append none xs ys = refl
-  some-append (some x) xs ys = refl
-
   abbrev onlyIf : Bool → Option B → Option B
   onlyIf true o = o
   onlyIf false o = none
@@ -54,10 +50,6 @@ module _ {A B : Type 0} where
   gather-none : (f : A → Option B) (xs : List A) → All (λ x. f x ≡ none) xs → gather f xs ≡ []
   gather-none f [] h = refl
   gather-none f (x ∷ xs) h = rw (h .0) (gather-none f xs (h .1))
-
-  pub gather-append : (f : A → Option B) (xs ys : List A) → gather f (xs ++ ys) ≡ gather f xs ++ gather f ys
-  gather-append f [] ys = refl
-  gather-append f (x ∷ xs) ys = ap (consSome (f x)) (gather-append f xs ys) ∙ some-append (f x) (gather f xs) (gather f ys)
 
   gather-if : (f : A → Option B) (b : Bool) (x : A) (xs : List A) → gather f (consIf b x xs) ≡ consSome (onlyIf b (f x)) (gather f xs)
   gather-if f true x xs = refl

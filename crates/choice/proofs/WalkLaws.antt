@@ -178,25 +178,7 @@ module _ {w : List ℕ} {q : Question} {at end : ℕ} {o : Option Record} {p : P
       go none e s = skip (pass ∙ ap (passingIn q at end) e) s
       go (some x) e s = read x e (asRow x) refl (pass ∙ ap (passingIn q at end) e) s
 
--- ---- whether the article is there
-
-pub article-turn : (o : Option Record) (rs : List Record) (number : List ℕ) → isSome (articleOf (consSome o rs) number) ≡ (Tests.articleOf number o || isSome (articleOf rs number))
-unfolding articleOf Tests.startsWith
-article-turn none rs number = refl
-article-turn (some (ArticleRecord a)) rs number = go (same (a .number) number)
-  where
-    go : (b : Bool) → isSome (pick b a (first (λ x. same (x .number) number) (articles rs))) ≡ (b || isSome (first (λ x. same (x .number) number) (articles rs)))
-    go true = refl
-    go false = refl
-article-turn (some (PriceRecord r)) rs number = refl
-article-turn (some (RoundingRecord r)) rs number = refl
-article-turn (some (PackagingRecord p)) rs number = refl
-article-turn (some (SchemeRecord s)) rs number = refl
-
 -- ---- the loop
-
-pub accepted : {w : List ℕ} {at end : ℕ} → StopIs w at end → Accepted (take (end - (at + 2)) (drop (at + 2) w))
-accepted s = record { ok = s .ok }
 
 -- once the records from `at` on have gone by, the slots will have seen all from `from` on, for every question that asks so
 pub record Walking (w : List ℕ) (from : ℕ) (article table : List ℕ) (terms : Terms) (slots : List Seen) (at : ℕ) : Type 0 where

@@ -1,4 +1,3 @@
 pub mod Slots
 pub mod Hands
-pub mod Span
 pub mod Walk

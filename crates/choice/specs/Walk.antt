@@ -11,7 +11,6 @@ use Rattle.rules.specs.Book.{Row, Record, asRow}
 use Rattle.rules.specs.Question.{Question}
 use Rattle.rules.specs.Choice.{reaches}
 use Rattle.rules.proofs.ChoiceLaws as Choice
-use Rattle.book.specs.Records.{kindOf}
 use Rattle.question.specs.declared.Ask.{Ask}
 use Rattle.question.specs.declared.Terms.{Terms}
 use Rattle.question.specs.Parts.{NamesStand}
@@ -108,11 +107,6 @@ pub record RowPasses (table : List ℕ) (terms : Terms) (at end : ℕ) (r : Row)
 pub record Passes (article table : List ℕ) (terms : Terms) (at end : ℕ) (o : Option Record) (p : Passing) : Type 0 where
   pub below : p .slot < 100
   pub of : (q : Question) → Asks q article table terms → p ≡ passingIn q at end o
-
--- whether a record is a rounding
-unfoldable pub isRounding : Option Record → Bool
-isRounding none = false
-isRounding (some r) = eqb (kindOf r) 3
 
 -- ---- the walk
 

@@ -2,7 +2,6 @@
 pub mod hands;
 pub mod passing;
 pub mod slots;
-pub mod span;
 
 use crate::hands::Seen;
 use crate::hands::see;

@@ -28,7 +28,7 @@ ghost use Rattle.records.specs.Tests.{articleOf};
 ghost use Rattle.records.specs.Ensures.{rowIn, RowIs};
 ghost use Rattle.question.specs.Asked.{askIn, lettersOf};
 ghost use Rattle.grants.specs.Asks.{Tabled};
-ghost use Rattle.choice.specs.Walk.{Asking, slotAt, inAsked, SlotIs, RowPasses, Passes, isRounding};
+ghost use Rattle.choice.specs.Walk.{Asking, slotAt, inAsked, SlotIs, RowPasses, Passes};
 
 fn slot_at(level: usize, place: usize) -> usize
     ensures { λ r. ⌜ Number (slotAt level place) 100 r ⌝ }
@@ -144,14 +144,6 @@ pub fn passing(
     } else {
         Passing::UNCOUNTED
     }
-}
-
-// Whether t is a rounding, of whatever number: by its kind byte alone.
-pub fn is_rounding_record(t: &[u8]) -> bool
-    requires { ⌜ Accepted (now t) ⌝ }
-    ensures { λ r. ⌜ Says (isRounding (whole kinded (now (t .entry)))) r ⌝ }
-{
-    t[0] == 3
 }
 
 // Whether t is the record of the asked article.

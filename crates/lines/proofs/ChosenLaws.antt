@@ -14,7 +14,7 @@ use Rattle.rules.specs.Choice.{component, better, step₅, surviving, choose}
 use Rattle.rules.specs.Lines.{Slot, slotsAt, slots, Chosen, rowsAt, chosenAt, chosen}
 use Rattle.rules.specs.Amounts.{SoundRounding}
 use Rattle.rules.specs.declared.Rounding.{Rounding}
-use Rattle.rules.proofs.ListLaws.{All, Holds, all-keep, first-holds}
+use Rattle.rules.proofs.ListLaws.{All, Holds, all-keep, first-holds, gather-append}
 use Rattle.rules.proofs.NoPriceLaws.{survivors, level-at}
 use Rattle.lines.specs.Views.{viewOf, isBase, baseFirst}
 use Rattle.lines.specs.Contracts.{Sound}
@@ -29,14 +29,6 @@ module _ {A B : Type 0} where
       go : (o : Option B) → Holds Q o → All Q (gather f xs) → All Q (consSome o (gather f xs))
       go none q qs = qs
       go (some y) q qs = (q, qs)
-
-  gather-append : (f : A → Option B) (xs ys : List A) → gather f (xs ++ ys) ≡ gather f xs ++ gather f ys
-  gather-append f [] ys = refl
-  gather-append f (x ∷ xs) ys = ap (consSome (f x)) (gather-append f xs ys) ∙ go (f x)
-    where
-      go : (o : Option B) → consSome o (gather f xs ++ gather f ys) ≡ consSome o (gather f xs) ++ gather f ys
-      go none = refl
-      go (some y) = refl
 
 all-append : {A : Type 0} (P : A → Type 0) (xs ys : List A) → All P xs → All P ys → All P (xs ++ ys)
 all-append P [] ys ps qs = qs

@@ -1,8 +1,8 @@
 -- The price call, refusal by refusal in their order, and the answer.
-use Prim.Native.Nat.{ℕ, _+_, _*_, _≤_, _<_}
-use mathlib.Core.Path.{_≡_, refl, sym, _∙_, ap, subst}
-use mathlib.Core.Bool.{Bool, true, false, not, false≢true}
-use mathlib.Core.List.{List, _++_, map}
+use Prim.Native.Nat.{ℕ, _*_, _≤_, _<_}
+use mathlib.Core.Path.{_≡_, refl, sym, _∙_, ap}
+use mathlib.Core.Bool.{true, false, not, false≢true}
+use mathlib.Core.List.{List, map}
 use mathlib.Core.Option.{Option, some, none}
 use native.Mathlib.Omega.{arith}
 use lib.Count.{ones}
@@ -14,22 +14,20 @@ use Rattle.rules.specs.Lists.{isSome}
 use Rattle.rules.proofs.ListLaws.{absent}
 use Rattle.rules.proofs.TestLaws.{so, not-so}
 use Rattle.rules.specs.Book.{Record, Article, articleOf, rows, roundings}
-use Rattle.rules.specs.BookLayout.{records}
-use Rattle.rules.specs.Question.{Question, questionOf}
+use Rattle.rules.specs.Question.{Question}
 use Rattle.rules.specs.Lines.{Line, linesOf, linesBytes}
 use Rattle.rules.specs.Refusals.{Result, done, refused, _>>=_, orRefuse, refuseUnless, over, lentAfter}
-use Rattle.rules.specs.Price.{Answer, Priced, priced, answerOf, written, price, shown, unusedOf, setOf}
+use Rattle.rules.specs.Price.{Answer, priced, answerOf, written, price, shown, unusedOf, setOf}
 use Rattle.rules.specs.declared.PriceAnswer.{PriceAnswer}
 use Rattle.rules.proofs.UnusedLaws.{unused-count}
 use Rattle.layout.specs.Ensures.{Puts}
 use Rattle.layout.proofs.StoreLaws.{puts-front}
 use Rattle.book.specs.Records.{recordsLeft}
-use Rattle.book.proofs.WalkLaws.{book-left}
-use Rattle.question.specs.declared.Ask.{Ask}
 use Rattle.question.specs.Asked.{askIn, AskIs}
-use Rattle.choice.specs.Span.{Windows}
-use Rattle.survey.specs.declared.Surveyed.{Surveyed}
-use Rattle.survey.specs.Survey.{SurveyIs}
+use Rattle.survey.specs.declared.entrance.Entered.{Entered}
+use Rattle.survey.specs.Window.{Windows}
+use Rattle.survey.specs.Entrance.{EnteredIs}
+use Rattle.survey.proofs.EntranceLaws.{stays-out, goes-in}
 use Rattle.lines.specs.declared.Pick.{Pick}
 use Rattle.lines.specs.declared.verdict.Verdict.{Verdict}
 use Rattle.lines.specs.Views.{viewsIn, viewsBytes, letters, baseFirst, amountsIn}
@@ -55,15 +53,12 @@ pricing book q room = priced book q >>= λ p. roomFor room (answerOf q p)
 
 -- ---- an accepted book and question
 
-module _ {b : List ℕ} {q : Question} {w : Surveyed} (told : SurveyIs b q w) (t : not (w .ok) ≡ false) where
-  pub window-there : Windows b 5 q (w .window)
-  window-there = told .window (so (w .ok) t)
+module _ {b s : List ℕ} {w : Entered} (told : EnteredIs b s w) (z : w .number ≡ 0) where
+  pub ask-there : AskIs s (w .ask)
+  ask-there = told .ask-is z
 
-  book-is : records b ≡ some (recordsLeft b 5)
-  book-is = book-left b (sym (told .ok) ∙ so (w .ok) t)
-
-pub question-there : (s : List ℕ) {ok : Bool} → ok ≡ isSome (questionOf s) → not ok ≡ false → isSome (questionOf s) ≡ true
-question-there s {ok} is f = sym is ∙ so ok f
+  pub window-there : Windows b 5 (askIn s (w .ask) .article) (w .ask .sort) (w .found .window)
+  window-there = told .found-is z .window
 
 -- ---- refusals 1, 2 and 3
 
@@ -72,34 +67,28 @@ module _ (b s lent : List ℕ) where
   unfolding lentAfter
   refuses e f = record { answer = f ∙ ap shown (sym e); output = rw e }
 
-  no-records : records b ≡ none → {r : PriceAnswer} → r ≡ shown (refused 1) → PriceIs b s lent r lent
-  unfolding price
-  no-records e = refuses (rw e)
+  -- the definition from refusal 3 on
+  abbrev behind : List Record → Question → Result Answer
+  behind book q = orRefuse 3 (articleOf book (q .article)) >>= λ _. pricing book q (length lent)
 
-  module _ {fine : Bool} (asks : fine ≡ isSome (questionOf s)) (f : not fine ≡ true) {ok : Bool} (is : ok ≡ isSome (records b)) where
-    pub neither : ok ≡ false → {r : PriceAnswer} → r ≡ shown (refused 1) → PriceIs b s lent r lent
-    neither t = no-records (absent (records b) (sym is ∙ t))
-
-    pub no-question : ok ≡ true → {r : PriceAnswer} → r ≡ shown (refused 2) → PriceIs b s lent r lent
+  module _ {w : Entered} (told : EnteredIs b s w) where
+    pub kept-out : (w .number ≡ 0 → ⊥) → {r : PriceAnswer} → r ≡ shown (refused (w .number)) → PriceIs b s lent r lent
     unfolding price
-    no-question t = let e : questionOf s ≡ none = absent (questionOf s) (sym asks ∙ not-so fine f) in refuses (rw (book-left b (sym is ∙ t), e))
+    kept-out n = refuses (stays-out behind told n)
 
-  module _ {ask : Ask} (a : AskIs s ask) {w : Surveyed} (told : SurveyIs b (askIn s ask) w) where
-    pub no-book : not (w .ok) ≡ true → {r : PriceAnswer} → r ≡ shown (refused 1) → PriceIs b s lent r lent
-    no-book f = no-records (absent (records b) (sym (told .ok) ∙ not-so (w .ok) f))
-
-    module _ (t : not (w .ok) ≡ false) where
-      pub no-article : not (w .found) ≡ true → {r : PriceAnswer} → r ≡ shown (refused 3) → PriceIs b s lent r lent
+    module _ (z : w .number ≡ 0) where
+      pub no-article : not (w .found .article) ≡ true → {r : PriceAnswer} → r ≡ shown (refused 3) → PriceIs b s lent r lent
       unfolding price
       no-article f =
-          let e : articleOf (recordsLeft b 5) (askIn s ask .article) ≡ none = absent (articleOf (recordsLeft b 5) (askIn s ask .article)) (sym (told .found (so (w .ok) t)) ∙ not-so (w .found) f) in
-          refuses (rw (book-is told t, a .is, e))
+          let o : Option Article = articleOf (recordsLeft b 5) (askIn s (w .ask) .article) in
+          let e : o ≡ none = absent o (sym (told .found-is z .there) ∙ not-so (w .found .article) f) in
+          refuses (goes-in behind told z ∙ rw e)
 
-      priced-call : not (w .found) ≡ false → price b s (length lent) ≡ pricing (recordsLeft b 5) (askIn s ask) (length lent)
+      priced-call : not (w .found .article) ≡ false → price b s (length lent) ≡ pricing (recordsLeft b 5) (askIn s (w .ask)) (length lent)
       unfolding price
       priced-call f =
-          let x = there (articleOf (recordsLeft b 5) (askIn s ask .article)) (sym (told .found (so (w .ok) t)) ∙ so (w .found) f) in
-          rw (book-is told t, a .is, x .1)
+          let x = there (articleOf (recordsLeft b 5) (askIn s (w .ask) .article)) (sym (told .found-is z .there) ∙ so (w .found .article) f) in
+          goes-in behind told z ∙ rw (x .1)
 
 -- ---- the rows that stand for the question
 
@@ -127,31 +116,31 @@ module _ {b : List ℕ} {q : Question} {picks : List Pick} {n : ℕ} (picked : P
 
 -- ---- refusals 4 to 7, and the answer
 
-module _ (b s lent : List ℕ) {ask : Ask} (a : AskIs s ask) {w : Surveyed} (told : SurveyIs b (askIn s ask) w) (t : not (w .ok) ≡ false) (f : not (w .found) ≡ false)
-    {picks : List Pick} {n : ℕ} (picked : PickedAre b (askIn s ask) picks n) {v : Verdict} (j : VerdictIs picks n v) where
+module _ (b s lent : List ℕ) {w : Entered} (told : EnteredIs b s w) (t : w .number ≡ 0) (f : not (w .found .article) ≡ false)
+    {picks : List Pick} {n : ℕ} (picked : PickedAre b (askIn s (w .ask)) picks n) {v : Verdict} (j : VerdictIs picks n v) where
   pub no-price : (v .number ≡ 0 → ⊥) → {r : PriceAnswer} → r ≡ shown (refused (v .number)) → PriceIs b s lent r lent
   no-price z =
-      let e = j .refuses z (recordsLeft b 5) (askIn s ask) (stand picked) in
-      refuses b s lent (priced-call b s lent a told t f ∙ rw (e .is))
+      let e = j .refuses z (recordsLeft b 5) (askIn s (w .ask)) (stand picked) in
+      refuses b s lent (priced-call b s lent told t f ∙ rw (e .is))
 
   module _ (z : v .number ≡ 0) where
-    at-price : price b s (length lent) ≡ roomFor (length lent) (answerOf (askIn s ask) (record { lines = linesOf (recordsLeft b 5) (askIn s ask); currency = letters (v .currency) }))
-    at-price = let e = j .answered z (recordsLeft b 5) (askIn s ask) (stand picked) in priced-call b s lent a told t f ∙ rw (e .is)
+    at-price : price b s (length lent) ≡ roomFor (length lent) (answerOf (askIn s (w .ask)) (record { lines = linesOf (recordsLeft b 5) (askIn s (w .ask)); currency = letters (v .currency) }))
+    at-price = let e = j .answered z (recordsLeft b 5) (askIn s (w .ask)) (stand picked) in priced-call b s lent told t f ∙ rw (e .is)
 
     pub no-room : length lent < 14 * n → {r : PriceAnswer} → r ≡ shown (refused 7) → PriceIs b s lent r lent
     unfolding answerOf
     no-room h =
-        let e : leb (length (linesBytes (linesOf (recordsLeft b 5) (askIn s ask)))) (length lent) ≡ false = rw (size picked) (lt-leb (14 * n) (length lent) h) in
+        let e : leb (length (linesBytes (linesOf (recordsLeft b 5) (askIn s (w .ask))))) (length lent) ≡ false = rw (size picked) (lt-leb (14 * n) (length lent) h) in
         refuses b s lent (at-price ∙ rw e)
 
     -- with room, the lines go to the front, and what is read is the definition's
-    pub has-answer : {set : ℕ} → UnusedIs (askIn s ask .granted) (map (λ v. v .place) (viewsIn picks n)) set → 14 * n ≤ length lent
+    pub has-answer : {set : ℕ} → UnusedIs (askIn s (w .ask) .granted) (map (λ v. v .place) (viewsIn picks n)) set → 14 * n ≤ length lent
         → {after : List ℕ} → Puts lent 0 (viewsBytes (viewsIn picks n) (amountsIn (v .amounts) n)) after
-        → {r : PriceAnswer} → r ≡ answered (ask .quantity) n v set → PriceIs b s lent r after
+        → {r : PriceAnswer} → r ≡ answered (w .ask .quantity) n v set → PriceIs b s lent r after
     unfolding answerOf shown lentAfter
     has-answer {set} u h {after} put {r} e =
         let book : List Record = recordsLeft b 5 in
-        let q : Question = askIn s ask in
+        let q : Question = askIn s (w .ask) in
         let ls : List Line = linesOf book q in
         let x = j .answered z book q (stand picked) in
         let fits : leb (length (linesBytes ls)) (length lent) ≡ true = rw (size picked) (le-leb (14 * n) (length lent) h) in
@@ -163,7 +152,7 @@ module _ (b s lent : List ℕ) {ask : Ask} (a : AskIs s ask) {w : Surveyed} (tol
         record {
           answer = e ∙ (λ i. record {
             unit = sym (x .unit) i;
-            total = pos (ask .quantity) *ℤ sym (x .unit) i;
+            total = pos (w .ask .quantity) *ℤ sym (x .unit) i;
             lines = sym count i;
             unused = set′ i;
             «unused_count» = ones′ i;

@@ -1,4 +1,5 @@
 pub mod NumberLaws
+pub mod WithinLaws
 pub mod PickLaws
 pub mod UnusedSetLaws
 pub mod CallLaws

@@ -27,13 +27,13 @@ use Rattle.choice.specs.Hands.{isEmpty, TakenIs, takenOf}
 use Rattle.question.specs.declared.Ask.{Ask}
 use Rattle.question.specs.Asked.{askIn}
 use Rattle.choice.specs.Walk.{Asking, SlotsHold, unseen}
-use Rattle.choice.specs.Span.{Windows}
+use Rattle.survey.specs.Window.{Windows}
 use Rattle.choice.specs.Slots.{slotChosen, slotsChosen}
 use Rattle.choice.specs.declared.hands.Seen.{Seen}
-use Rattle.choice.specs.declared.span.Window.{Window}
+use Rattle.survey.specs.declared.window.Window.{Window}
 use Rattle.choice.proofs.SlotLaws.{slots-choose}
 use Rattle.choice.specs.declared.hands.Hand.{Hand}
-use Rattle.choice.proofs.ChosenLaws.{there-kind, there-row, there-same, slot-empty, slot-full, asking-grants, walk-within}
+use Rattle.choice.proofs.ChosenLaws.{there-kind, there-row, there-same, slot-empty, slot-full, asking-grants}
 use Rattle.lines.specs.declared.Pick.{Pick}
 use Rattle.lines.specs.Views.{View, viewOf, viewIn, viewsIn}
 use Rattle.lines.specs.Contracts.{Sound}
@@ -42,6 +42,7 @@ use Rattle.price.specs.declared.numbers.Numbers.{Numbers}
 use Rattle.price.specs.Numbers.{Counted, filledBefore, NumbersIn}
 use Rattle.price.specs.Picks.{RoundingsIn, Held, RowFound, HandHeld, HandFound, RowPicked, HandPicked, viewsFrom, Picking, PicksSoFar, Filled, PickedAre, PicksFrom}
 use Rattle.price.proofs.NumberLaws.{filled-next}
+use Rattle.price.proofs.WithinLaws.{walk-within}
 
 pub held-kind : {b : List ℕ} {at end : ℕ} → Held b at end → OfKind 2 (take (end - at) (drop at b))
 held-kind h = there-kind (h .there)
@@ -194,7 +195,7 @@ so-far-end s h = record { each = λ q holds g. pick-end g (s .each q holds) h }
 
 module _ {b : List ℕ} {slots : List Seen} {w : Window} (filled : Filled b slots w) where
   pub filled-roundings : RoundingsIn b w
-  filled-roundings = record { asked = filled .asked; window = filled .window }
+  filled-roundings = record { article = filled .asked .article; sort = filled .asked .sort; window = filled .window }
 
   pub filled-held : {i : ℕ} → i < 99 → {hand : Hand} → TakenIs (getD slots i unseen) hand → HandHeld b hand
   filled-held l t = record { held = λ n. let x = slot-full (filled .holds) l t n in record { row = x .0; there = x .1 .there } }
@@ -228,14 +229,14 @@ numbers-few m = m .few
 
 -- ---- by a walk over a window of the book
 
-pub within-filled : {b : List ℕ} {q : Question} {w : Window} → Windows b 5 q w
+pub within-filled : {b : List ℕ} {q : Question} {w : Window} → Windows b 5 (q .article) (q .sort) w
     → {slots : List Seen} → SlotsHold (take (w .last) b) (rows (recordsLeft (take (w .last) b) (w .first))) q slots → Filled b slots w
 within-filled {q = q} window holds = record { asked = q; holds = walk-within window holds; window = window }
 
-pub within-picks : {b q : List ℕ} {ask : Ask} {w : Window} → Asking q ask → Windows b 5 (askIn q ask) w
+pub within-picks : {b q : List ℕ} {ask : Ask} {w : Window} → Asking q ask → Windows b 5 (askIn q ask .article) (ask .sort) w
     → {slots : List Seen} → SlotsHold (take (w .last) b) (rows (recordsLeft (take (w .last) b) (w .first))) (askIn q ask) slots
     → {r : Picks} → PicksFrom b slots r → PickedAre b (askIn q ask) (r .rows) (r .n)
 within-picks {q = q} {ask = ask} a window holds p = p .each (askIn q ask) (walk-within window holds) (asking-grants a)
 
-pub within-long : {b : List ℕ} {q : Question} {w : Window} → Windows b 5 q w → length (take (w .last) b) ≡ w .last
+pub within-long : {b article : List ℕ} {sort : ℕ} {w : Window} → Windows b 5 article sort w → length (take (w .last) b) ≡ w .last
 within-long {b} {w = w} window = length-take-le (w .last) b (window .fits)

@@ -14,10 +14,10 @@ use Rattle.lookup.specs.Roundings.{Found}
 use Rattle.grants.specs.Table.{GrantsAre}
 use Rattle.grants.specs.Places.{upFrom}
 use Rattle.choice.specs.declared.hands.Hand.{Hand}
-use Rattle.choice.specs.declared.span.Window.{Window}
+use Rattle.survey.specs.declared.window.Window.{Window}
 use Rattle.choice.specs.Hands.{isEmpty, RowThere}
 use Rattle.choice.specs.Slots.{slotChosen}
-use Rattle.choice.specs.Span.{Windows}
+use Rattle.survey.specs.Window.{Windows}
 use Rattle.choice.specs.Walk.{SlotsHold}
 use Rattle.choice.specs.declared.hands.Seen.{Seen}
 use Rattle.price.specs.declared.picks.Picks.{Picks}
@@ -26,10 +26,11 @@ use Rattle.lines.specs.declared.Pick.{Pick}
 use Rattle.lines.specs.Views.{View, viewOf, viewIn, viewsIn}
 use Rattle.lines.specs.Contracts.{Sound}
 
--- the window is that of some question: the roundings in it are all of the book
+-- the window is that of some article and sort: the roundings in it are all of the book
 pub record RoundingsIn (b : List ℕ) (w : Window) : Type 0 where
-  pub asked : Question
-  pub window : Windows b 5 asked w
+  pub article : List ℕ
+  pub sort : ℕ
+  pub window : Windows b 5 article sort w
 
 -- a price row stands from `at` to `end`
 pub record Held (b : List ℕ) (at end : ℕ) : Type 0 where
@@ -76,11 +77,11 @@ pub record PicksSoFar (b : List ℕ) (slots : List Seen) (picks : List Pick) (n 
   pub long : length picks ≡ 99
   pub each : (q : Question) → SlotsHold b (rows (recordsLeft b 5)) q slots → Picking (recordsLeft b 5) q picks n i
 
--- a walk has filled the slots for some question, and the window is of the same
+-- a walk has filled the slots for some question, and the window is that of its article and sort
 pub record Filled (b : List ℕ) (slots : List Seen) (w : Window) : Type 0 where
   pub asked : Question
   pub holds : SlotsHold b (rows (recordsLeft b 5)) asked slots
-  pub window : Windows b 5 asked w
+  pub window : Windows b 5 (asked .article) (asked .sort) w
 
 -- the first n rows are those that the definition chooses
 pub record PickedAre (b : List ℕ) (q : Question) (picks : List Pick) (n : ℕ) : Type 0 where

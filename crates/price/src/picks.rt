@@ -4,7 +4,6 @@ use crate::numbers::numbers_in;
 use choice::hands::Hand;
 use choice::hands::Seen;
 use choice::hands::taken;
-use choice::span::Window;
 use choice::walk;
 use lines::Pick;
 use lookup::roundings::rounding_at;
@@ -15,9 +14,10 @@ use rules::Currency;
 use rules::Rounding;
 use rules::Value;
 use rules::Way;
+use survey::window::Window;
 ghost use Rattle.question.specs.Asked.{askIn};
-ghost use Rattle.choice.specs.Span.{Windows};
 ghost use Rattle.choice.specs.Walk.{Asking};
+ghost use Rattle.survey.specs.Window.{Windows};
 ghost use Rattle.price.specs.Picks.{RoundingsIn, Held, RowFound, HandHeld, HandFound, RowPicked, HandPicked, Filled, PicksFrom, PickedAre};
 
 // The first n of the rows count.
@@ -99,10 +99,10 @@ fn picks_from(b: &[u8], slots: [Seen; 100], window: Window) -> Picks
     Picks { rows, n }
 }
 
-// By a walk over the window of the question.
+// By a walk over the window of the question's article and sort.
 pub fn picks_within(b: &[u8], window: Window, q: &[u8], ask: Ask) -> Picks
     requires { ⌜ Asking (now q) ask ⌝ }
-    requires { ⌜ Windows (now b) 5 (askIn (now q) ask) window ⌝ }
+    requires { ⌜ Windows (now b) 5 (askIn (now q) ask .article) (ask .sort) window ⌝ }
     ensures { λ r. ⌜ PickedAre (now (b .entry)) (askIn (now (q .entry)) ask) (r .rows) (r .n) ⌝ }
 {
     let last = window.last;

@@ -1,29 +1,30 @@
--- Rounding records: the way, the rounding, and its number alone.
+-- Rounding records: the way, the rounding, its number alone, and the test by the kind byte.
 use Prim.Native.Nat.{ℕ, zero, suc, _≤_}
 use mathlib.Core.Path.{_≡_, refl, sym, _∙_, ap}
+use mathlib.Core.Bool.{false≢true}
 use mathlib.Core.List.{List}
 use mathlib.Core.Option.{Option, some, none}
 use native.Mathlib.Omega.{arith}
 use native.Mathlib.Decide.{ℕ-discrete}
-use lib.Dec.{T, leb, leb→le}
+use lib.Dec.{T, eqb, leb, leb→le}
 use lib.ListN.{length, getD}
 use lib.IntN.{ℤ}
 use mir.Syntax.{w64}
 use mir.Val.{toZ, ofZ}
-use Rattle.rules.specs.Lists.{ifSome}
+use Rattle.rules.specs.Lists.{ifSome, isSome}
 use Rattle.rules.specs.Layout.{whole}
-use Rattle.rules.specs.Book.{Record, RoundingRecord, asRounding}
+use Rattle.rules.specs.Book.{Record, ArticleRecord, PriceRecord, RoundingRecord, PackagingRecord, SchemeRecord, asRounding}
 use Rattle.rules.specs.BookLayout.{kinded, roundingBody}
 use Rattle.rules.specs.declared.Rounding.{Rounding}
 use Rattle.rules.specs.declared.Way.{Way}
 use Rattle.rules.specs.declared.Way.the-variants.{Commercial}
 use Rattle.rules.proofs.KindLaws.{roundingKind, read-only}
-use Rattle.layout.specs.Ensures.{Number, SignedNumber}
+use Rattle.layout.specs.Ensures.{Number, SignedNumber, Says}
 use Rattle.book.specs.Records.{kindOf, numberAt, signedAt, roundingAt}
 use Rattle.book.specs.Ensures.{Stands}
 use Rattle.book.proofs.PartsLaws.{rounding-parts, record-is, body-ok}
 use Rattle.records.specs.Asks.{Accepted, OfKind}
-use Rattle.records.specs.Tests.{roundingNumber}
+use Rattle.records.specs.Tests.{isRounding, roundingNumber}
 use Rattle.records.specs.Ensures.{WayIs, RoundingIs}
 use Rattle.records.proofs.FieldLaws.{kept-is, kind-byte, of-kind}
 use Rattle.records.proofs.BoundLaws.{in-bounds}
@@ -80,3 +81,20 @@ number-kind {t} {top} {x} p q n = go (ℕ-discrete (getD t 0 0) 3)
     go : Dec (getD t 0 0 ≡ 3) → OfKind 3 t
     go (yes i) = of-kind p i
     go (no i) = absurd (n (q .is ∙ sym (number-none t p i .is)))
+
+-- ---- whether a record is one
+
+kind-three : (r : Record) → isSome (asRounding r) ≡ eqb (kindOf r) 3
+kind-three (ArticleRecord a) = refl
+kind-three (PriceRecord r) = refl
+kind-three (RoundingRecord r) = refl
+kind-three (PackagingRecord p) = refl
+kind-three (SchemeRecord s) = refl
+
+pub rounding-told : (t : List ℕ) → Accepted t → Says (isRounding (whole kinded t)) (eqb (getD t 0 0) 3)
+unfolding isRounding
+rounding-told t a = record { is = go (whole kinded t) refl }
+  where
+    go : (o : Option Record) → whole kinded t ≡ o → isRounding o ≡ eqb (getD t 0 0) 3
+    go none e = absurd (false≢true (sym (ap isSome e) ∙ a .ok))
+    go (some r) e = kind-three r ∙ ap (λ (k : ℕ). eqb k 3) (sym (kind-byte t r e))

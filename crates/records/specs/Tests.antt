@@ -4,7 +4,7 @@ use mathlib.Core.List.{List, []}
 use mathlib.Core.Bool.{Bool, false, _&&_}
 use mathlib.Core.Option.{Option, some, none}
 use lib.Dec.{eqb}
-use Rattle.rules.specs.Lists.{same, ifSome}
+use Rattle.rules.specs.Lists.{same, ifSome, isSome}
 use Rattle.rules.specs.Book.{Record, ArticleRecord, PriceRecord, RoundingRecord, PackagingRecord, SchemeRecord, asRow, asRounding}
 use Rattle.book.specs.Records.{kindOf}
 
@@ -32,6 +32,11 @@ rowOf number o = startsWith 2 number o
 unfoldable pub isRow : List ℕ → ℕ → Option Record → Bool
 isRow number sort none = false
 isRow number sort (some r) = ifSome (asRow r) false λ p. same (p .article) number && eqb (p .sort) sort
+
+-- a rounding, of whatever number
+unfoldable pub isRounding : Option Record → Bool
+isRounding none = false
+isRounding (some r) = isSome (asRounding r)
 
 -- the number of a rounding; any other record has 0
 unfoldable pub roundingNumber : Option Record → ℕ

@@ -16,6 +16,7 @@ pub use packagings::packaging_of;
 pub use prices::is_row;
 pub use prices::is_row_of;
 pub use prices::row_of;
+pub use roundings::is_rounding;
 pub use roundings::rounding_number;
 pub use roundings::rounding_of;
 pub use schemes::SchemeParts;

@@ -1,4 +1,4 @@
-// Rounding records: the rounding by value, and its number alone.
+// Rounding records: the rounding by value, its number alone, and whether a record is one.
 use crate::fields::half;
 use crate::fields::word;
 use layout::numbers::signed_four_at;
@@ -7,9 +7,9 @@ use rules::Rounding;
 use rules::Way;
 ghost use Rattle.rules.specs.Layout.{whole};
 ghost use Rattle.rules.specs.BookLayout.{kinded};
-ghost use Rattle.layout.specs.Ensures.{Number};
+ghost use Rattle.layout.specs.Ensures.{Number, Says};
 ghost use Rattle.records.specs.Asks.{Accepted, OfKind};
-ghost use Rattle.records.specs.Tests.{roundingNumber};
+ghost use Rattle.records.specs.Tests.{isRounding, roundingNumber};
 ghost use Rattle.records.specs.Ensures.{WayIs, RoundingIs};
 
 fn way_of(b: u8) -> Way
@@ -48,4 +48,12 @@ pub fn rounding_number(t: &[u8]) -> u16
         return 0;
     }
     half(t, 1)
+}
+
+// Whether t is a rounding, of whatever number: by its kind byte alone.
+pub fn is_rounding(t: &[u8]) -> bool
+    requires { ⌜ Accepted (now t) ⌝ }
+    ensures { λ r. ⌜ Says (isRounding (whole kinded (now (t .entry)))) r ⌝ }
+{
+    t[0] == 3
 }

@@ -7,7 +7,7 @@ use mathlib.Core.List.{List, [], _∷_, _++_}
 use mathlib.Core.Option.{Option, some, none, Option·map}
 use lib.Dec.{eqb}
 use Rattle.rules.specs.Lists.{same, any, keep, first, gather}
-use Rattle.rules.specs.Book.{Record, Row, rows, roundings, roundingFor}
+use Rattle.rules.specs.Book.{Record, Row, rows, rowsOf, roundings, roundingFor}
 use Rattle.rules.specs.Question.{Question, on, grants}
 use Rattle.rules.specs.Choice.{component, better, step₅, surviving, choose}
 use Rattle.rules.specs.Amounts.{exact, rounded}
@@ -21,10 +21,6 @@ use Rattle.rules.proofs.NoPriceLaws.{survivors}
 use Rattle.rules.proofs.RowLaws.{all-gather}
 
 -- ---- what is read
-
--- the rows of an article and sort, whatever their level and condition, in the book's order
-unfoldable pub rowsOf : List ℕ → ℕ → List Record → List Row
-rowsOf article sort book = keep (λ r. same (r .article) article && eqb (r .sort) sort) (rows book)
 
 -- the number that a row names rounds the same with these records and with those
 abbrev pub Rounds : List Rounding → List Rounding → Row → Type 0

@@ -6,7 +6,7 @@ use mathlib.Core.List.{List}
 use mathlib.Core.Option.{Option, some, none}
 use lib.Dec.{eqb}
 use lib.IntN.{ℤ, pos}
-use Rattle.rules.specs.Lists.{same, first, gather, ifSome}
+use Rattle.rules.specs.Lists.{same, keep, first, gather, ifSome}
 use Rattle.rules.specs.Letters.{text, letter}
 use Rattle.rules.specs.declared.Value.{Value}
 use Rattle.rules.specs.declared.Way.the-variants.{Commercial}
@@ -129,6 +129,10 @@ packagings rs = gather asPack rs
 
 abbrev pub schemes : List Record → List Scheme
 schemes rs = gather asScheme rs
+
+-- the rows of an article and sort, whatever their level and condition
+unfoldable pub rowsOf : List ℕ → ℕ → List Record → List Row
+rowsOf article sort book = keep (λ r. same (r .article) article && eqb (r .sort) sort) (rows book)
 
 -- ---- of records alike, the first in the book counts
 

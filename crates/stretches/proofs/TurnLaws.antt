@@ -10,7 +10,7 @@ use mir.Syntax.{w64}
 use mir.Val.{ofZ, SFits}
 use borrow.Author.Tests.{eq-eqb, ne-eqb, eqb-true, eqb-false}
 use Rattle.rules.specs.Calendar.{Outcome, sameInt, sameOutcome, outcome}
-use Rattle.rules.specs.Question.{Question, on}
+use Rattle.rules.specs.Question.{on}
 use Rattle.rules.proofs.TestLaws.{and-true}
 use Rattle.rules.proofs.CalendarLaws.{eq-of, same-outcome}
 use Rattle.rules.proofs.WalkLaws as Walk
@@ -18,11 +18,10 @@ use Rattle.layout.specs.Ensures.{Says}
 use Rattle.book.specs.Records.{recordsLeft}
 use Rattle.question.specs.declared.Ask.{Ask}
 use Rattle.question.specs.Asked.{askIn}
-use Rattle.choice.specs.declared.span.Window.{Window}
 use Rattle.choice.specs.Walk.{Asking, askOn}
-use Rattle.choice.specs.Span.{Windows}
-use Rattle.choice.proofs.SpanLaws.{window-on}
 use Rattle.choice.proofs.ChosenLaws.{asking-on, ask-on}
+use Rattle.survey.specs.declared.window.Window.{Window}
+use Rattle.survey.specs.Window.{Windows}
 use Rattle.stretches.specs.declared.turns.Run.{Run}
 use Rattle.price.specs.declared.day.DayPrice.{DayPrice}
 use Rattle.price.specs.Day.{DayPriceIs}
@@ -67,8 +66,8 @@ module _ (b q : List ℕ) {ask : Ask} {d : ℕ} {then : Ask} (a : AskedOn ask d 
   pub asking-then : Asking q ask → Asking q then
   asking-then h = subst (Asking q) (sym (a .is)) (asking-on h d)
 
-  pub window-then : {w : Window} → Windows b 5 (askIn q ask) w → Windows b 5 (askIn q then) w
-  window-then {w} h = subst (λ (x : Question). Windows b 5 x w) (sym asked-is) (window-on h d)
+  pub window-then : {w : Window} → Windows b 5 (askIn q ask .article) (ask .sort) w → Windows b 5 (askIn q then .article) (then .sort) w
+  window-then {w} h = subst (λ (x : Ask). Windows b 5 (askIn q x .article) (x .sort) w) (sym (a .is)) h
 
   same-day : outcome (recordsLeft b 5) (askIn q then) (then .date .0) ≡ outcome (recordsLeft b 5) (askIn q ask) d
   unfolding outcome on

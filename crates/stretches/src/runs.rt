@@ -2,16 +2,16 @@
 use crate::turns::Run;
 use crate::turns::opened;
 use crate::turns::turn;
-use choice::span::Window;
 use days::Day;
 use question::Ask;
 use rules::Cents;
 use rules::Currency;
+use survey::window::Window;
 ghost use Rattle.rules.specs.Calendar.{outcome, stretches};
 ghost use Rattle.book.specs.Records.{recordsLeft};
 ghost use Rattle.question.specs.Asked.{askIn};
 ghost use Rattle.choice.specs.Walk.{Asking};
-ghost use Rattle.choice.specs.Span.{Windows};
+ghost use Rattle.survey.specs.Window.{Windows};
 ghost use Rattle.stretches.specs.Runs.{Marked, RunsAre};
 
 // The first n of the list count; behind them stand empty ones, which are no stretch of any days.
@@ -31,7 +31,7 @@ pub const NO_RUN: Run = Run {
 // The stretch in hand is the last of the list.
 pub fn runs_of(b: &[u8], w: Window, q: &[u8], ask: Ask, dates: &[u32], marks: [bool; 1097]) -> Runs
     requires { ⌜ Asking (now q) ask ⌝ }
-    requires { ⌜ Windows (now b) 5 (askIn (now q) ask) w ⌝ }
+    requires { ⌜ Windows (now b) 5 (askIn (now q) ask .article) (ask .sort) w ⌝ }
     requires { ⌜ Marked (outcome (recordsLeft (now b) 5) (askIn (now q) ask)) (now dates) marks ⌝ }
     ensures { λ r. ⌜ RunsAre (stretches (outcome (recordsLeft (now (b .entry)) 5) (askIn (now (q .entry)) ask)) (now (dates .entry))) r ⌝ }
 {

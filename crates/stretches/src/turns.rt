@@ -1,16 +1,16 @@
 // The stretch in hand, and what a day makes of it: it grows by that day, or another stretch begins.
-use choice::span::Window;
 use days::Day;
 use price::day::day_price;
 use question::Ask;
 use rules::Cents;
 use rules::Currency;
+use survey::window::Window;
 ghost use Rattle.rules.specs.Calendar.{outcome, sameOutcome};
 ghost use Rattle.layout.specs.Ensures.{Says};
 ghost use Rattle.book.specs.Records.{recordsLeft};
 ghost use Rattle.question.specs.Asked.{askIn};
 ghost use Rattle.choice.specs.Walk.{Asking};
-ghost use Rattle.choice.specs.Span.{Windows};
+ghost use Rattle.survey.specs.Window.{Windows};
 ghost use Rattle.stretches.specs.Runs.{asStretch, AskedOn, Opened, Longer, Steady, Turned};
 
 // Days in a row with one outcome.
@@ -59,7 +59,7 @@ fn ask_on(ask: Ask, d: Day) -> Ask
 // A stretch that begins: the day is priced.
 pub fn opened(b: &[u8], w: Window, q: &[u8], ask: Ask, d: Day) -> Run
     requires { ⌜ Asking (now q) ask ⌝ }
-    requires { ⌜ Windows (now b) 5 (askIn (now q) ask) w ⌝ }
+    requires { ⌜ Windows (now b) 5 (askIn (now q) ask .article) (ask .sort) w ⌝ }
     ensures { λ r. ⌜ Opened (outcome (recordsLeft (now (b .entry)) 5) (askIn (now (q .entry)) ask)) (d .0) r ⌝ }
 {
     let price = day_price(b, w, q, ask_on(ask, d));
@@ -92,7 +92,7 @@ fn longer(run: Run, d: Day) -> Run
 // One day more. Only a day of change is priced; on any other the outcome stays.
 pub fn turn(b: &[u8], w: Window, q: &[u8], ask: Ask, run: Run, d: Day, due: bool) -> Turning
     requires { ⌜ Asking (now q) ask ⌝ }
-    requires { ⌜ Windows (now b) 5 (askIn (now q) ask) w ⌝ }
+    requires { ⌜ Windows (now b) 5 (askIn (now q) ask .article) (ask .sort) w ⌝ }
     requires { ⌜ Steady (outcome (recordsLeft (now b) 5) (askIn (now q) ask)) run (d .0) due ⌝ }
     ensures { λ r. ⌜ Turned (outcome (recordsLeft (now (b .entry)) 5) (askIn (now (q .entry)) ask)) run (d .0) r ⌝ }
 {

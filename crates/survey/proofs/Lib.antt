@@ -1,1 +1,3 @@
+pub mod WindowLaws
 pub mod SurveyLaws
+pub mod EntranceLaws

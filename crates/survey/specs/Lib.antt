@@ -1,1 +1,3 @@
+pub mod Window
 pub mod Survey
+pub mod Entrance

@@ -1,34 +1,34 @@
--- What a survey of lent bytes tells.
-use mathlib.Core.Path.{_≡_}
-use mathlib.Core.Bool.{Bool, true, false, _&&_}
-use mathlib.Core.List.{List}
-use mathlib.Core.Option.{Option, some, none}
+-- What is found of an article and sort in a book, and what a survey of lent bytes tells.
 use Prim.Native.Nat.{ℕ}
-use lib.Dec.{eqb}
-use Rattle.rules.specs.Lists.{same, isSome}
-use Rattle.rules.specs.Book.{Record, ArticleRecord, PriceRecord, RoundingRecord, PackagingRecord, SchemeRecord, articleOf}
+use mathlib.Core.Path.{_≡_}
+use mathlib.Core.Bool.{true, false, _||_}
+use mathlib.Core.List.{List}
+use mathlib.Core.Option.{Option}
+use Rattle.rules.specs.Lists.{isSome}
+use Rattle.rules.specs.Book.{Record, articleOf}
 use Rattle.rules.specs.BookLayout.{records}
-use Rattle.rules.specs.Question.{Question}
 use Rattle.book.specs.Records.{recordsLeft}
-use Rattle.choice.specs.Span.{Windows}
+use Rattle.records.specs.Tests as Tests
+use Rattle.survey.specs.declared.Found.{Found}
 use Rattle.survey.specs.declared.Surveyed.{Surveyed}
+use Rattle.survey.specs.Window.{WindowAfter, Windows}
 
--- whether a record is a row of the asked article and sort
-unfoldable pub ownRow : Question → Option Record → Bool
-ownRow q none = false
-ownRow q (some (ArticleRecord a)) = false
-ownRow q (some (PriceRecord r)) = same (r .article) (q .article) && eqb (r .sort) (q .sort)
-ownRow q (some (RoundingRecord r)) = false
-ownRow q (some (PackagingRecord p)) = false
-ownRow q (some (SchemeRecord s)) = false
+-- nothing found: the window is still empty, behind a header
+abbrev pub nothing : Found
+nothing = record { article = false; window = record { first = 5; last = 5; from = 5; to = 5 } }
 
--- what is told of bytes that are no book: nothing found, and the window still empty behind a header
-abbrev pub noBook : Surveyed
-noBook = record { ok = false; found = false; window = record { first = 5; last = 5; from = 5; to = 5 } }
+-- `r` is what was found once the record o, which stands from `at` to `end`, has gone by too
+pub record FoundAfter (f : Found) (article : List ℕ) (sort : ℕ) (o : Option Record) (at end : ℕ) (r : Found) : Type 0 where
+  pub there : r .article ≡ (f .article || Tests.articleOf article o)
+  pub window : WindowAfter (f .window) (Tests.isRow article sort o) (Tests.isRounding o) at end (r .window)
 
--- whether b is a book; and of one: whether it has the asked article, and the window of the question
-pub record SurveyIs (b : List ℕ) (q : Question) (r : Surveyed) : Type 0 where
+-- of the book b: whether it has the article, and the window of the article and sort
+pub record FoundIs (b article : List ℕ) (sort : ℕ) (r : Found) : Type 0 where
+  pub there : r .article ≡ isSome (articleOf (recordsLeft b 5) article)
+  pub window : Windows b 5 article sort (r .window)
+
+-- whether b is a book, and what is found in one
+pub record SurveyIs (b article : List ℕ) (sort : ℕ) (r : Surveyed) : Type 0 where
   pub ok : r .ok ≡ isSome (records b)
-  pub found : r .ok ≡ true → r .found ≡ isSome (articleOf (recordsLeft b 5) (q .article))
-  pub window : r .ok ≡ true → Windows b 5 q (r .window)
-  pub empty : r .ok ≡ false → r ≡ noBook
+  pub found : r .ok ≡ true → FoundIs b article sort (r .found)
+  pub empty : r .ok ≡ false → r .found ≡ nothing

@@ -1,69 +1,92 @@
-// A book accepted, and what a question asks for found in it, in one pass: whether the article has a record, and where its rows and the
+// A book accepted, and what is asked for found in it, in one pass: whether an article has a record, and where its rows of one sort and the
 // roundings stand.
+pub mod entrance;
+pub mod window;
+
+use crate::window::Window;
+use crate::window::window_after;
 use book::header_ok;
 use book::record_end;
-use choice::passing::is_asked_article;
-use choice::passing::is_rounding_record;
-use choice::span::Window;
-use choice::span::noted;
-use question::Ask;
-use records::is_row_of;
-use records::row_of;
+use book::record_stop;
+use records::is_article;
+use records::is_rounding;
+use records::is_row;
+ghost use mathlib.Core.Path.{_≡_};
+ghost use mathlib.Core.Bool.{true};
+ghost use Rattle.rules.specs.Lists.{isSome};
 ghost use Rattle.rules.specs.Layout.{whole};
-ghost use Rattle.rules.specs.BookLayout.{kinded};
-ghost use Rattle.layout.specs.Ensures.{Says};
+ghost use Rattle.rules.specs.BookLayout.{kinded, records};
 ghost use Rattle.records.specs.Asks.{Accepted};
-ghost use Rattle.question.specs.Asked.{askIn};
-ghost use Rattle.choice.specs.Walk.{Asking};
-ghost use Rattle.survey.specs.Survey.{ownRow, SurveyIs};
+ghost use Rattle.survey.specs.Survey.{FoundAfter, FoundIs, SurveyIs};
 
-// Whether it is a book; and of one, whether the article is there, and where its rows and the roundings stand.
-pub struct Surveyed {
-    pub ok: bool,
-    pub found: bool,
+// Whether the article has a record, and where its rows of the sort and the roundings stand.
+pub struct Found {
+    pub article: bool,
     pub window: Window,
 }
 
-// Behind the header, and still empty.
-const START: Window = Window {
-    first: 5,
-    last: 5,
-    from: 5,
-    to: 5,
-};
+impl Found {
+    // The window is behind the header, and still empty.
+    pub const NOTHING: Found = Found {
+        article: false,
+        window: Window {
+            first: 5,
+            last: 5,
+            from: 5,
+            to: 5,
+        },
+    };
+}
+
+// Whether it is a book, and what is found in one.
+pub struct Surveyed {
+    pub ok: bool,
+    pub found: Found,
+}
 
 const NO_BOOK: Surveyed = Surveyed {
     ok: false,
-    found: false,
-    window: START,
+    found: Found::NOTHING,
 };
 
-// Whether t is a row of the asked article and sort.
-fn is_own_row(t: &[u8], q: &[u8], ask: Ask) -> bool
+// What is found once the record t, which stands from `at` to `end`, has gone by too.
+fn noted(found: Found, t: &[u8], at: usize, end: usize, article: &[u8], sort: u8) -> Found
     requires { ⌜ Accepted (now t) ⌝ }
-    requires { ⌜ Asking (now q) ask ⌝ }
-    ensures { λ r. ⌜ Says (ownRow (askIn (now (q .entry)) ask) (whole kinded (now (t .entry)))) r ⌝ }
+    ensures { λ r. ⌜ FoundAfter found (now (article .entry)) sort (whole kinded (now (t .entry))) at end r ⌝ }
 {
-    let article = ask.article;
-    let from = article.at;
-    let to = from + article.size;
-    if is_row_of(t, &q[from..to]) {
-        let row = row_of(t);
-        return row.sort == ask.sort;
+    let own = is_row(t, article, sort);
+    let rounding = is_rounding(t);
+    let window = window_after(found.window, own, rounding, at, end);
+    Found {
+        article: found.article | is_article(t, article),
+        window,
     }
-    false
+}
+
+// In a book that was accepted before.
+pub fn find(b: &[u8], article: &[u8], sort: u8) -> Found
+    requires { ⌜ isSome (records (now b)) ≡ true ⌝ }
+    ensures { λ r. ⌜ FoundIs (now (b .entry)) (now (article .entry)) sort r ⌝ }
+{
+    let mut found = Found::NOTHING;
+    let mut at = 5;
+    while at < b.len() {
+        let end = record_stop(b, at);
+        let start = at + 2;
+        found = noted(found, &b[start..end], at, end, article, sort);
+        at = end;
+    }
+    found
 }
 
 // Each record is tested and looked at once. What was found counts only if all are records.
-pub fn survey(b: &[u8], q: &[u8], ask: Ask) -> Surveyed
-    requires { ⌜ Asking (now q) ask ⌝ }
-    ensures { λ r. ⌜ SurveyIs (now (b .entry)) (askIn (now (q .entry)) ask) r ⌝ }
+pub fn survey(b: &[u8], article: &[u8], sort: u8) -> Surveyed
+    ensures { λ r. ⌜ SurveyIs (now (b .entry)) (now (article .entry)) sort r ⌝ }
 {
     if !header_ok(b) {
         return NO_BOOK;
     }
-    let mut found = false;
-    let mut window = START;
+    let mut found = Found::NOTHING;
     let mut at = 5;
     while at < b.len() {
         let end = record_end(b, at);
@@ -71,15 +94,8 @@ pub fn survey(b: &[u8], q: &[u8], ask: Ask) -> Surveyed
             return NO_BOOK;
         }
         let start = at + 2;
-        let t = &b[start..end];
-        found = found | is_asked_article(t, q, ask);
-        let own = is_own_row(t, q, ask);
-        window = noted(window, own, is_rounding_record(t), at, end);
+        found = noted(found, &b[start..end], at, end, article, sort);
         at = end;
     }
-    Surveyed {
-        ok: true,
-        found,
-        window,
-    }
+    Surveyed { ok: true, found }
 }

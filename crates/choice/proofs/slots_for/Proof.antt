@@ -2,7 +2,8 @@
 use Prim.Native.Nat.{_-_}
 use lib.ListN.{length}
 use borrow.Author.Needs.{needs}
-use Rattle.choice.proofs.WalkLaws.{Walking, accepted, walk-start, walk-here, walk-turn, walk-end}
+use Rattle.records.proofs.TestLaws.{accepted}
+use Rattle.choice.proofs.WalkLaws.{Walking, walk-start, walk-here, walk-turn, walk-end}
 use Rattle.choice.proofs.slots_for.Statement.{statement}
 use Rattle.choice.proofs.slots_for.Tie as tie
 

@@ -1,7 +1,6 @@
 -- `survey::survey` meets its contract: what was found of the records gone by, by the laws `survey-..`.
 use Prim.Native.Nat.{_-_}
 use lib.ListN.{length}
-use Rattle.question.specs.Asked.{askIn}
 use borrow.Author.Needs.{needs}
 use Rattle.survey.proofs.SurveyLaws.{Surveying, survey-header, survey-start, survey-here, survey-bad, survey-low, survey-less, survey-accepted, survey-turn, survey-end}
 use Rattle.survey.proofs.survey.Statement.{statement}
@@ -10,10 +9,10 @@ use Rattle.survey.proofs.survey.Tie as tie
 ruleset laws = (needs, survey-header, survey-start, survey-here, survey-bad, survey-low, survey-less, survey-accepted, survey-turn, survey-end)
 
 abbrev Inv-loop : tie.InvT-loop
-Inv-loop b q ask found₀ window₀ at₀ found window at = Surveying b (askIn q ask) found window at
+Inv-loop b article sort found₀ at₀ found at = Surveying b article sort found at
 
 abbrev μ-loop : tie.MeasureT-loop
-μ-loop b q ask found₀ window₀ at₀ found window at = length b - at
+μ-loop b article sort found₀ at₀ found at = length b - at
 
 pub survey-spec : {M : Type 1} → statement M
 survey-spec =
@@ -27,12 +26,9 @@ survey-spec =
     (λ c κs. search laws)  -- record-end-requires
     (λ c. search laws)  -- returns-2
     (λ c. search laws)  -- add-start
-    (λ c. search laws)  -- sub-t
-    (λ c. search laws)  -- part-t-start
-    (λ c. search laws)  -- part-t-end
-    (λ c κs. search laws)  -- is-asked-article-requires
-    (λ c κs. search laws)  -- is-own-row-requires
-    (λ c κs. search laws)  -- is-rounding-record-requires
+    (λ c. search laws)  -- sub-noted
+    (λ c. search laws)  -- part-noted-start
+    (λ c. search laws)  -- part-noted-end
     (λ c κs. search laws)  -- noted-requires
     (λ c. search laws)  -- loop-less
     (λ c. search laws)  -- loop-again

@@ -1,10 +1,10 @@
 -- `calendar::listing::listing_within` meets its contract: refusals 9 and 3, or the stretches, by the laws `within-..`.
 use borrow.Author.Needs.{needs}
-use Rattle.calendar.proofs.ListingLaws.{within-9, within-3, within-done, surveyed-window, days-size, days-there, days-dates}
+use Rattle.calendar.proofs.ListingLaws.{within-9, within-3, within-done, found-window, days-size, days-there, days-dates}
 use Rattle.calendar.proofs.listing.listing_within.Statement.{statement}
 use Rattle.calendar.proofs.listing.listing_within.Tie as tie
 
-ruleset laws = (needs, within-9, within-3, within-done, surveyed-window, days-size, days-there, days-dates)
+ruleset laws = (needs, within-9, within-3, within-done, found-window, days-size, days-there, days-dates)
 
 pub listing-within-spec : {M : Type 1} → statement M
 listing-within-spec =

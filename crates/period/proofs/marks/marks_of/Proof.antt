@@ -3,7 +3,7 @@ use Prim.Native.Nat.{_-_}
 use lib.ListN.{length}
 use borrow.Author.Needs.{needs}
 use Rattle.question.specs.Asked.{askIn}
-use Rattle.choice.proofs.WalkLaws.{accepted}
+use Rattle.records.proofs.TestLaws.{accepted}
 use Rattle.period.specs.Marks.{Marking}
 use Rattle.period.proofs.MarkLaws.{mark-start, mark-here, mark-dates, mark-less, mark-turn, mark-end}
 use Rattle.period.proofs.marks.marks_of.Statement.{statement}

@@ -1,8 +1,8 @@
--- `choice::span::widened` meets its contract: by the laws `span-..`.
+-- `survey::window::widened` meets its contract: by the laws `span-..`.
 use borrow.Author.Needs.{needs}
-use Rattle.choice.proofs.SpanLaws.{span-kept, span-first, span-wider}
-use Rattle.choice.proofs.span.widened.Statement.{statement}
-use Rattle.choice.proofs.span.widened.Tie as tie
+use Rattle.survey.proofs.WindowLaws.{span-kept, span-first, span-wider}
+use Rattle.survey.proofs.window.widened.Statement.{statement}
+use Rattle.survey.proofs.window.widened.Tie as tie
 
 ruleset laws = (needs, span-kept, span-first, span-wider)
 

@@ -1,17 +1,15 @@
--- Where in the book the records stand that a question asks for: a later walk, and a lookup, may keep to these stretches.
+-- Where in the book the rows of an article and sort stand, and where the roundings: a later walk, and a lookup, may keep to these stretches.
 use Prim.Native.Nat.{ℕ, _≤_}
 use mathlib.Core.Path.{_≡_}
-use mathlib.Core.Bool.{Bool, _&&_, cond}
+use mathlib.Core.Bool.{Bool, cond}
 use mathlib.Core.List.{List}
 use lib.Dec.{eqb}
 use lib.ListN.{length, take}
-use Rattle.rules.specs.Lists.{same, keep}
-use Rattle.rules.specs.Book.{Row, Record, rows, roundings}
-use Rattle.rules.specs.Question.{Question}
+use Rattle.rules.specs.Book.{rowsOf, roundings}
 use Rattle.book.specs.Records.{recordsLeft}
 use Rattle.book.specs.Ensures.{Between}
-use Rattle.choice.specs.declared.span.Span.{Span}
-use Rattle.choice.specs.declared.span.Window.{Window}
+use Rattle.survey.specs.declared.window.Span.{Span}
+use Rattle.survey.specs.declared.window.Window.{Window}
 
 unfoldable pub spanAfter : Span → Bool → ℕ → ℕ → Span
 spanAfter s counts at end = cond counts (record { first = cond (eqb (s .first) (s .last)) at (s .first); last = end }) s
@@ -27,20 +25,16 @@ rowSpan w = record { first = w .first; last = w .last }
 abbrev pub roundingSpan : Window → Span
 roundingSpan w = record { first = w .from; last = w .to }
 
--- `r` is the window once a record has gone by that is a row of the asked article and sort, or a rounding, or neither
+-- `r` is the window once a record has gone by that is a row of the article and sort, or a rounding, or neither
 pub record WindowAfter (w : Window) (own rounding : Bool) (at end : ℕ) (r : Window) : Type 0 where
   pub rows : SpanAfter (rowSpan w) own at end (rowSpan r)
   pub roundings : SpanAfter (roundingSpan w) rounding at end (roundingSpan r)
 
--- the rows of the asked article and sort
-unfoldable pub ownRows : Question → List Record → List Row
-ownRows q rs = keep (λ r. same (r .article) (q .article) && eqb (r .sort) (q .sort)) (rows rs)
-
--- of the records of b from `start` on: those from `first` to `last` have all of these rows, and those from `from` to `to` all roundings
-pub record Windows (b : List ℕ) (start : ℕ) (q : Question) (w : Window) : Type 0 where
+-- of the records of b from `start` on: those from `first` to `last` have all rows of the article and sort, and those from `from` to `to` all roundings
+pub record Windows (b : List ℕ) (start : ℕ) (article : List ℕ) (sort : ℕ) (w : Window) : Type 0 where
   pub fits : w .last ≤ length b
   pub between : Between (take (w .last) b) (w .first)
-  pub same : ownRows q (recordsLeft (take (w .last) b) (w .first)) ≡ ownRows q (recordsLeft b start)
+  pub same : rowsOf article sort (recordsLeft (take (w .last) b) (w .first)) ≡ rowsOf article sort (recordsLeft b start)
   pub rounding-fits : w .to ≤ length b
   pub rounding-between : Between (take (w .to) b) (w .from)
   pub rounding-same : roundings (recordsLeft (take (w .to) b) (w .from)) ≡ roundings (recordsLeft b start)

@@ -9,23 +9,20 @@ use lib.Dec.{eqb}
 use lib.ListN.{length, take, drop}
 use lib.Seq.{length-take-le, take-take}
 use borrow.Author.Tests.{eq-eqb, ne-eqb, eqb-true}
-use Rattle.rules.specs.Lists.{same, isSome, keep, consSome}
+use Rattle.rules.specs.Lists.{same, isSome, keep, consIf, consSome, ifSome}
 use Rattle.rules.specs.Layout.{whole}
 use Rattle.rules.specs.Bytes.{big}
-use Rattle.rules.specs.Book.{Record, ArticleRecord, PriceRecord, RoundingRecord, PackagingRecord, SchemeRecord, rows, roundings}
+use Rattle.rules.specs.Book.{Row, Record, asRow, asRounding, rows, rowsOf, roundings}
 use Rattle.rules.specs.BookLayout.{kinded}
-use Rattle.rules.specs.Question.{Question, on}
-use Rattle.rules.proofs.ListLaws.{keep-append}
+use Rattle.rules.proofs.ListLaws.{keep-append, gather-append, absent}
 use Rattle.layout.specs.Reads.{part}
-use Rattle.layout.specs.Ensures.{Says}
 use Rattle.book.specs.Records.{recordIn, recordsFrom, listed, recordsLeft}
 use Rattle.book.specs.Ensures.{Between, RecordEnd, StopIs}
 use Rattle.book.proofs.BookLaws.{inFront, record-good, from-end, from-record}
-use Rattle.choice.specs.declared.span.Span.{Span}
-use Rattle.choice.specs.declared.span.Window.{Window}
-use Rattle.choice.specs.Walk.{isRounding}
-use Rattle.choice.specs.Span.{spanAfter, SpanAfter, rowSpan, roundingSpan, WindowAfter, ownRows, Windows}
-use Rattle.choice.proofs.SlotLaws.{gather-append}
+use Rattle.records.specs.Tests.{isRow, isRounding}
+use Rattle.survey.specs.declared.window.Span.{Span}
+use Rattle.survey.specs.declared.window.Window.{Window}
+use Rattle.survey.specs.Window.{spanAfter, SpanAfter, rowSpan, roundingSpan, WindowAfter, Windows}
 
 -- ---- what the function computes
 
@@ -100,20 +97,26 @@ pub record Gathers {A : Type 0} (f : List Record → List A) : Type 0 where
   pub empty : f [] ≡ []
   pub append : (xs ys : List Record) → f (xs ++ ys) ≡ f xs ++ f ys
 
-pub rows-gather : (q : Question) → Gathers (ownRows q)
-unfolding ownRows
-rows-gather q = record { empty = refl; append = λ xs ys. ap (keep _) (gather-append _ xs ys) ∙ keep-append _ (rows xs) (rows ys) }
+pub rows-gather : (article : List ℕ) (sort : ℕ) → Gathers (rowsOf article sort)
+unfolding rowsOf
+rows-gather article sort = record { empty = refl; append = λ xs ys. ap (keep _) (gather-append _ xs ys) ∙ keep-append _ (rows xs) (rows ys) }
 
 pub roundings-gather : Gathers roundings
 roundings-gather = record { empty = refl; append = λ xs ys. gather-append _ xs ys }
 
-pub roundings-outside : {o : Option Record} {b : Bool} → Says (isRounding o) b → b ≡ false → (r : Record) → o ≡ some r → roundings (r ∷ []) ≡ []
+-- a record that is no row of the article and sort brings none, and one that is no rounding no rounding
+pub rows-outside : (article : List ℕ) (sort : ℕ) (o : Option Record) → isRow article sort o ≡ false → (r : Record) → o ≡ some r → rowsOf article sort (r ∷ []) ≡ []
+unfolding isRow rowsOf
+rows-outside article sort o f r e = go (asRow r) (sym (ap (isRow article sort) e) ∙ f)
+  where
+    go : (x : Option Row) → ifSome x false (λ p. same (p .article) article && eqb (p .sort) sort) ≡ false
+        → keep (λ p. same (p .article) article && eqb (p .sort) sort) (consSome x []) ≡ []
+    go none g = refl
+    go (some p) g = ap (λ b. consIf b p []) g
+
+pub roundings-outside : (o : Option Record) → isRounding o ≡ false → (r : Record) → o ≡ some r → roundings (r ∷ []) ≡ []
 unfolding isRounding
-roundings-outside s f (ArticleRecord a) e = refl
-roundings-outside s f (PriceRecord a) e = refl
-roundings-outside s f (RoundingRecord r) e = absurd (false≢true (sym (s .is ∙ f) ∙ ap isRounding e))
-roundings-outside s f (PackagingRecord r) e = refl
-roundings-outside s f (SchemeRecord r) e = refl
+roundings-outside o f r e = ap (λ x. consSome x []) (absent (asRounding r) (sym (ap isRounding e) ∙ f))
 
 -- ---- the loop
 
@@ -232,7 +235,7 @@ pub window-noted : {w : Window} {own rounding : Bool} {at end : ℕ} {a b : Span
     → WindowAfter w own rounding at end (record { first = a .first; last = a .last; from = b .first; to = b .last })
 window-noted a b = record { rows = a; roundings = b }
 
-pub windows : {b : List ℕ} {start : ℕ} {q : Question} {w : Window} → Spans (ownRows q) b start (rowSpan w) → Spans roundings b start (roundingSpan w) → Windows b start q w
+pub windows : {b : List ℕ} {start : ℕ} {article : List ℕ} {sort : ℕ} {w : Window} → Spans (rowsOf article sort) b start (rowSpan w) → Spans roundings b start (roundingSpan w) → Windows b start article sort w
 windows a b = record {
   fits = a .fits;
   between = a .between;
@@ -240,16 +243,4 @@ windows a b = record {
   rounding-fits = b .fits;
   rounding-between = b .between;
   rounding-same = b .same;
-}
-
--- the day plays no part in it
-pub window-on : {b : List ℕ} {start : ℕ} {q : Question} {w : Window} → Windows b start q w → (d : ℕ) → Windows b start (on q d) w
-unfolding ownRows on
-window-on w d = record {
-  fits = w .fits;
-  between = w .between;
-  same = w .same;
-  rounding-fits = w .rounding-fits;
-  rounding-between = w .rounding-between;
-  rounding-same = w .rounding-same;
 }

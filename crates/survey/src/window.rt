@@ -1,7 +1,7 @@
-// Where in the book the records stand that a question asks for: later walks and lookups may keep to these stretches.
-ghost use Rattle.choice.specs.Span.{SpanAfter, WindowAfter};
+// Where in the book the rows of an article and sort stand, and where the roundings: later walks and lookups may keep to these stretches.
+ghost use Rattle.survey.specs.Window.{SpanAfter, WindowAfter};
 
-// All rows of the asked article and sort stand from `first` to `last`, all roundings from `from` to `to`.
+// All rows of the article and sort stand from `first` to `last`, all roundings from `from` to `to`.
 pub struct Window {
     pub first: usize,
     pub last: usize,
@@ -9,7 +9,7 @@ pub struct Window {
     pub to: usize,
 }
 
-// From the place of the first record that counts to the end of the last; while there is none, both are the same.
+// From the first record that counts to the end of the last; while there is none, both are the same.
 struct Span {
     first: usize,
     last: usize,
@@ -34,8 +34,8 @@ fn widened(span: Span, counts: bool, at: usize, end: usize) -> Span
     span
 }
 
-// The window once a record has gone by: it may be a row of the asked article and sort, or a rounding.
-pub fn noted(window: Window, own: bool, rounding: bool, at: usize, end: usize) -> Window
+// The window once a record has gone by: it may be a row of the article and sort, or a rounding.
+pub fn window_after(window: Window, own: bool, rounding: bool, at: usize, end: usize) -> Window
     ensures { λ r. ⌜ WindowAfter window own rounding at end r ⌝ }
 {
     let rows = Span {

@@ -1,0 +1,68 @@
+-- A walk over the window of an article and sort leaves in the slots what a walk over the book leaves.
+use Prim.Native.Nat.{ℕ, _+_, _-_, _*_, _≤_}
+use mathlib.Core.Path.{_≡_, refl, sym, _∙_, ap, subst}
+use mathlib.Core.Bool.{Bool, true, false, _&&_}
+use mathlib.Core.List.{List}
+use mathlib.Core.Option.{Option}
+use native.Mathlib.Omega.{arith}
+use lib.Dec.{eqb}
+use lib.ListN.{length, take, getD}
+use lib.Seq.{length-take-le}
+use Rattle.rules.specs.Lists.{same, keep}
+use Rattle.rules.specs.Layout.{whole}
+use Rattle.rules.specs.Book.{Row, Record, rows, rowsOf}
+use Rattle.rules.specs.BookLayout.{kinded}
+use Rattle.rules.specs.Question.{Question}
+use Rattle.rules.proofs.ChoiceLaws as Choice
+use Rattle.rules.proofs.ListLaws.{keep-keep}
+use Rattle.book.specs.Records.{recordsLeft}
+use Rattle.choice.specs.declared.hands.Hand.{Hand}
+use Rattle.choice.specs.declared.hands.Seen.{Seen}
+use Rattle.grants.specs.Places as Grants
+use Rattle.choice.specs.Slots.{levelOf, inSlot}
+use Rattle.choice.specs.Hands.{RowThere, HandIs, NoRow, OneRow, SeenIs}
+use Rattle.choice.specs.Walk.{unseen, seenOf, SlotsHold}
+use Rattle.survey.specs.declared.window.Window.{Window}
+use Rattle.survey.specs.Window.{Windows}
+use Rattle.survey.proofs.WindowLaws.{front}
+
+-- ---- the front of a book
+
+module _ {w : List ℕ} {n : ℕ} (fits : n ≤ length w) where
+  there-whole : {at end : ℕ} {r : Row} → RowThere (take n w) at end r → RowThere w at end r
+  there-whole {at} {end} p =
+      let k : end ≤ n = omega (arith, p .fits, length-take-le n w fits) in
+      record { low = p .low; order = p .order; fits = omega arith; is = sym (ap (whole kinded) (front (end - at) at n w (omega (arith, p .order)))) ∙ p .is }
+
+  hand-whole : {h : Hand} {o : Option Row} → HandIs (take n w) h o → HandIs w h o
+  hand-whole (NoRow z) = NoRow z
+  hand-whole (OneRow r x) = OneRow r (record { there = there-whole (x .there); upto = x .upto; from = x .from; rounding = x .rounding })
+
+  seen-whole : {s : Seen} {state : Choice.Seen} → SeenIs (take n w) s state → SeenIs w s state
+  seen-whole p = record { met = p .met; asked = hand-whole (p .asked); other = hand-whole (p .other) }
+
+-- ---- the rows of the window
+
+-- those of a slot are of the asked article and sort
+slot-own : (q : Question) (level place : ℕ) (rs : List Record) → keep (inSlot q level place) (rowsOf (q .article) (q .sort) rs) ≡ keep (inSlot q level place) (rows rs)
+unfolding rowsOf inSlot
+slot-own q level place rs =
+    keep-keep (inSlot q level place) _ (rows rs)
+    ∙ (λ i. keep (λ r. twice (same (r .article) (q .article)) (eqb (r .sort) (q .sort)) (eqb (levelOf (r .level)) level && eqb (Grants.placeOf (q .granted) (r .condition)) place) i) (rows rs))
+  where
+    twice : (a b c : Bool) → ((a && b) && (a && (b && c))) ≡ (a && (b && c))
+    twice true true c = refl
+    twice true false c = refl
+    twice false b c = refl
+
+pub walk-within : {w : List ℕ} {from : ℕ} {q : Question} {window : Window} {slots : List Seen} → Windows w from (q .article) (q .sort) window
+    → SlotsHold (take (window .last) w) (rows (recordsLeft (take (window .last) w) (window .first))) q slots → SlotsHold w (rows (recordsLeft w from)) q slots
+unfolding seenOf
+walk-within {w} {from} {q} {window} {slots} a b = record {
+  long = b .long;
+  each = λ level place l m.
+      subst (SeenIs w (getD slots (level * 33 + place) unseen))
+      (ap (Choice.walk (q .date) (q .quantity) (q .currency) Choice.start)
+      (sym (slot-own q level place (recordsLeft (take (window .last) w) (window .first))) ∙ ap (keep (inSlot q level place)) (a .same) ∙ slot-own q level place (recordsLeft w from)))
+      (seen-whole (a .fits) (b .each level place l m));
+}
