@@ -1,17 +1,17 @@
 -- What is listed: the marks make only days of change due, and each refusal stands in its order.
-use Prim.Native.Nat.{ℕ, _+_, _<_}
+use Prim.Native.Nat.{ℕ, _+_, _-_, _<_}
 use mathlib.Core.Path.{_≡_, refl, sym, _∙_, ap, subst}
 use mathlib.Core.Bool.{Bool, true, false, false≢true}
 use mathlib.Core.List.{List}
 use mathlib.Core.Option.{Option, some, none}
 use native.Mathlib.Omega.{arith}
 use lib.Dec.{eqb}
-use lib.ListN.{length, take, getD, replicate, length-replicate}
+use lib.ListN.{length, take, drop, getD, replicate, length-replicate}
 use lib.Seq.{length-take-le}
 use borrow.Author.Tests.{ne-eqb}
 use Rattle.rules.specs.Lists.{any, isSome}
 use Rattle.rules.specs.Days.{isDay, next}
-use Rattle.rules.specs.Book.{Record, Article, articleOf, rowsOf}
+use Rattle.rules.specs.Book.{Article, articleOf}
 use Rattle.rules.specs.Question.{Question}
 use Rattle.rules.specs.Refusals.{Result, done, refused, _>>=_, orRefuse}
 use Rattle.rules.specs.Calendar.{Stretch, stretches, outcome, periodTo}
@@ -19,6 +19,7 @@ use Rattle.rules.specs.Changes.{isChange}
 use Rattle.rules.proofs.AlikeLaws.{same-changes}
 use Rattle.rules.proofs.StaysLaws.{stays-next}
 use Rattle.rules.proofs.CalendarLaws.{period-days, period-end, period-count}
+use Rattle.layout.proofs.LayoutLaws.{part-is}
 use Rattle.layout.proofs.StoreLaws.{all-same}
 use Rattle.book.specs.Records.{recordsLeft}
 use Rattle.book.specs.Ensures.{Between}
@@ -26,9 +27,9 @@ use Rattle.question.specs.declared.Ask.{Ask}
 use Rattle.question.specs.Asked.{askIn, AskIs}
 use Rattle.period.specs.declared.Period.{Period}
 use Rattle.period.specs.Contracts.{PeriodIs}
-use Rattle.period.specs.Places.{Dates}
+use Rattle.period.specs.Positions.{Dates}
 use Rattle.period.specs.Marks.{MarksAre}
-use Rattle.period.proofs.PlaceLaws.{period-dates}
+use Rattle.period.proofs.PositionLaws.{period-dates}
 use Rattle.stretches.specs.declared.runs.Runs.{Runs}
 use Rattle.calendar.specs.declared.listing.Listing.{Listing}
 use Rattle.survey.specs.declared.Found.{Found}
@@ -50,26 +51,39 @@ module _ {b article : List ℕ} {sort : ℕ} {w : Window} (h : Windows b 5 artic
   pub window-between : Between (take (w .last) b) (w .first)
   window-between = h .between
 
--- the days of change are those of the rows of the article and sort
-change-own : (rs ss : List Record) (q : Question) (d : ℕ) → rowsOf (q .article) (q .sort) rs ≡ rowsOf (q .article) (q .sort) ss → isChange rs q d ≡ isChange ss q d
-unfolding isChange
-change-own rs ss q d e = ap (any (eqb d)) (same-changes rs ss q e)
+  -- the days of change are those of the rows of the article and sort
+  change-own : (d : ℕ) → isChange (recordsLeft (take (w .last) b) (w .first)) article sort d ≡ isChange (recordsLeft b 5) article sort d
+  unfolding isChange
+  change-own d = ap (any (eqb d)) (same-changes (recordsLeft (take (w .last) b) (w .first)) (recordsLeft b 5) article sort (h .same))
 
-module _ {b : List ℕ} {q : Question} {w : Window} (h : Windows b 5 (q .article) (q .sort) w) where
-  pub marked : {dates : List ℕ} {marks : List Bool} → Dates dates → 0 < length dates → MarksAre (take (w .last) b) (w .first) q dates marks → Marked (outcome (recordsLeft b 5) q) dates marks
-  marked {dates} {marks} d l m = record {
+module _ {b : List ℕ} (s : List ℕ) (ask : Ask) {w : Window} (h : Windows b 5 (askIn s ask .article) (ask .sort) w) where
+  -- the article is cut out of the question
+  pub marked : {dates : List ℕ} {marks : List Bool} → Dates dates → 0 < length dates
+      → MarksAre (take (w .last) b) (w .first) (take (ask .article .at + ask .article .size - ask .article .at) (drop (ask .article .at) s)) (ask .sort)
+      dates marks
+      → Marked (outcome (recordsLeft b 5) (askIn s ask)) dates marks
+  marked {dates} {marks} d l cut = record {
     some-day = l;
     few = d .few;
     stays = λ i k e.
         let n : getD dates (i + 1) 0 ≡ next (getD dates i 0) = d .follow i k in
-        let quiet : isChange (recordsLeft b 5) q (next (getD dates i 0)) ≡ false =
-        ap (isChange (recordsLeft b 5) q) (sym n)
-        ∙ sym (change-own (recordsLeft (take (w .last) b) (w .first)) (recordsLeft b 5) q (getD dates (i + 1) 0) (h .same))
+        let quiet : isChange (recordsLeft b 5) (q .article) (q .sort) (next (getD dates i 0)) ≡ false =
+        ap (isChange (recordsLeft b 5) (q .article) (q .sort)) (sym n)
+        ∙ sym (change-own h (getD dates (i + 1) 0))
         ∙ sym (m .is (i + 1) k)
         ∙ e in
-        stays-next (recordsLeft b 5) q (getD dates i 0) (d .each-day i (omega arith)) (subst (λ (x : ℕ). isDay x ≡ true) n (d .each-day (i + 1) k)) quiet
+        stays-next (recordsLeft b 5) q (getD dates i 0) (d .each-day i (omega arith)) (subst (λ (x : ℕ). isDay x ≡ true) n (d .each-day (i + 1) k))
+        quiet
         ∙ ap (outcome (recordsLeft b 5) q) (sym n);
   }
+    where
+      q : Question
+      q = askIn s ask
+
+      m : MarksAre (take (w .last) b) (w .first) (q .article) (ask .sort) dates marks
+      m =
+          subst (λ (number : List ℕ). MarksAre (take (w .last) b) (w .first) number (ask .sort) dates marks)
+          (part-is s (ask .article .at) (ask .article .size)) cut
 
 -- ---- refusals
 

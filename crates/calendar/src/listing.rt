@@ -19,7 +19,7 @@ ghost use Rattle.question.specs.Asked.{askIn};
 ghost use Rattle.choice.specs.Walk.{Asking};
 ghost use Rattle.survey.specs.Window.{Windows};
 ghost use Rattle.survey.specs.Survey.{FoundIs};
-ghost use Rattle.period.specs.Places.{Dates};
+ghost use Rattle.period.specs.Positions.{Dates};
 ghost use Rattle.stretches.specs.Runs.{RunsAre};
 ghost use Rattle.calendar.specs.Listing.{listing, within, Refused, ListingIs};
 
@@ -49,7 +49,10 @@ fn runs_in(book: &[u8], question: &[u8], ask: Ask, window: Window, dates: &[u32]
     ensures { λ r. ⌜ RunsAre (stretches (outcome (recordsLeft (now (book .entry)) 5) (askIn (now (question .entry)) ask)) (now (dates .entry))) r ⌝ }
 {
     let last = window.last;
-    let marks = marks_of(&book[..last], window.first, question, ask, dates);
+    let article = ask.article;
+    let from = article.at;
+    let to = from + article.size;
+    let marks = marks_of(&book[..last], window.first, &question[from..to], ask.sort, dates);
     runs_of(book, window, question, ask, dates, marks)
 }
 

@@ -1,3 +1,3 @@
 pub mod PeriodLaws
-pub mod PlaceLaws
+pub mod PositionLaws
 pub mod MarkLaws

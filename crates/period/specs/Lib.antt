@@ -1,3 +1,3 @@
 pub mod Contracts
-pub mod Places
+pub mod Positions
 pub mod Marks

@@ -1,6 +1,6 @@
 // The days of a period, one behind the other, and those of them on which the price of an article can change.
 pub mod marks;
-mod places;
+mod positions;
 
 use days::Day;
 ghost use mathlib.Core.Path.{_≡_};

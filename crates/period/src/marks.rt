@@ -1,17 +1,14 @@
 // The days of a period on which the price of an article can change, marked in one walk over its rows.
-use crate::places::place_in;
+use crate::positions::position_in;
 use book::record_stop;
 use days::Day;
-use question::Ask;
-use records::is_row_of;
+use records::is_row;
 use records::row_of;
 ghost use Rattle.rules.specs.Layout.{whole};
 ghost use Rattle.rules.specs.BookLayout.{kinded};
 ghost use Rattle.book.specs.Ensures.{Between};
-ghost use Rattle.question.specs.Asked.{askIn};
 ghost use Rattle.records.specs.Asks.{Accepted};
-ghost use Rattle.choice.specs.Walk.{Asking};
-ghost use Rattle.period.specs.Places.{Dates};
+ghost use Rattle.period.specs.Positions.{Dates};
 ghost use Rattle.period.specs.Marks.{DatesChange, RecordChanges, MarksAre};
 
 // The day on which a row begins to hold, and the first on which it no longer does. 0, which is no day, for none.
@@ -22,11 +19,11 @@ pub struct Change {
 
 const NONE: Change = Change { begins: 0, over: 0 };
 
-// A row of these dates, if it counts.
-fn change_by(counts: bool, from: u32, to: u32) -> Change
-    ensures { λ r. ⌜ DatesChange counts from to r ⌝ }
+// A row of these dates.
+fn change_by(from: u32, to: u32) -> Change
+    ensures { λ r. ⌜ DatesChange from to r ⌝ }
 {
-    if counts & Day::is_day(from) & Day::is_day(to) {
+    if Day::is_day(from) & Day::is_day(to) {
         Change {
             begins: from,
             over: Day(to).next().0,
@@ -36,18 +33,14 @@ fn change_by(counts: bool, from: u32, to: u32) -> Change
     }
 }
 
-// What the record t changes: nothing, unless it is a row of the asked article and sort.
-fn change_of(t: &[u8], q: &[u8], ask: Ask) -> Change
+// What the record t changes: nothing, unless it is a row of the article and sort.
+fn change_of(t: &[u8], article: &[u8], sort: u8) -> Change
     requires { ⌜ Accepted (now t) ⌝ }
-    requires { ⌜ Asking (now q) ask ⌝ }
-    ensures { λ r. ⌜ RecordChanges (askIn (now (q .entry)) ask) (whole kinded (now (t .entry))) r ⌝ }
+    ensures { λ r. ⌜ RecordChanges (now (article .entry)) sort (whole kinded (now (t .entry))) r ⌝ }
 {
-    let article = ask.article;
-    let from = article.at;
-    let to = from + article.size;
-    if is_row_of(t, &q[from..to]) {
+    if is_row(t, article, sort) {
         let row = row_of(t);
-        change_by(row.sort == ask.sort, row.from, row.to)
+        change_by(row.from, row.to)
     } else {
         NONE
     }
@@ -55,21 +48,20 @@ fn change_of(t: &[u8], q: &[u8], ask: Ask) -> Change
 
 // A mark for each of the dates, in their order. The last one is nobody's: changes that are on none of the dates go there, and in the end
 // it is taken away.
-pub fn marks_of(w: &[u8], from: usize, q: &[u8], ask: Ask, dates: &[u32]) -> [bool; 1097]
+pub fn marks_of(w: &[u8], from: usize, article: &[u8], sort: u8, dates: &[u32]) -> [bool; 1097]
     requires { ⌜ Between (now w) from ⌝ }
-    requires { ⌜ Asking (now q) ask ⌝ }
     requires { ⌜ Dates (now dates) ⌝ }
-    ensures { λ r. ⌜ MarksAre (now (w .entry)) from (askIn (now (q .entry)) ask) (now (dates .entry)) r ⌝ }
+    ensures { λ r. ⌜ MarksAre (now (w .entry)) from (now (article .entry)) sort (now (dates .entry)) r ⌝ }
 {
     let mut marks = [false; 1097];
     let mut at = from;
     while at < w.len() {
         let end = record_stop(w, at);
         let body = at + 2;
-        let change = change_of(&w[body..end], q, ask);
-        let first = place_in(dates, change.begins);
+        let change = change_of(&w[body..end], article, sort);
+        let first = position_in(dates, change.begins);
         marks[first] = true;
-        let second = place_in(dates, change.over);
+        let second = position_in(dates, change.over);
         marks[second] = true;
         at = end;
     }

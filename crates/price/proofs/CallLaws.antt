@@ -124,13 +124,15 @@ module _ (b s lent : List ℕ) {w : Entered} (told : EnteredIs b s w) (t : w .nu
       refuses b s lent (priced-call b s lent told t f ∙ rw (e .is))
 
   module _ (z : v .number ≡ 0) where
-    at-price : price b s (length lent) ≡ roomFor (length lent) (answerOf (askIn s (w .ask)) (record { lines = linesOf (recordsLeft b 5) (askIn s (w .ask)); currency = letters (v .currency) }))
+    at-price : price b s (length lent)
+        ≡ roomFor (length lent) (answerOf (askIn s (w .ask)) (record { lines = linesOf (recordsLeft b 5) (askIn s (w .ask)); currency = letters (v .currency) }))
     at-price = let e = j .answered z (recordsLeft b 5) (askIn s (w .ask)) (stand picked) in priced-call b s lent told t f ∙ rw (e .is)
 
     pub no-room : length lent < 14 * n → {r : PriceAnswer} → r ≡ shown (refused 7) → PriceIs b s lent r lent
     unfolding answerOf
     no-room h =
-        let e : leb (length (linesBytes (linesOf (recordsLeft b 5) (askIn s (w .ask))))) (length lent) ≡ false = rw (size picked) (lt-leb (14 * n) (length lent) h) in
+        let e : leb (length (linesBytes (linesOf (recordsLeft b 5) (askIn s (w .ask))))) (length lent) ≡ false =
+        rw (size picked) (lt-leb (14 * n) (length lent) h) in
         refuses b s lent (at-price ∙ rw e)
 
     -- with room, the lines go to the front, and what is read is the definition's

@@ -94,9 +94,9 @@ module _ (a b : List Record) where
       at s = at-own a q s ∙ (ap (keep (λ r. eqb (r .level) (s .level) && same (r .condition) (s .condition))) e ∙ sym (at-own b q s))
 
   -- and their days of change are the same
-  pub same-changes : (q : Question) → rowsOf (q .article) (q .sort) a ≡ rowsOf (q .article) (q .sort) b → changes a q ≡ changes b q
+  pub same-changes : (article : List ℕ) (sort : ℕ) → rowsOf article sort a ≡ rowsOf article sort b → changes a article sort ≡ changes b article sort
   unfolding changes movingRows rowsOf
-  same-changes q e = ap (λ (rs : List Row). daysOfChange (keep dated rs)) e
+  same-changes article sort e = ap (λ (rs : List Row). daysOfChange (keep dated rs)) e
 
   -- Books that are alike in what is read have the same lines ..
   pub same-lines : (q : Question) → Alike a b (q .article) (q .sort) → linesOf a q ≡ linesOf b q

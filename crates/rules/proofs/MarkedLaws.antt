@@ -22,7 +22,7 @@ use Rattle.rules.proofs.StaysLaws.{stays-next, stays}
 
 -- The set holds every day of change of the question.
 pub record HoldsChanges (book : List Record) (q : Question) (marked : ℕ → Bool) : Type 0 where
-  pub holds : (k : ℕ) → isDay k ≡ true → isChange book q k ≡ true → marked k ≡ true
+  pub holds : (k : ℕ) → isDay k ≡ true → isChange book (q .article) (q .sort) k ≡ true → marked k ≡ true
 
 -- the first day of a row and the day after its last, where these are days, are in the set
 abbrev pub Marks : (ℕ → Bool) → Row → Type 0
@@ -55,7 +55,7 @@ module _ (book : List Record) (q : Question) where
   marks-rows marked h = marks-moving marked (all-keep (Marks marked) dated (keep _ (rows book)) (all-keep (Marks marked) _ (rows book) h))
 
   -- a day of change is a day, or behind the last of all
-  change-day : (k : ℕ) → k ≤ lastDay → isChange book q k ≡ true → isDay k ≡ true
+  change-day : (k : ℕ) → k ≤ lastDay → isChange book (q .article) (q .sort) k ≡ true → isDay k ≡ true
   unfolding isChange changes movingRows
   change-day k l e = of-change (λ k. k ≤ lastDay → isDay k ≡ true) (keep dated own) (all-imply both (keep dated own) (kept dated own)) k e l
     where
@@ -71,10 +71,10 @@ module _ (book : List Record) (q : Question) where
   -- ---- the outcome stays
 
   module _ (marked : ℕ → Bool) (h : HoldsChanges book q marked) where
-    unmarked : (k : ℕ) → isDay k ≡ true → marked k ≡ false → isChange book q k ≡ false
-    unmarked k day m = go (isChange book q k) refl
+    unmarked : (k : ℕ) → isDay k ≡ true → marked k ≡ false → isChange book (q .article) (q .sort) k ≡ false
+    unmarked k day m = go (isChange book (q .article) (q .sort) k) refl
       where
-        go : (b : Bool) → isChange book q k ≡ b → b ≡ false
+        go : (b : Bool) → isChange book (q .article) (q .sort) k ≡ b → b ≡ false
         go true e = absurd (true≢false (sym (h .holds k day e) ∙ m))
         go false e = refl
 
@@ -85,9 +85,9 @@ module _ (book : List Record) (q : Question) where
     -- From a day to a later one the outcome stays where no day after the first is in the set; other numbers between them do not matter.
     pub unmarked-stays : (d e : ℕ) → isDay d ≡ true → isDay e ≡ true → d < e
         → ((k : ℕ) → isDay k ≡ true → d < k → k ≤ e → marked k ≡ false) → outcome book q d ≡ outcome book q e
-    unmarked-stays d e day day′ l m = stays book q d e day day′ l (λ k a b. quiet k a b (isChange book q k) refl)
+    unmarked-stays d e day day′ l m = stays book q d e day day′ l (λ k a b. quiet k a b (isChange book (q .article) (q .sort) k) refl)
       where
-        quiet : (k : ℕ) → d < k → k ≤ e → (b : Bool) → isChange book q k ≡ b → b ≡ false
+        quiet : (k : ℕ) → d < k → k ≤ e → (b : Bool) → isChange book (q .article) (q .sort) k ≡ b → b ≡ false
         quiet k a b false c = refl
         quiet k a b true c =
             let is-day : isDay k ≡ true = change-day k (omega (arith, day-most e day′)) c in

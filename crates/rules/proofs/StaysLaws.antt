@@ -120,7 +120,7 @@ gather-same f g h [] = refl
 gather-same f g h (x ∷ xs) = λ i. consSome (h x i) (gather-same f g h xs i)
 
 module _ (book : List Record) (q : Question) where
-  module _ (d : ℕ) (day : isDay d ≡ true) (more : isDay (next d) ≡ true) (quiet : isChange book q (next d) ≡ false) where
+  module _ (d : ℕ) (day : isDay d ≡ true) (more : isDay (next d) ≡ true) (quiet : isChange book (q .article) (q .sort) (next d) ≡ false) where
     slot-stays : (s : Slot) → chosenAt (rows book) (on q d) s ≡ chosenAt (rows book) (on q (next d)) s
     unfolding chosenAt rowsAt on isChange changes movingRows
     slot-stays s = ap (Option·map (λ r. record { place = s .place; row = r })) (choice-stays d day more (q .article) (q .sort) (s .level) (s .condition) (q .quantity) (q .currency) (rows book) quiet)
@@ -142,7 +142,7 @@ module _ (book : List Record) (q : Question) where
   later-day d _ day once l = next-is-day d day (omega (arith, next-above d))
   later-day d _ day (again {e} h) l = next-is-day e (later-day d e day h (omega (arith, next-above e))) (omega (arith, next-above e))
 
-  stays-later : (d e : ℕ) → isDay d ≡ true → Later d e → e ≤ lastDay → ((k : ℕ) → d < k → k ≤ e → isChange book q k ≡ false) → outcome book q d ≡ outcome book q e
+  stays-later : (d e : ℕ) → isDay d ≡ true → Later d e → e ≤ lastDay → ((k : ℕ) → d < k → k ≤ e → isChange book (q .article) (q .sort) k ≡ false) → outcome book q d ≡ outcome book q e
   stays-later d _ day once l quiet = stays-next d day (next-is-day d day (omega (arith, next-above d))) (quiet (next d) (next-above d) (omega arith))
   stays-later d _ day (again {e} h) l quiet =
       let e-day = later-day d e day h (omega (arith, next-above e)) in
@@ -150,5 +150,5 @@ module _ (book : List Record) (q : Question) where
       ∙ stays-next e e-day (next-is-day e e-day (omega (arith, next-above e))) (quiet (next e) (omega (arith, later-greater d e h, next-above e)) (omega arith))
 
   -- So between two days of change it stays, however many days lie between.
-  pub stays : (d e : ℕ) → isDay d ≡ true → isDay e ≡ true → d < e → ((k : ℕ) → d < k → k ≤ e → isChange book q k ≡ false) → outcome book q d ≡ outcome book q e
+  pub stays : (d e : ℕ) → isDay d ≡ true → isDay e ≡ true → d < e → ((k : ℕ) → d < k → k ≤ e → isChange book (q .article) (q .sort) k ≡ false) → outcome book q d ≡ outcome book q e
   stays d e day day′ l quiet = stays-later d e day (greater-later d e day day′ l) (day-most e day′) quiet

@@ -6,7 +6,6 @@ use lib.Dec.{eqb}
 use Rattle.rules.specs.Lists.{same, any, keep}
 use Rattle.rules.specs.Days.{isDay, next}
 use Rattle.rules.specs.Book.{Record, Row, rows}
-use Rattle.rules.specs.Question.{Question}
 
 -- a row with a date that is no day is never chosen, so it changes nothing
 abbrev pub dated : Row → Bool
@@ -21,9 +20,9 @@ unfoldable pub daysOfChange : List Row → List ℕ
 daysOfChange [] = []
 daysOfChange (r ∷ rs) = r .from ∷ next (r .to) ∷ daysOfChange rs
 
-unfoldable pub changes : List Record → Question → List ℕ
-changes book q = daysOfChange (movingRows (q .article) (q .sort) (rows book))
+unfoldable pub changes : List Record → List ℕ → ℕ → List ℕ
+changes book article sort = daysOfChange (movingRows article sort (rows book))
 
--- whether the price can change on that day
-unfoldable pub isChange : List Record → Question → ℕ → Bool
-isChange book q d = any (eqb d) (changes book q)
+-- whether the price of an article and sort can change on that day
+unfoldable pub isChange : List Record → List ℕ → ℕ → ℕ → Bool
+isChange book article sort d = any (eqb d) (changes book article sort)

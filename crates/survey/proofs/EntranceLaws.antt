@@ -44,7 +44,8 @@ module _ (b s : List ℕ) where
     enters-both t = record {
       number-is = rw (book-left b (sym (told .ok) ∙ t), a .is);
       ask-is = λ z. a;
-      found-is = λ z. subst (λ (number : List ℕ). FoundIs b number (ask .sort) (w .found)) (part-is s (ask .article .at) (ask .article .size)) (told .found t);
+      found-is = λ z.
+          subst (λ (number : List ℕ). FoundIs b number (ask .sort) (w .found)) (part-is s (ask .article .at) (ask .article .size)) (told .found t);
       empty = λ z. absurd (z refl);
     }
 

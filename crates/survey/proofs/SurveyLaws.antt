@@ -30,8 +30,8 @@ use Rattle.survey.proofs.WindowLaws.{Spanning, rows-gather, roundings-g
 
 -- ---- a record goes by
 
-pub noted-is : (f : Found) (article : List ℕ) (sort : ℕ) (o : Option Record) {at end : ℕ} {own rounding art : Bool} {window : Window} → Says (Tests.isRow article sort o) own
-    → Says (Tests.isRounding o) rounding → WindowAfter (f .window) own rounding at end window → Says (Tests.articleOf article o) art
+pub noted-is : (f : Found) (article : List ℕ) (sort : ℕ) (o : Option Record) {at end : ℕ} {own rounding art : Bool} {window : Window}
+    → Says (Tests.isRow article sort o) own → Says (Tests.isRounding o) rounding → WindowAfter (f .window) own rounding at end window → Says (Tests.articleOf article o) art
     → FoundAfter f article sort o at end (record { article = f .article || art; window = window })
 noted-is f article sort o {at} {end} {own} {window = window} mine kind after there = record {
   there = ap (λ x. f .article || x) (sym (there .is));
@@ -83,8 +83,13 @@ module _ (b article : List ℕ) (sort : ℕ) where
     find-end h =
         let none-left = pass-end (p .between) h in
         record {
-          there = sym (or-false (found .article)) ∙ ap (λ (rs : List Record). found .article || isSome (articleOf rs article)) (sym none-left) ∙ p .there;
-          window = windows (span-end (rows-gather article sort) (p .rows-span) (p .between .fits) none-left) (span-end roundings-gather (p .roundings-span) (p .between .fits) none-left);
+          there =
+              sym (or-false (found .article))
+              ∙ ap (λ (rs : List Record). found .article || isSome (articleOf rs article)) (sym none-left)
+              ∙ p .there;
+          window =
+              windows (span-end (rows-gather article sort) (p .rows-span) (p .between .fits) none-left)
+              (span-end roundings-gather (p .roundings-span) (p .between .fits) none-left);
         }
 
 -- ---- the pass that accepts a book
@@ -129,7 +134,8 @@ module _ (b article : List ℕ) (sort : ℕ) where
         pub survey-accepted : Accepted (take (end - (at + 2)) (drop (at + 2) b))
         survey-accepted = record { ok = end-stops e g .ok }
 
-        pub survey-turn : {next : Found} → FoundAfter found article sort (whole kinded (take (end - (at + 2)) (drop (at + 2) b))) at end next → Surveying b article sort next end
+        pub survey-turn : {next : Found} → FoundAfter found article sort (whole kinded (take (end - (at + 2)) (drop (at + 2) b))) at end next
+            → Surveying b article sort next end
         survey-turn after = record {
           decides = walk-again (inv .decides) h e g;
           passed = λ ok. find-turn b article sort (inv .passed ok) h (end-stops e g) after;

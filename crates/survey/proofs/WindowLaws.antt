@@ -105,7 +105,8 @@ pub roundings-gather : Gathers roundings
 roundings-gather = record { empty = refl; append = λ xs ys. gather-append _ xs ys }
 
 -- a record that is no row of the article and sort brings none, and one that is no rounding no rounding
-pub rows-outside : (article : List ℕ) (sort : ℕ) (o : Option Record) → isRow article sort o ≡ false → (r : Record) → o ≡ some r → rowsOf article sort (r ∷ []) ≡ []
+pub rows-outside : (article : List ℕ) (sort : ℕ) (o : Option Record) → isRow article sort o ≡ false
+    → (r : Record) → o ≡ some r → rowsOf article sort (r ∷ []) ≡ []
 unfolding isRow rowsOf
 rows-outside article sort o f r e = go (asRow r) (sym (ap (isRow article sort) e) ∙ f)
   where
@@ -235,7 +236,8 @@ pub window-noted : {w : Window} {own rounding : Bool} {at end : ℕ} {a b : Span
     → WindowAfter w own rounding at end (record { first = a .first; last = a .last; from = b .first; to = b .last })
 window-noted a b = record { rows = a; roundings = b }
 
-pub windows : {b : List ℕ} {start : ℕ} {article : List ℕ} {sort : ℕ} {w : Window} → Spans (rowsOf article sort) b start (rowSpan w) → Spans roundings b start (roundingSpan w) → Windows b start article sort w
+pub windows : {b : List ℕ} {start : ℕ} {article : List ℕ} {sort : ℕ} {w : Window}
+    → Spans (rowsOf article sort) b start (rowSpan w) → Spans roundings b start (roundingSpan w) → Windows b start article sort w
 windows a b = record {
   fits = a .fits;
   between = a .between;

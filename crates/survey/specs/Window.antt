@@ -30,7 +30,8 @@ pub record WindowAfter (w : Window) (own rounding : Bool) (at end : ℕ) (r : Wi
   pub rows : SpanAfter (rowSpan w) own at end (rowSpan r)
   pub roundings : SpanAfter (roundingSpan w) rounding at end (roundingSpan r)
 
--- of the records of b from `start` on: those from `first` to `last` have all rows of the article and sort, and those from `from` to `to` all roundings
+-- of the records of b from `start` on: those from `first` to `last` have all rows of the article and sort, and those from `from` to `to` have
+-- all roundings
 pub record Windows (b : List ℕ) (start : ℕ) (article : List ℕ) (sort : ℕ) (w : Window) : Type 0 where
   pub fits : w .last ≤ length b
   pub between : Between (take (w .last) b) (w .first)

@@ -10,9 +10,11 @@ pub runs-in-spec : {M : Type 1} → statement M
 runs-in-spec =
     tie.close
     (tie.spec
+    (λ c. search needs)  -- add-to
     (λ c. search laws)  -- slice-aggregate-marks-of
+    (λ c. search needs)  -- sub-marks-of
+    (λ c. search needs)  -- part-marks-of-start
+    (λ c. search needs)  -- part-marks-of-end
     (λ c κs. search laws)  -- marks-of-requires
-    (λ c κs.
-    let p = c .before .before .before .before .before .pre in
-    (p .0, (p .1 .0, marked (p .1 .0) (p .1 .1 .0) (p .1 .1 .1) (c .marks-of .ensures))))  -- runs-of-requires
+    (λ c κs. search laws)  -- runs-of-requires
     (λ c. search laws))  -- returns

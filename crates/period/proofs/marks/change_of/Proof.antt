@@ -1,6 +1,6 @@
--- `period::marks::change_of` meets its contract: a row of the asked article, or any other record.
+-- `period::marks::change_of` meets its contract: a row of the article and sort, or any other record.
 use borrow.Author.Needs.{needs}
-use Rattle.choice.proofs.PassingLaws.{row-kind}
+use Rattle.records.proofs.PriceLaws.{row-kind}
 use Rattle.period.proofs.MarkLaws.{row-change, no-change}
 use Rattle.period.proofs.marks.change_of.Statement.{statement}
 use Rattle.period.proofs.marks.change_of.Tie as tie
@@ -11,11 +11,7 @@ pub change-of-spec : {M : Type 1} → statement M
 change-of-spec =
     tie.close
     (tie.spec
-    (λ c. search needs)  -- add-to
-    (λ c. search needs)  -- sub-is-row-of
-    (λ c. search needs)  -- part-is-row-of-start
-    (λ c. search needs)  -- part-is-row-of-end
-    (λ c κs. search laws)  -- is-row-of-requires
+    (λ c κs. search laws)  -- is-row-requires
     (λ c κs. search laws)  -- row-of-requires
     (λ c κs. search laws)  -- change-by-requires
     (λ c. search laws)  -- returns

@@ -2,7 +2,6 @@
 use Prim.Native.Nat.{_-_}
 use lib.ListN.{length}
 use borrow.Author.Needs.{needs}
-use Rattle.question.specs.Asked.{askIn}
 use Rattle.records.proofs.TestLaws.{accepted}
 use Rattle.period.specs.Marks.{Marking}
 use Rattle.period.proofs.MarkLaws.{mark-start, mark-here, mark-dates, mark-less, mark-turn, mark-end}
@@ -12,10 +11,10 @@ use Rattle.period.proofs.marks.marks_of.Tie as tie
 ruleset laws = (needs, accepted, mark-start, mark-here, mark-dates, mark-less, mark-turn, mark-end)
 
 abbrev Inv-loop : tie.InvT-loop
-Inv-loop w from q ask dates marks₀ at₀ marks at = Marking w from (askIn q ask) dates marks at
+Inv-loop w from article sort dates marks₀ at₀ marks at = Marking w from article sort dates marks at
 
 abbrev μ-loop : tie.MeasureT-loop
-μ-loop w from q ask dates marks₀ at₀ marks at = length w - at
+μ-loop w from article sort dates marks₀ at₀ marks at = length w - at
 
 pub marks-of-spec : {M : Type 1} → statement M
 marks-of-spec =
@@ -30,9 +29,9 @@ marks-of-spec =
     (λ c. search needs)  -- part-change-of-start
     (λ c. search needs)  -- part-change-of-end
     (λ c κs. search laws)  -- change-of-requires
-    (λ c κs. search laws)  -- place-in-requires
+    (λ c κs. search laws)  -- position-in-requires
     (λ c. search needs)  -- array-write-marks
-    (λ c κs. search laws)  -- place-in-requires-2
+    (λ c κs. search laws)  -- position-in-requires-2
     (λ c. search needs)  -- array-write-marks-2
     (λ c. search laws)  -- loop-less
     (λ c. search laws)  -- loop-again

@@ -14,8 +14,8 @@ returns-3 c =
     let picks = judged .before .before in
     let article = picks .before .before in
     let inside = article .before .before .before .before in
-    no-price _ _ _ (inside .before .before .enter .ensures) (inside .if1 .left) (article .if2 .left) (picks .picks-within .ensures) (judged .judge .ensures)
-    (search needs) (c .refusal3 .ensures)
+    no-price _ _ _ (inside .before .before .enter .ensures) (inside .if1 .left) (article .if2 .left)
+    (picks .picks-within .ensures) (judged .judge .ensures) (search needs) (c .refusal3 .ensures)
 
 returns-4 : tie.Need-returns-4
 returns-4 c =
@@ -23,8 +23,8 @@ returns-4 c =
     let picks = judged .before .before in
     let article = picks .before .before in
     let inside = article .before .before .before .before in
-    no-room _ _ _ (inside .before .before .enter .ensures) (inside .if1 .left) (article .if2 .left) (picks .picks-within .ensures) (judged .judge .ensures)
-    (search needs) (omega arith) (c .refusal4 .ensures)
+    no-room _ _ _ (inside .before .before .enter .ensures) (inside .if1 .left) (article .if2 .left)
+    (picks .picks-within .ensures) (judged .judge .ensures) (search needs) (omega arith) (c .refusal4 .ensures)
 
 answer-requires : tie.Need-answer-requires
 answer-requires c κs =
@@ -40,8 +40,8 @@ returns-5 c =
     let picks = judged .before .before in
     let article = picks .before .before in
     let inside = article .before .before .before .before in
-    has-answer _ _ _ (inside .before .before .enter .ensures) (inside .if1 .left) (article .if2 .left) (picks .picks-within .ensures) (judged .judge .ensures)
-    (search needs) (idle .unused .ensures) (omega arith) (wrote .write-lines .ensures) (c .answer .ensures)
+    has-answer _ _ _ (inside .before .before .enter .ensures) (inside .if1 .left) (article .if2 .left)
+    (picks .picks-within .ensures) (judged .judge .ensures) (search needs) (idle .unused .ensures) (omega arith) (wrote .write-lines .ensures) (c .answer .ensures)
 
 pub price-spec : {M : Type 1} → statement M
 price-spec =

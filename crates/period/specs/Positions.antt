@@ -1,4 +1,4 @@
--- Dates in order, and the place of a date among them.
+-- Dates in order, and the position of a date among them.
 use Prim.Native.Nat.{ℕ, _+_, _-_, _≤_, _<_}
 use mathlib.Core.Path.{_≡_}
 use mathlib.Core.Bool.{true}
@@ -7,7 +7,7 @@ use lib.Dec.{eqb}
 use lib.ListN.{length, getD}
 use Rattle.rules.specs.Days.{isDay, next}
 use Rattle.rules.specs.Calendar.{mostDays}
-use Rattle.period.specs.declared.places.Bounds.{Bounds}
+use Rattle.period.specs.declared.positions.Bounds.{Bounds}
 
 -- days, each the next of the one before it
 pub record Dates (dates : List ℕ) : Type 0 where
@@ -29,8 +29,8 @@ pub record Narrowed (dates : List ℕ) (d : ℕ) (b r : Bounds) : Type 0 where
   pub narrowing : Narrowing dates d r
   pub less : r .high - r .low < b .high - b .low
 
--- d is the date at `r` and no other; where it is none of them `r` is the place behind all that a period can have
-pub record PlaceIn (dates : List ℕ) (d r : ℕ) : Type 0 where
+-- d is the date at `r` and no other; where it is none of them `r` is the position behind all that a period can have
+pub record PositionIn (dates : List ℕ) (d r : ℕ) : Type 0 where
   pub most : r ≤ mostDays
   pub inside : (r ≡ mostDays → ⊥) → r < length dates
   pub is : (i : ℕ) → i < length dates → eqb i r ≡ eqb (getD dates i 0) d

@@ -1,8 +1,8 @@
--- `period::places::narrowed` meets its contract: the day in the middle is below, or not.
+-- `period::positions::narrowed` meets its contract: the day in the middle is below, or not.
 use borrow.Author.Needs.{needs}
-use Rattle.period.proofs.PlaceLaws.{narrow-up, narrow-down}
-use Rattle.period.proofs.places.narrowed.Statement.{statement}
-use Rattle.period.proofs.places.narrowed.Tie as tie
+use Rattle.period.proofs.PositionLaws.{narrow-up, narrow-down}
+use Rattle.period.proofs.positions.narrowed.Statement.{statement}
+use Rattle.period.proofs.positions.narrowed.Tie as tie
 
 ruleset laws = (needs, narrow-up, narrow-down)
 

@@ -1,12 +1,12 @@
--- `period::places::place_in` meets its contract: once nothing is left between the bounds, the day is found there or nowhere.
+-- `period::positions::position_in` meets its contract: once nothing is left between the bounds, the day is found there or nowhere.
 use Prim.Native.Nat.{_-_}
 use borrow.Author.Needs.{needs}
-use Rattle.period.specs.Places.{Narrowing}
-use Rattle.period.proofs.PlaceLaws.{narrow-start, place-found, place-between, place-behind}
-use Rattle.period.proofs.places.place_in.Statement.{statement}
-use Rattle.period.proofs.places.place_in.Tie as tie
+use Rattle.period.specs.Positions.{Narrowing}
+use Rattle.period.proofs.PositionLaws.{narrow-start, position-found, position-between, position-behind}
+use Rattle.period.proofs.positions.position_in.Statement.{statement}
+use Rattle.period.proofs.positions.position_in.Tie as tie
 
-ruleset laws = (needs, narrow-start, place-found, place-between, place-behind)
+ruleset laws = (needs, narrow-start, position-found, position-between, position-behind)
 
 abbrev Inv-loop : tie.InvT-loop
 Inv-loop dates d bounds₀ bounds = Narrowing dates d bounds
@@ -14,8 +14,8 @@ Inv-loop dates d bounds₀ bounds = Narrowing dates d bounds
 abbrev μ-loop : tie.MeasureT-loop
 μ-loop dates d bounds₀ bounds = bounds .high - bounds .low
 
-pub place-in-spec : {M : Type 1} → statement M
-place-in-spec =
+pub position-in-spec : {M : Type 1} → statement M
+position-in-spec =
     tie.close
     (tie.spec
     Inv-loop

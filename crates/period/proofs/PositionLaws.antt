@@ -1,4 +1,4 @@
--- The days of a period are in order, so halving finds the place of a day.
+-- The days of a period are in order, so halving finds the position of a day.
 use Prim.Native.Nat.{ℕ, zero, suc, _+_, _-_, _/_, _≤_, _<_}
 use mathlib.Core.Path.{_≡_, refl, sym, _∙_, ap, subst}
 use mathlib.Core.Bool.{true}
@@ -12,12 +12,12 @@ use Rattle.rules.specs.Days.{isDay, next}
 use Rattle.rules.specs.Calendar.{mostDays}
 use Rattle.rules.proofs.DayLaws.{next-above, next-is-day, day-most}
 use Rattle.rules.proofs.CalendarLaws.{Days, end, day}
-use Rattle.period.specs.declared.places.Bounds.{Bounds}
-use Rattle.period.specs.Places.{Dates, Narrowing, Narrowed, PlaceIn}
+use Rattle.period.specs.declared.positions.Bounds.{Bounds}
+use Rattle.period.specs.Positions.{Dates, Narrowing, Narrowed, PositionIn}
 
 -- ---- the days of a period are dates in order
 
--- what is known of the date at each place
+-- what is known of the date at each position
 record At (from to : ℕ) (ds : List ℕ) : Type 0 where
   first : getD ds 0 0 ≡ from
   head : (i : ℕ) → i < length ds → from ≤ getD ds i 0
@@ -123,8 +123,8 @@ module _ {dates : List ℕ} {d : ℕ} {b : Bounds} (w : Narrowing dates d b) whe
         }
 
   module _ (z : b .high ≤ b .low) where
-    pub place-found : b .low < length dates → getD dates (b .low) 0 ≡ d → PlaceIn dates d (b .low)
-    place-found l e = record { most = omega (arith, w .dates-are .few); inside = λ n. l; is = λ i h. go i h (decLt i (b .low)) (decLt (b .low) i) }
+    pub position-found : b .low < length dates → getD dates (b .low) 0 ≡ d → PositionIn dates d (b .low)
+    position-found l e = record { most = omega (arith, w .dates-are .few); inside = λ n. l; is = λ i h. go i h (decLt i (b .low)) (decLt (b .low) i) }
       where
         go : (i : ℕ) → i < length dates → Dec (i < b .low) → Dec (b .low < i) → eqb i (b .low) ≡ eqb (getD dates i 0) d
         go i h (yes k) f = ne-eqb i (b .low) (λ x. omega arith) ∙ sym (ne-eqb (getD dates i 0) d (λ x. omega (arith, w .below i k)))
@@ -134,7 +134,7 @@ module _ {dates : List ℕ} {d : ℕ} {b : Bounds} (w : Narrowing dates d b) whe
             eq-eqb i (b .low) x ∙ sym (eq-eqb (getD dates i 0) d (ap (λ (j : ℕ). getD dates j 0) x ∙ e))
 
     -- no date is d
-    missing : ((i : ℕ) → i < length dates → getD dates i 0 ≡ d → ⊥) → PlaceIn dates d mostDays
+    missing : ((i : ℕ) → i < length dates → getD dates i 0 ≡ d → ⊥) → PositionIn dates d mostDays
     missing n =
         record {
           most = omega arith;
@@ -142,8 +142,8 @@ module _ {dates : List ℕ} {d : ℕ} {b : Bounds} (w : Narrowing dates d b) whe
           is = λ i h. ne-eqb i mostDays (λ x. omega (arith, w .dates-are .few)) ∙ sym (ne-eqb (getD dates i 0) d (n i h));
         }
 
-    pub place-between : (getD dates (b .low) 0 ≡ d → ⊥) → PlaceIn dates d mostDays
-    place-between n = missing (λ i h e. go i h e (decLt i (b .low)))
+    pub position-between : (getD dates (b .low) 0 ≡ d → ⊥) → PositionIn dates d mostDays
+    position-between n = missing (λ i h e. go i h e (decLt i (b .low)))
       where
         go : (i : ℕ) → i < length dates → getD dates i 0 ≡ d → Dec (i < b .low) → ⊥
         go i h e (yes k) = omega (arith, w .below i k)
@@ -151,5 +151,5 @@ module _ {dates : List ℕ} {d : ℕ} {b : Bounds} (w : Narrowing dates d b) whe
             let ne : getD dates (b .low) 0 ≡ d → ⊥ = n in
             omega (arith, w .above (b .low) z (omega arith), at-least (b .low) i (omega arith) h)
 
-    pub place-behind : length dates ≤ b .low → PlaceIn dates d mostDays
-    place-behind l = missing (λ i h e. omega (arith, w .below i (omega arith)))
+    pub position-behind : length dates ≤ b .low → PositionIn dates d mostDays
+    position-behind l = missing (λ i h e. omega (arith, w .below i (omega arith)))

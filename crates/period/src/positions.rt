@@ -1,6 +1,6 @@
-// The place of a day among the days of a period, by halving.
+// The position of a day among the days of a period, by halving.
 ghost use Prim.Native.Nat.{_<_};
-ghost use Rattle.period.specs.Places.{Dates, Narrowing, Narrowed, PlaceIn};
+ghost use Rattle.period.specs.Positions.{Dates, Narrowing, Narrowed, PositionIn};
 
 // The day stands from `low` on and before `high`, if it is there.
 pub struct Bounds {
@@ -26,10 +26,10 @@ fn narrowed(dates: &[u32], bounds: Bounds, d: u32) -> Bounds
     Bounds { low, high: middle }
 }
 
-// The place of the day d, or 1,096 if it is none of these.
-pub fn place_in(dates: &[u32], d: u32) -> usize
+// The position of the day d, or 1,096 if it is none of these.
+pub fn position_in(dates: &[u32], d: u32) -> usize
     requires { ⌜ Dates (now dates) ⌝ }
-    ensures { λ r. ⌜ PlaceIn (now (dates .entry)) d r ⌝ }
+    ensures { λ r. ⌜ PositionIn (now (dates .entry)) d r ⌝ }
 {
     let mut bounds = Bounds {
         low: 0,
@@ -38,10 +38,10 @@ pub fn place_in(dates: &[u32], d: u32) -> usize
     while bounds.low < bounds.high {
         bounds = narrowed(dates, bounds, d);
     }
-    let place = bounds.low;
-    if place < dates.len() {
-        if dates[place] == d {
-            return place;
+    let position = bounds.low;
+    if position < dates.len() {
+        if dates[position] == d {
+            return position;
         }
     }
     1096
