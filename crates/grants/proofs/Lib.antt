@@ -6,5 +6,6 @@ pub mod FirstLaws
 pub mod GatherLaws
 pub mod FillLaws
 pub mod IdleLaws
+pub mod PlaceSetLaws
 pub mod Worked
 pub mod AskLaws

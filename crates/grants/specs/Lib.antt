@@ -1,4 +1,5 @@
 pub mod Table
 pub mod Places
+pub mod PlaceSet
 pub mod Idle
 pub mod Asks

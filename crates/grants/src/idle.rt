@@ -1,7 +1,7 @@
 // The granted places that brought no line, as a set.
 use crate::MOST;
 use crate::is_first;
-use places::Places;
+use crate::places::Places;
 ghost use mathlib.Core.Path.{_≡_};
 ghost use lib.ListN.{length};
 ghost use Rattle.grants.specs.Table.{tableSize};

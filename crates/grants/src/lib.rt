@@ -1,6 +1,7 @@
 // The granted names of a question as a table, made once ("Which row is chosen": granted names): raised, each at the place where it is named first.
 // An entry for each place: a byte with the name's length, then its bytes, zeros behind. A repeat's entry, and one behind the last name, is all zeros.
 pub mod idle;
+pub mod places;
 
 use layout::names::put_raised;
 use layout::names::same_bytes;

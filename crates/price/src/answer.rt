@@ -1,6 +1,6 @@
 // What a caller reads of a price.
+use grants::places::Places;
 use lines::verdict::Verdict;
-use places::Places;
 use rules::PriceAnswer;
 ghost use Prim.Native.Nat.{_≤_};
 ghost use mathlib.Core.Path.{_≡_};

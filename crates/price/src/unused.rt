@@ -1,8 +1,8 @@
 // The granted places that brought no line, as a set.
 use choice::slots::place_of;
+use grants::places::Places;
 use layout::names::put_raised;
 use lines::Pick;
-use places::Places;
 use question::Ask;
 use question::names::name_stop;
 ghost use Prim.Native.Nat.{_≤_};

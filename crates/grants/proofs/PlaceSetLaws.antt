@@ -19,7 +19,7 @@ use Rattle.rules.specs.Lines.{Line}
 use Rattle.rules.specs.Price.{setOf, unusedOf}
 use Rattle.rules.proofs.TestLaws.{not-below}
 use Rattle.rules.proofs.UnusedLaws.{Rising, rising-lower, rising-unused, set-multiple}
-use Rattle.places.specs.PlaceSet.{isIn, members, Counts}
+use Rattle.grants.specs.PlaceSet.{isIn, members, Counts}
 
 -- ---- the count
 

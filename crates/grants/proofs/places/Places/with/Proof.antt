@@ -1,7 +1,7 @@
 use borrow.Author.Needs.{needs}
-use Rattle.places.proofs.PlaceLaws.{with-is}
-use Rattle.places.proofs.Places.with.Statement.{statement}
-use Rattle.places.proofs.Places.with.Tie as tie
+use Rattle.grants.proofs.PlaceSetLaws.{with-is}
+use Rattle.grants.proofs.places.Places.with.Statement.{statement}
+use Rattle.grants.proofs.places.Places.with.Tie as tie
 
 ruleset laws = (needs, with-is)
 

@@ -1,7 +1,7 @@
 // A set of granted places, 1 to 32, as the bits of a number ("From rows to a total": the granted names that brought no line).
 ghost use Prim.Native.Nat.{_+_, _-_, _^_, _≤_, _<_};
 ghost use mathlib.Core.Path.{_≡_};
-ghost use Rattle.places.specs.PlaceSet.{Counts};
+ghost use Rattle.grants.specs.PlaceSet.{Counts};
 
 // The lowest bit stands for place 1.
 pub struct Places(pub u32);
