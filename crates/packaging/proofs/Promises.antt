@@ -52,7 +52,7 @@ Zeros a = (a .number ≡ 0 → ⊥) → Refusal (a .number) × (a ≡ record { g
 
 -- ---- of what some records come to
 
--- what holds at each of the three places of a unit, at any number below 3
+-- what holds of each of the three units, at any number below 3
 each-of-three : (P : ℕ → Type 0) → All P three → (k : ℕ) → k < 3 → P k
 each-of-three P h zero l = h .0
 each-of-three P h (suc zero) l = h .1 .0

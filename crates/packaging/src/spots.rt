@@ -64,7 +64,11 @@ fn place_for(t: &[u8], article: &[u8], table: &[u8], names: usize) -> usize
 fn kept(old: Spot, at: usize, end: usize) -> Spot
     ensures { λ r. ⌜ SpotAfter old at end r ⌝ }
 {
-    if old.is_empty() { Spot { at, end } } else { old }
+    if old.is_empty() {
+        Spot { at, end }
+    } else {
+        old
+    }
 }
 
 // Each record of the book once. The table is of so many granted names.

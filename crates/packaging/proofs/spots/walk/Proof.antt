@@ -24,29 +24,29 @@ walk-spec =
     (λ c. search laws)  -- loop-holds
     (λ c κs. search laws)  -- record-stop-requires
     (λ c. search needs)  -- add-start
-    (λ c. search needs)  -- sub-own-place
-    (λ c. search needs)  -- part-own-place-start
-    (λ c. search needs)  -- part-own-place-end
-    (λ c κs. search laws)  -- own-place-requires
+    (λ c. search needs)  -- sub-place-for
+    (λ c. search needs)  -- part-place-for-start
+    (λ c. search needs)  -- part-place-for-end
+    (λ c κs. search laws)  -- place-for-requires
     (λ c. search needs)  -- mul-kept
     (λ c. search needs)  -- array-copy-out-kept
     (λ c κs. search laws)  -- kept-requires
     (λ c. search needs)  -- mul-own
     (λ c. search needs)  -- array-set-from-own
-    (λ c. search needs)  -- sub-place-for
-    (λ c. search needs)  -- part-place-for-start
-    (λ c. search needs)  -- part-place-for-end
+    (λ c. search needs)  -- sub-place-for-2
+    (λ c. search needs)  -- part-place-for-start-2
+    (λ c. search needs)  -- part-place-for-end-2
     (λ c. search needs)  -- slice-aggregate-place-for
-    (λ c κs. search laws)  -- place-for-requires
+    (λ c κs. search laws)  -- place-for-requires-2
     (λ c. search needs)  -- mul-kept-2
     (λ c. search needs)  -- array-copy-out-kept-2
     (λ c κs. search laws)  -- kept-requires-2
     (λ c. search needs)  -- mul-any
     (λ c. search needs)  -- array-set-from-any
-    (λ c. search needs)  -- sub-is-asked-article
-    (λ c. search needs)  -- part-is-asked-article-start
-    (λ c. search needs)  -- part-is-asked-article-end
-    (λ c κs. search laws)  -- is-asked-article-requires
+    (λ c. search needs)  -- sub-is-article
+    (λ c. search needs)  -- part-is-article-start
+    (λ c. search needs)  -- part-is-article-end
+    (λ c κs. search laws)  -- is-article-requires
     (λ c. search needs)  -- loop-less
     (λ c. search laws)  -- loop-again
     (λ c. search laws))  -- returns
