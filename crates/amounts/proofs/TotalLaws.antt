@@ -42,7 +42,7 @@ module _ (m : ℕ) (z : ℤ) where
 
 -- the code's test: at least the least total, and at most the greatest
 abbrev tested : ℤ → Bool
-tested z = leZ (negsuc 999_999_999) z && leZ z (pos 1_000_000_000)
+tested z = leZ (negsuc 999_999_999) z && leZ z (pos mostTotal)
 
 module _ (total amount : ℤ) where
   pub after-in : tested (total +ℤ amount) ≡ true → InRange (record { 0 = total +ℤ amount }) ≡ totalAfter total amount
@@ -54,11 +54,11 @@ module _ (total amount : ℤ) where
   after-out h = rw (beyond-by 999_999_999 (total +ℤ amount) _ _ refl refl h)
 
 -- where it is in range, it is the sum, and at most a thousand million cents either side of zero
-by-range : (t : Bool) (z : ℤ) (c : Cents) → eitherSide 1_000_000_000 z ≡ t → cond t (InRange (record { 0 = z })) OutOfRange ≡ InRange c
-    → (z ≡ c .0) × (natAbs (c .0) ≤ 1_000_000_000)
+by-range : (t : Bool) (z : ℤ) (c : Cents) → eitherSide mostTotal z ≡ t → cond t (InRange (record { 0 = z })) OutOfRange ≡ InRange c
+    → (z ≡ c .0) × (natAbs (c .0) ≤ mostTotal)
 by-range true z c e h =
     let s : z ≡ c .0 = cc in
-    (s, rw (← s) (either-in 1_000_000_000 z e))
+    (s, rw (← s) (either-in mostTotal z e))
 by-range false z c e h = absurd (never (sym h))
 
 module _ (total amount : ℤ) (c : Cents) (is : totalAfter total amount ≡ InRange c) where
@@ -66,7 +66,7 @@ module _ (total amount : ℤ) (c : Cents) (is : totalAfter total amount ≡ InRa
   unfolding totalAfter
   after-sum = by-range _ (total +ℤ amount) c refl is .0
 
-  pub after-in-range : natAbs (c .0) ≤ 1_000_000_000
+  pub after-in-range : natAbs (c .0) ≤ mostTotal
   unfolding totalAfter
   after-in-range = by-range _ (total +ℤ amount) c refl is .1
 
@@ -93,14 +93,14 @@ cond-and false b x y = refl
 
 -- the first of them, by its way out of `totalAfter`
 from-cons : (from z : ℤ) (zs : List ℤ)
-    → totalFrom from (z ∷ zs) ≡ cond (eitherSide 1_000_000_000 (from +ℤ z)) (totalFrom (from +ℤ z) zs) OutOfRange
+    → totalFrom from (z ∷ zs) ≡ cond (eitherSide mostTotal (from +ℤ z)) (totalFrom (from +ℤ z) zs) OutOfRange
 unfolding totalFrom
 from-cons from z zs = rw (cond-and, +ℤ-assoc)
 
 pub from-in : (from z : ℤ) (zs : List ℤ) (c : Cents) → totalAfter from z ≡ InRange c → totalFrom from (z ∷ zs) ≡ totalFrom (c .0) zs
 from-in from z zs c e =
     from-cons from z zs
-    ∙ rw (after-sum from z c e, in-either 1_000_000_000 (c .0) (after-in-range from z c e))
+    ∙ rw (after-sum from z c e, in-either mostTotal (c .0) (after-in-range from z c e))
 
 by-out : (t : Bool) (x : Total) (c : Cents) → cond t (InRange c) OutOfRange ≡ OutOfRange → cond t x OutOfRange ≡ OutOfRange
 by-out false x c h = refl
@@ -109,18 +109,18 @@ by-out true x c h = absurd (never h)
 pub from-out : (from z : ℤ) (zs : List ℤ) → totalAfter from z ≡ OutOfRange → totalFrom from (z ∷ zs) ≡ OutOfRange
 unfolding totalAfter
 from-out from z zs e =
-    from-cons from z zs ∙ by-out (eitherSide 1_000_000_000 (from +ℤ z)) (totalFrom (from +ℤ z) zs) (record { 0 = from +ℤ z }) e
+    from-cons from z zs ∙ by-out (eitherSide mostTotal (from +ℤ z)) (totalFrom (from +ℤ z) zs) (record { 0 = from +ℤ z }) e
 
 -- ---- what a total in range says of its lines
 
 -- by the way out of the first line
 in-range-by : (from z : ℤ) (zs : List ℤ) (c : Cents) (t : Total) → totalAfter from z ≡ t → totalFrom from (z ∷ zs) ≡ InRange c
-    → ((d : ℤ) → natAbs d ≤ 1_000_000_000 → totalFrom d zs ≡ InRange c → natAbs (c .0) ≤ 1_000_000_000) → natAbs (c .0) ≤ 1_000_000_000
+    → ((d : ℤ) → natAbs d ≤ mostTotal → totalFrom d zs ≡ InRange c → natAbs (c .0) ≤ mostTotal) → natAbs (c .0) ≤ mostTotal
 in-range-by from z zs c (InRange d) i e rest = rest (d .0) (after-in-range from z d i) (sym (from-in from z zs d i) ∙ e)
 in-range-by from z zs c OutOfRange i e rest = absurd (never (sym e ∙ from-out from z zs i))
 
-from-in-range : (from : ℤ) (zs : List ℤ) (c : Cents) → natAbs from ≤ 1_000_000_000 → totalFrom from zs ≡ InRange c
-    → natAbs (c .0) ≤ 1_000_000_000
+from-in-range : (from : ℤ) (zs : List ℤ) (c : Cents) → natAbs from ≤ mostTotal → totalFrom from zs ≡ InRange c
+    → natAbs (c .0) ≤ mostTotal
 from-in-range from [] c h e =
     let s : from ≡ c .0 = cc (from-end from) in
     rw (← s) h
@@ -128,7 +128,7 @@ from-in-range from (z ∷ zs) c h e =
     in-range-by from z zs c (totalAfter from z) refl e (λ d k f. from-in-range d zs c k f)
 
 -- A total in range is at most a thousand million cents either side of zero.
-pub total-in-range : (zs : List ℤ) (c : Cents) → totalOf zs ≡ InRange c → natAbs (c .0) ≤ 1_000_000_000
+pub total-in-range : (zs : List ℤ) (c : Cents) → totalOf zs ≡ InRange c → natAbs (c .0) ≤ mostTotal
 total-in-range zs c e = from-in-range (pos 0) zs c (omega arith) (from-zero zs ∙ e)
 
 by-total : (t : Bool) (d c : Cents) → cond t (InRange d) OutOfRange ≡ InRange c → (t ≡ true) × (d .0 ≡ c .0)
@@ -151,10 +151,10 @@ part-near : (a z : ℤ) → natAbs z ≤ natAbs (a +ℤ z) + natAbs a
 part-near a (pos n) = omega (arith, abs-parts (a +ℤ pos n), abs-parts a, sum-parts a (pos n))
 part-near a (negsuc n) = omega (arith, abs-parts (a +ℤ negsuc n), abs-parts a, sum-parts a (negsuc n))
 
-lines-near : (from : ℤ) (zs : List ℤ) → natAbs from ≤ 1_000_000_000 → staysInRange from zs ≡ true → All (λ z. natAbs z ≤ 2_000_000_000) zs
+lines-near : (from : ℤ) (zs : List ℤ) → natAbs from ≤ mostTotal → staysInRange from zs ≡ true → All (λ z. natAbs z ≤ 2_000_000_000) zs
 lines-near from [] h e = tt
 lines-near from (z ∷ zs) h e =
-    let k : natAbs (from +ℤ z) ≤ 1_000_000_000 = either-in mostTotal (from +ℤ z) (and-left (eitherSide mostTotal (from +ℤ z)) (staysInRange (from +ℤ z) zs) e) in
+    let k : natAbs (from +ℤ z) ≤ mostTotal = either-in mostTotal (from +ℤ z) (and-left (eitherSide mostTotal (from +ℤ z)) (staysInRange (from +ℤ z) zs) e) in
     (omega (arith, k, part-near from z), lines-near (from +ℤ z) zs k (and-right (eitherSide mostTotal (from +ℤ z)) (staysInRange (from +ℤ z) zs) e))
 
 pub amounts-near : (zs : List ℤ) (c : Cents) → totalOf zs ≡ InRange c → All (λ z. natAbs z ≤ 2_000_000_000) zs

@@ -6,6 +6,7 @@ use lib.IntN.{ℤ, natAbs, _+ℤ_}
 use Rattle.rules.specs.Amounts.{exact, rounded, SoundRounding}
 use Rattle.rules.specs.Bytes.{eitherSide}
 use Rattle.rules.specs.BookLayout.{inBounds}
+use Rattle.rules.specs.Lines.{mostTotal}
 use Rattle.rules.specs.declared.Cents.{Cents}
 use Rattle.rules.specs.declared.Value.{Value}
 use Rattle.rules.specs.declared.Rounding.{Rounding}
@@ -18,7 +19,7 @@ use Rattle.rules.specs.declared.Total.the-variants.{InRange, OutOfRange}
 -- a value as a book may have it, and a total as a percentage may be of
 pub record BookValue (value : Value) (of : ℤ) : Type 0 where
   pub value-in : inBounds value ≡ true
-  pub of-in : natAbs of ≤ 1_000_000_000
+  pub of-in : natAbs of ≤ mostTotal
 
 pub record ExactAmount (value : Value) (of : ℤ) (r : Fraction) : Type 0 where
   pub is : r ≡ exact value of
@@ -49,9 +50,9 @@ pub record RoundedCents (r : Rounding) (x : Fraction) (m : Cents) : Type 0 where
 
 -- a total so far, and one more line
 pub record Addable (total amount : ℤ) : Type 0 where
-  pub total-in : natAbs total ≤ 1_000_000_000
+  pub total-in : natAbs total ≤ mostTotal
   pub amount-in : natAbs amount ≤ 1_000_000_000_003_000_000
 
 -- the total after one more line
 unfoldable pub totalAfter : ℤ → ℤ → Total
-totalAfter total amount = cond (eitherSide 1_000_000_000 (total +ℤ amount)) (InRange (record { 0 = total +ℤ amount })) OutOfRange
+totalAfter total amount = cond (eitherSide mostTotal (total +ℤ amount)) (InRange (record { 0 = total +ℤ amount })) OutOfRange

@@ -1,6 +1,8 @@
 // Amounts of money: the exact amount of a price row, its rounding to cents, and the running total of the lines.
 use rules::Cents;
 use rules::Fraction;
+use rules::LEAST_TOTAL;
+use rules::MOST_TOTAL;
 use rules::Rounding;
 use rules::Total;
 use rules::Value;
@@ -96,7 +98,7 @@ pub fn add_line(total: Cents, amount: Cents) -> Total
 {
     let before = total.0;
     let after = before + amount.0;
-    if (after >= -1_000_000_000) & (after <= 1_000_000_000) {
+    if (after >= LEAST_TOTAL) & (after <= MOST_TOTAL) {
         Total::InRange(Cents(after))
     } else {
         Total::OutOfRange

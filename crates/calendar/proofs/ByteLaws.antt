@@ -12,12 +12,13 @@ use mir.Val.{toZ, ofZ, SFits}
 use mir.ValLaws.{toZ-ofZ}
 use Rattle.rules.specs.Lists.{join}
 use Rattle.rules.specs.Bytes.{bytesOf, signedBytesOf}
+use Rattle.rules.specs.Question.{lettersOf}
 use Rattle.rules.specs.Calendar.{Stretch, stretchBytes, stretchesBytes}
 use Rattle.layout.specs.Ensures.{Puts}
 use Rattle.layout.proofs.StoreLaws.{puts-of, puts-then, sets-of, sets-sets}
-use Rattle.stretches.specs.declared.turns.Run.{Run}
-use Rattle.stretches.specs.declared.runs.Runs.{Runs}
-use Rattle.stretches.specs.Runs.{asStretch, noRun}
+use Rattle.stretches.specs.declared.Stretch as Declared
+use Rattle.stretches.specs.declared.Stretches.{Stretches}
+use Rattle.stretches.specs.Stretches.{asStretch, noStretch}
 use Rattle.calendar.specs.Listing.{stretchesIn, Writable}
 
 -- ---- a stretch
@@ -32,23 +33,27 @@ currency-puts s at w x y z h =
 pub unit-puts : (z : ℤ) {a b : List ℕ} {at : ℕ} → SFits w64 z → Puts a at (signedBytesOf 8 (toZ w64 (ofZ w64 z))) b → Puts a at (signedBytesOf 8 z) b
 unit-puts z {a} {b} {at} f p = subst (λ (x : ℤ). Puts a at (signedBytesOf 8 x) b) (toZ-ofZ w64 z f) p
 
-stretch-length : (r : Run) → length (stretchBytes (asStretch r)) ≡ 20
+stretch-length : (r : Declared.Stretch) → length (stretchBytes (asStretch r)) ≡ 20
 stretch-length r = refl
 
-pub run-puts : (r : Run) {a b c d e : List ℕ} {at : ℕ} → Puts a at (bytesOf 4 (r .first .0)) b → Puts b (at + 4) (bytesOf 4 (r .last .0)) c
-    → Puts c (at + 8) (r .refusal ∷ r .currency .0 ∷ r .currency .1 ∷ r .currency .2 ∷ []) d → Puts d (at + 12) (signedBytesOf 8 (r .unit .0)) e → Puts a at (stretchBytes (asStretch r)) e
-run-puts r p q s t = puts-then p refl (puts-then q (omega arith) (puts-then s (omega arith) t))
+pub stretch-puts : (r : Declared.Stretch) {a b c d e : List ℕ} {at : ℕ}
+    → Puts a at (bytesOf 4 (r .first .0)) b
+    → Puts b (at + 4) (bytesOf 4 (r .last .0)) c
+    → Puts c (at + 8) (r .outcome .refusal ∷ lettersOf (r .outcome .currency)) d
+    → Puts d (at + 12) (signedBytesOf 8 (r .outcome .unit .0)) e
+    → Puts a at (stretchBytes (asStretch r)) e
+stretch-puts r p q s t = puts-then p refl (puts-then q (omega arith) (puts-then s (omega arith) t))
 
 -- ---- stretches
 
-module _ (r : Runs) (few : r .n ≤ length (r .list)) where
-  pub runs-count : length (stretchesIn r) ≡ r .n
-  runs-count = length-map (take (r .n) (r .list)) asStretch ∙ length-take-le (r .n) (r .list) few
+module _ (r : Stretches) (few : r .n ≤ length (r .list)) where
+  pub stretches-count : length (stretchesIn r) ≡ r .n
+  stretches-count = length-map (take (r .n) (r .list)) asStretch ∙ length-take-le (r .n) (r .list) few
 
-  runs-next : (i : ℕ) → i < r .n → drop i (stretchesIn r) ≡ asStretch (getD (r .list) i noRun) ∷ drop (i + 1) (stretchesIn r)
-  runs-next i h =
-      let l : i < length (stretchesIn r) = rw runs-count h in
-      drop-cons (stretchesIn r) i (asStretch noRun) l ∙ rw (List·getD-map asStretch (take (r .n) (r .list)) i noRun, getD-take (r .n) (r .list) i noRun h, add-one)
+  stretches-next : (i : ℕ) → i < r .n → drop i (stretchesIn r) ≡ asStretch (getD (r .list) i noStretch) ∷ drop (i + 1) (stretchesIn r)
+  stretches-next i h =
+      let l : i < length (stretchesIn r) = rw stretches-count h in
+      drop-cons (stretchesIn r) i (asStretch noStretch) l ∙ rw (List·getD-map asStretch (take (r .n) (r .list)) i noStretch, getD-take (r .n) (r .list) i noStretch h, add-one)
 
 bytes-cons : (s : Stretch) (ss : List Stretch) → stretchesBytes (s ∷ ss) ≡ stretchBytes s ++ stretchesBytes ss
 unfolding stretchesBytes
@@ -58,31 +63,31 @@ bytes-none : stretchesBytes [] ≡ []
 unfolding stretchesBytes
 bytes-none = refl
 
-pub bytes-length : (rs : List Run) → length (stretchesBytes (map asStretch rs)) ≡ 20 * length rs
+pub bytes-length : (rs : List Declared.Stretch) → length (stretchesBytes (map asStretch rs)) ≡ 20 * length rs
 unfolding stretchesBytes
 bytes-length [] = refl
 bytes-length (r ∷ rs) = length-append (stretchBytes (asStretch r)) (join (map stretchBytes (map asStretch rs))) ∙ omega (arith, stretch-length r, bytes-length rs)
 
 -- the stretches that are left, stored behind those that are there, make up the whole
-pub record Writing (old : List ℕ) (r : Runs) (out : List ℕ) (i : ℕ) : Type 0 where
+pub record Writing (old : List ℕ) (r : Stretches) (out : List ℕ) (i : ℕ) : Type 0 where
   pub place : i ≤ r .n
   pub writable : Writable old r
   pub same : length out ≡ length old
   pub rest : sets out (20 * i) (stretchesBytes (drop i (stretchesIn r))) ≡ sets old 0 (stretchesBytes (stretchesIn r))
 
-pub write-start : {old : List ℕ} {r : Runs} → Writable old r → Writing old r old 0
+pub write-start : {old : List ℕ} {r : Stretches} → Writable old r → Writing old r old 0
 write-start w = record { place = omega arith; writable = w; same = refl; rest = refl }
 
-module _ {old : List ℕ} {r : Runs} {out : List ℕ} {i : ℕ} (inv : Writing old r out i) where
+module _ {old : List ℕ} {r : Stretches} {out : List ℕ} {i : ℕ} (inv : Writing old r out i) where
   few : r .n ≤ length (r .list)
   few = omega (arith, inv .writable .few, inv .writable .long)
 
-  pub write-again : {new : List ℕ} → i < r .n → Puts out (20 * i) (stretchBytes (asStretch (getD (r .list) i noRun))) new → Writing old r new (i + 1)
+  pub write-again : {new : List ℕ} → i < r .n → Puts out (20 * i) (stretchBytes (asStretch (getD (r .list) i noStretch))) new → Writing old r new (i + 1)
   write-again {new} h p =
-      let s : List ℕ = stretchBytes (asStretch (getD (r .list) i noRun)) in
+      let s : List ℕ = stretchBytes (asStretch (getD (r .list) i noStretch)) in
       let ss : List ℕ = stretchesBytes (drop (i + 1) (stretchesIn r)) in
-      let e : 20 * (i + 1) ≡ 20 * i + length s = omega (arith, stretch-length (getD (r .list) i noRun)) in
-      let f : stretchesBytes (drop i (stretchesIn r)) ≡ s ++ ss = ap stretchesBytes (runs-next r few i h) ∙ bytes-cons (asStretch (getD (r .list) i noRun)) (drop (i + 1) (stretchesIn r)) in
+      let e : 20 * (i + 1) ≡ 20 * i + length s = omega (arith, stretch-length (getD (r .list) i noStretch)) in
+      let f : stretchesBytes (drop i (stretchesIn r)) ≡ s ++ ss = ap stretchesBytes (stretches-next r few i h) ∙ bytes-cons (asStretch (getD (r .list) i noStretch)) (drop (i + 1) (stretchesIn r)) in
       record {
         place = omega arith;
         writable = inv .writable;
@@ -97,6 +102,6 @@ module _ {old : List ℕ} {r : Runs} {out : List ℕ} {i : ℕ} (inv : Writing o
 
   pub write-end : r .n ≤ i → Puts old 0 (stretchesBytes (stretchesIn r)) out
   write-end h =
-      let none-left : drop i (stretchesIn r) ≡ [] = drop-of-length-le (stretchesIn r) (let l : length (stretchesIn r) ≤ i = rw (runs-count r few) h in l) in
+      let none-left : drop i (stretchesIn r) ≡ [] = drop-of-length-le (stretchesIn r) (let l : length (stretchesIn r) ≤ i = rw (stretches-count r few) h in l) in
       puts-of (omega (arith, inv .writable .room, bytes-length (take (r .n) (r .list)), length-take-le (r .n) (r .list) few))
       (sym (ap (λ ss. sets out (20 * i) (stretchesBytes ss)) none-left ∙ ap (sets out (20 * i)) bytes-none) ∙ inv .rest)

@@ -19,7 +19,7 @@ use Rattle.layout.specs.Ensures.{Puts}
 use Rattle.calendar.specs.declared.listing.Listing.{Listing}
 use Rattle.calendar.specs.Calls.{CalendarIs}
 use Rattle.calendar.specs.Listing.{within, listing, finished, stretchesIn, listed, ListingIs, refusalOf, RefusalIs, Writable}
-use Rattle.calendar.proofs.ByteLaws.{runs-count, bytes-length}
+use Rattle.calendar.proofs.ByteLaws.{stretches-count, bytes-length}
 
 -- ---- the definition's call in two parts
 
@@ -69,8 +69,8 @@ module _ (listed stretches size room : ℕ) where
 -- `r` refuses, or all is there and fits
 pub record Finished (size : List Stretch → ℕ) (room : ℕ) (o : Result (List Stretch)) (l : Listing) (r : ℕ) : Type 0 where
   pub refuses : (r ≡ 0 → ⊥) → finished size room o ≡ refused r
-  pub answers : r ≡ 0 → finished size room o ≡ done (stretchesIn (l .runs))
-  pub fits : r ≡ 0 → size (stretchesIn (l .runs)) ≤ room
+  pub answers : r ≡ 0 → finished size room o ≡ done (stretchesIn (l .stretches))
+  pub fits : r ≡ 0 → size (stretchesIn (l .stretches)) ≤ room
 
 module _ (size : List Stretch → ℕ) (room : ℕ) (ss : List Stretch) (n : ℕ) where
   ended : (x y z : Bool) → leb (length ss) 1200 ≡ y → leb (size ss) room ≡ z
@@ -81,29 +81,29 @@ module _ (size : List Stretch → ℕ) (room : ℕ) (ss : List Stretch) (n : ℕ
   ended true true false e f = rw (e, f)
   ended true true true e f = rw (e, f)
 
-pub finish : (size : List Stretch → ℕ) {room : ℕ} {o : Result (List Stretch)} {l : Listing} {r k : ℕ} → ListingIs o l → size (stretchesIn (l .runs)) ≡ k → RefusalIs (l .number) (l .runs .n) k room r → Finished size room o l r
+pub finish : (size : List Stretch → ℕ) {room : ℕ} {o : Result (List Stretch)} {l : Listing} {r k : ℕ} → ListingIs o l → size (stretchesIn (l .stretches)) ≡ k → RefusalIs (l .number) (l .stretches .n) k room r → Finished size room o l r
 unfolding refusalOf
 finish size {room} {o} {l} {r} {k} w e f =
-    let count : length (stretchesIn (l .runs)) ≡ l .runs .n = runs-count (l .runs) (omega (arith, w .long, w .few)) in
-    go (eqb (l .number) 0) (leb (length (stretchesIn (l .runs))) 1200) (leb (size (stretchesIn (l .runs))) room) refl refl
-    (ap (finished size room) (w .is) ∙ ended size room (stretchesIn (l .runs)) (l .number) (eqb (l .number) 0) (leb (length (stretchesIn (l .runs))) 1200) (leb (size (stretchesIn (l .runs))) room) refl refl)
+    let count : length (stretchesIn (l .stretches)) ≡ l .stretches .n = stretches-count (l .stretches) (omega (arith, w .long, w .few)) in
+    go (eqb (l .number) 0) (leb (length (stretchesIn (l .stretches))) 1200) (leb (size (stretchesIn (l .stretches))) room) refl refl
+    (ap (finished size room) (w .is) ∙ ended size room (stretchesIn (l .stretches)) (l .number) (eqb (l .number) 0) (leb (length (stretchesIn (l .stretches))) 1200) (leb (size (stretchesIn (l .stretches))) room) refl refl)
     (rw (count, e) (f .is))
   where
-    go : (x y z : Bool) → eqb (l .number) 0 ≡ x → leb (size (stretchesIn (l .runs))) room ≡ z
-        → finished size room o ≡ cond x (cond y (cond z (done (stretchesIn (l .runs))) (refused 7)) (refused 10)) (refused (l .number))
+    go : (x y z : Bool) → eqb (l .number) 0 ≡ x → leb (size (stretchesIn (l .stretches))) room ≡ z
+        → finished size room o ≡ cond x (cond y (cond z (done (stretchesIn (l .stretches))) (refused 7)) (refused 10)) (refused (l .number))
         → r ≡ cond x (cond y (cond z 0 7) 10) (l .number) → Finished size room o l r
     go false y z a b is num =
         let n : l .number ≡ 0 → ⊥ = eqb-false (l .number) 0 a in
         record { refuses = λ h. is ∙ ap refused (sym num); answers = λ h. absurd (n (sym num ∙ h)); fits = λ h. absurd (n (sym num ∙ h)) }
     go true false z a b is num = record { refuses = λ h. is ∙ ap refused (sym num); answers = λ h. absurd (omega arith); fits = λ h. absurd (omega arith) }
     go true true false a b is num = record { refuses = λ h. is ∙ ap refused (sym num); answers = λ h. absurd (omega arith); fits = λ h. absurd (omega arith) }
-    go true true true a b is num = record { refuses = λ h. absurd (h num); answers = λ h. is; fits = λ h. leb-true (size (stretchesIn (l .runs))) room b }
+    go true true true a b is num = record { refuses = λ h. absurd (h num); answers = λ h. is; fits = λ h. leb-true (size (stretchesIn (l .stretches))) room b }
 
 -- ---- as bytes
 
-module _ (b s : List ℕ) (end : ℕ) (lent : List ℕ) {l : Listing} {r : ℕ} (w : ListingIs (listing b s end) l) (f : RefusalIs (l .number) (l .runs .n) (20 * l .runs .n) (length lent) r) where
-  size-is : length (stretchesBytes (stretchesIn (l .runs))) ≡ 20 * l .runs .n
-  size-is = bytes-length (take (l .runs .n) (l .runs .list)) ∙ ap (λ (k : ℕ). 20 * k) (length-take-le (l .runs .n) (l .runs .list) (omega (arith, w .long, w .few)))
+module _ (b s : List ℕ) (end : ℕ) (lent : List ℕ) {l : Listing} {r : ℕ} (w : ListingIs (listing b s end) l) (f : RefusalIs (l .number) (l .stretches .n) (20 * l .stretches .n) (length lent) r) where
+  size-is : length (stretchesBytes (stretchesIn (l .stretches))) ≡ 20 * l .stretches .n
+  size-is = bytes-length (take (l .stretches .n) (l .stretches .list)) ∙ ap (λ (k : ℕ). 20 * k) (length-take-le (l .stretches .n) (l .stretches .list) (omega (arith, w .long, w .few)))
 
   ends : Finished (λ ss. length (stretchesBytes ss)) (length lent) (listing b s end) l r
   ends = finish (λ ss. length (stretchesBytes ss)) w size-is f
@@ -117,15 +117,15 @@ module _ (b s : List ℕ) (end : ℕ) (lent : List ℕ) {l : Listing} {r : ℕ} 
       let is : called ≡ refused r = two-parts stretchesBytes b s end (length lent) ∙ ends .refuses h in
       record { answer = rw is; output = rw is }
 
-  pub calendar-writable : r ≡ 0 → Writable lent (l .runs)
+  pub calendar-writable : r ≡ 0 → Writable lent (l .stretches)
   calendar-writable h = record { long = w .long; few = w .few; room = omega (arith, ends .fits h, size-is) }
 
-  pub calendar-done : r ≡ 0 → {new : List ℕ} → Puts lent 0 (stretchesBytes (stretchesIn (l .runs))) new
-      → CalendarIs b s end lent (record { length = 20 * l .runs .n; number = 0 }) new
+  pub calendar-done : r ≡ 0 → {new : List ℕ} → Puts lent 0 (stretchesBytes (stretchesIn (l .stretches))) new
+      → CalendarIs b s end lent (record { length = 20 * l .stretches .n; number = 0 }) new
   unfolding shownBytes lentAfter
   calendar-done h {new} p =
-      let is : called ≡ done (stretchesIn (l .runs)) = two-parts stretchesBytes b s end (length lent) ∙ ends .answers h in
+      let is : called ≡ done (stretchesIn (l .stretches)) = two-parts stretchesBytes b s end (length lent) ∙ ends .answers h in
       record {
         answer = rw is (λ i. record { length = sym size-is i; number = 0 });
-        output = rw is (p .is ∙ ap (λ (k : ℕ). stretchesBytes (stretchesIn (l .runs)) ++ drop k lent) (zero-add (length (stretchesBytes (stretchesIn (l .runs))))));
+        output = rw is (p .is ∙ ap (λ (k : ℕ). stretchesBytes (stretchesIn (l .stretches)) ++ drop k lent) (zero-add (length (stretchesBytes (stretchesIn (l .stretches))))));
       }

@@ -30,7 +30,7 @@ use Rattle.period.specs.Contracts.{PeriodIs}
 use Rattle.period.specs.Positions.{Dates}
 use Rattle.period.specs.Marks.{MarksAre}
 use Rattle.period.proofs.PositionLaws.{period-dates}
-use Rattle.stretches.specs.declared.runs.Runs.{Runs}
+use Rattle.stretches.specs.declared.Stretches.{Stretches}
 use Rattle.calendar.specs.declared.listing.Listing.{Listing}
 use Rattle.survey.specs.declared.Found.{Found}
 use Rattle.survey.specs.declared.entrance.Entered.{Entered}
@@ -39,7 +39,7 @@ use Rattle.survey.specs.Window.{Windows}
 use Rattle.survey.specs.Survey.{FoundIs}
 use Rattle.survey.specs.Entrance.{EnteredIs}
 use Rattle.survey.proofs.EntranceLaws.{stays-out, goes-in}
-use Rattle.stretches.specs.Runs.{noRun, Marked, RunsAre}
+use Rattle.stretches.specs.Stretches.{noStretch, Marked, Lists}
 use Rattle.calendar.specs.Listing.{within, listing, listed, ListingIs, Refused}
 
 -- ---- the marks
@@ -87,8 +87,8 @@ module _ {b : List ℕ} (s : List ℕ) (ask : Ask) {w : Window} (h : Windows b 5
 
 -- ---- refusals
 
-pub refused-is : {number : ℕ} → 0 < number → Refused number (record { runs = record { list = replicate 1096 noRun; n = 0 }; number = number })
-refused-is {number} h = record { long = length-replicate 1096 noRun; few = omega arith; behind = λ i l. all-same 1096 i noRun; empty = λ z. refl; is = rw (ne-eqb number 0 (λ e. omega arith)) }
+pub refused-is : {number : ℕ} → 0 < number → Refused number (record { stretches = record { list = replicate 1096 noStretch; n = 0 }; number = number })
+refused-is {number} h = record { long = length-replicate 1096 noStretch; few = omega arith; behind = λ i l. all-same 1096 i noStretch; empty = λ z. refl; is = rw (ne-eqb number 0 (λ e. omega arith)) }
 
 -- ---- an accepted book and question
 
@@ -120,8 +120,8 @@ module _ (b s : List ℕ) (ask : Ask) {end : ℕ} {p : Period} (h : PeriodIs (as
     unfolding within
     within-3 k f w = record { long = w .long; few = w .few; behind = w .behind; empty = w .empty; is = rw is-period (article-3 (articleOf (recordsLeft b 5) (askIn s ask .article)) (stretches (outcome (recordsLeft b 5) (askIn s ask)) days) (k .there) f ∙ sym (w .is)) }
 
-    pub within-done : {k : Found} → FoundIs b (askIn s ask .article) (ask .sort) k → k .article ≡ true → {r : Runs} → RunsAre (stretches (outcome (recordsLeft b 5) (askIn s ask)) days) r
-        → ListingIs listed-within (record { runs = r; number = 0 })
+    pub within-done : {k : Found} → FoundIs b (askIn s ask .article) (ask .sort) k → k .article ≡ true → {r : Stretches} → Lists (stretches (outcome (recordsLeft b 5) (askIn s ask)) days) r
+        → ListingIs listed-within (record { stretches = r; number = 0 })
     unfolding within
     within-done k f w = record { long = w .long; few = w .few; behind = w .behind; empty = λ z. absurd (z refl); is = rw is-period (article-there (articleOf (recordsLeft b 5) (askIn s ask .article)) (stretches (outcome (recordsLeft b 5) (askIn s ask)) days) (k .there) f ∙ ap done (sym (w .is))) }
 

@@ -16,7 +16,7 @@ use Rattle.rules.specs.Book.{Record, ArticleRecord, PriceRecord, RoundingRecord
 use Rattle.rules.specs.BookLayout.{records, kinded, priceBody, valueOf, inBounds}
 use Rattle.rules.specs.Question.{Question, questionOf, on, dateAt, redated}
 use Rattle.rules.specs.Refusals.{Result, done, refused, _>>=_ as then, orRefuse, refuseUnless, numberOf}
-use Rattle.rules.specs.Lines.{Line, total, amounts, linesOf, ofBase, Chosen, chosen, totalOf}
+use Rattle.rules.specs.Lines.{Line, total, amounts, linesOf, ofBase, Chosen, chosen, mostTotal, totalOf}
 use Rattle.rules.specs.Price.{Priced, Answer, priced, answerOf, written, price, shown, inOneCurrency, inRange}
 use Rattle.rules.specs.Calendar.{outcomeOf, outcome}
 use Rattle.rules.proofs.ListLaws.{All, Holds, first-holds}
@@ -131,17 +131,17 @@ module _ (b : List ℕ) {book : List Record} (e : records b ≡ some book) where
       subst (λ (k : Priced). length (k .currency) ≡ 3) i
       (first-lettered q (first ofBase (linesOf book q)) (first-holds (λ l. ThreeLetters (l .row)) ofBase (linesOf book q) (lines-lettered q)) (or-done 4 (first ofBase (linesOf book q)) (x .1)))
 
-  priced-near : (q : Question) {p : Priced} → priced book q ≡ done p → natAbs (total (p .lines)) ≤ 1_000_000_000
+  priced-near : (q : Question) {p : Priced} → priced book q ≡ done p → natAbs (total (p .lines)) ≤ mostTotal
   unfolding total
   priced-near q {p} h =
       let x = priced-range book q h in
       rw (total-is-sum (amounts (p .lines)) (x .0) (x .1)) (total-in-range (amounts (p .lines)) (x .0) (x .1))
 
   -- so an outcome's currency is three bytes, and its unit total is in range
-  pub outcome-fits : (q : Question) (d : ℕ) → (length (outcome book q d .currency) ≡ 3) × (natAbs (outcome book q d .unit) ≤ 1_000_000_000)
+  pub outcome-fits : (q : Question) (d : ℕ) → (length (outcome book q d .currency) ≡ 3) × (natAbs (outcome book q d .unit) ≤ mostTotal)
   unfolding outcome outcomeOf
   outcome-fits q d = go (priced book (on q d)) refl
     where
-      go : (x : Result Priced) → priced book (on q d) ≡ x → (length (outcomeOf x .currency) ≡ 3) × (natAbs (outcomeOf x .unit) ≤ 1_000_000_000)
+      go : (x : Result Priced) → priced book (on q d) ≡ x → (length (outcomeOf x .currency) ≡ 3) × (natAbs (outcomeOf x .unit) ≤ mostTotal)
       go (done p) h = (priced-lettered (on q d) h, priced-near (on q d) h)
       go (refused n) h = (refl, omega arith)

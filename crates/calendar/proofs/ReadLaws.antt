@@ -5,6 +5,7 @@ use mathlib.Core.List.{List, [], _∷_, _++_, append-assoc}
 use native.Mathlib.Omega.{arith}
 use lib.IntN.{natAbs}
 use lib.ListN.{length, drop}
+use Rattle.rules.specs.Lines.{mostTotal}
 use Rattle.rules.specs.Calendar.{Stretch, stretchBytes, stretchesBytes}
 use Rattle.rules.proofs.ListLaws.{All}
 use Rattle.layout.proofs.StoreLaws.{number-back, fits-near, bytes-back}
@@ -15,13 +16,14 @@ pub record Readable (s : Stretch) : Type 0 where
   pub first : s .first < 4294967296
   pub last : s .last < 4294967296
   pub letters : length (s .outcome .currency) ≡ 3
-  pub unit : natAbs (s .outcome .unit) ≤ 1_000_000_000
+  pub unit : natAbs (s .outcome .unit) ≤ mostTotal
+
+-- a stretch with other letters
+abbrev pub lettered : Stretch → List ℕ → Stretch
+lettered s c = record { first = s .first; last = s .last; outcome = record { refusal = s .outcome .refusal; currency = c; unit = s .outcome .unit } }
 
 module _ (s : Stretch) (rest : List ℕ) (w : Readable s) where
-  abbrev lettered : List ℕ → Stretch
-  lettered c = record { first = s .first; last = s .last; outcome = record { refusal = s .outcome .refusal; currency = c; unit = s .outcome .unit } }
-
-  stretch-back : (c : List ℕ) → length c ≡ 3 → (stretchIn (stretchBytes (lettered c) ++ rest) ≡ lettered c) × (drop 20 (stretchBytes (lettered c) ++ rest) ≡ rest)
+  stretch-back : (c : List ℕ) → length c ≡ 3 → (stretchIn (stretchBytes (lettered s c) ++ rest) ≡ lettered s c) × (drop 20 (stretchBytes (lettered s c) ++ rest) ≡ rest)
   stretch-back [] e = absurd (omega arith)
   stretch-back (x ∷ []) e = absurd (omega arith)
   stretch-back (x ∷ y ∷ []) e = absurd (omega arith)

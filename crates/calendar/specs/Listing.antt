@@ -10,13 +10,11 @@ use Rattle.rules.specs.BookLayout.{records}
 use Rattle.rules.specs.Question.{Question, questionOf}
 use Rattle.rules.specs.Refusals.{Result, done, refused, _>>=_, orRefuse, refuseUnless}
 use Rattle.rules.specs.Calendar.{Stretch, stretches, outcome, periodTo, mostDays}
-use Rattle.rules.specs.Calendar.{listed as recorded}
-use Rattle.rules.specs.declared.Written.{Written}
-use Rattle.rules.specs.declared.Stretch as Declared
-use Rattle.stretches.specs.declared.turns.Run.{Run}
-use Rattle.stretches.specs.declared.runs.Runs.{Runs}
+use Rattle.rules.specs.declared.CalendarAnswer.{CalendarAnswer}
+use Rattle.stretches.specs.declared.Stretch as Declared
+use Rattle.stretches.specs.declared.Stretches.{Stretches}
 use Rattle.calendar.specs.declared.listing.Listing.{Listing}
-use Rattle.stretches.specs.Runs.{asStretch, noRun}
+use Rattle.stretches.specs.Stretches.{asStretch, noStretch}
 
 -- ---- what is listed
 
@@ -44,26 +42,26 @@ finished size room o = do
 
 -- ---- as the code has it
 
-abbrev pub stretchesIn : Runs → List Stretch
+abbrev pub stretchesIn : Stretches → List Stretch
 stretchesIn r = map asStretch (take (r .n) (r .list))
 
 abbrev pub listed : Listing → Result (List Stretch)
-listed r = cond (eqb (r .number) 0) (done (stretchesIn (r .runs))) (refused (r .number))
+listed r = cond (eqb (r .number) 0) (done (stretchesIn (r .stretches))) (refused (r .number))
 
 -- `r` lists what it should, or refuses; nothing stands behind what is listed
 pub record ListingIs (o : Result (List Stretch)) (r : Listing) : Type 0 where
-  pub long : length (r .runs .list) ≡ mostDays
-  pub few : r .runs .n ≤ mostDays
-  pub behind : (i : ℕ) → r .runs .n ≤ i → getD (r .runs .list) i noRun ≡ noRun
-  pub empty : (r .number ≡ 0 → ⊥) → r .runs .n ≡ 0
+  pub long : length (r .stretches .list) ≡ mostDays
+  pub few : r .stretches .n ≤ mostDays
+  pub behind : (i : ℕ) → r .stretches .n ≤ i → getD (r .stretches .list) i noStretch ≡ noStretch
+  pub empty : (r .number ≡ 0 → ⊥) → r .stretches .n ≡ 0
   pub is : o ≡ listed r
 
 -- `r` refuses with this number
 pub record Refused (number : ℕ) (r : Listing) : Type 0 where
-  pub long : length (r .runs .list) ≡ mostDays
-  pub few : r .runs .n ≤ mostDays
-  pub behind : (i : ℕ) → r .runs .n ≤ i → getD (r .runs .list) i noRun ≡ noRun
-  pub empty : (r .number ≡ 0 → ⊥) → r .runs .n ≡ 0
+  pub long : length (r .stretches .list) ≡ mostDays
+  pub few : r .stretches .n ≤ mostDays
+  pub behind : (i : ℕ) → r .stretches .n ≤ i → getD (r .stretches .list) i noStretch ≡ noStretch
+  pub empty : (r .number ≡ 0 → ⊥) → r .stretches .n ≡ 0
   pub is : listed r ≡ refused number
 
 -- ---- whether they fit
@@ -76,31 +74,27 @@ pub record RefusalIs (listed stretches size room r : ℕ) : Type 0 where
   pub is : r ≡ refusalOf listed stretches size room
 
 -- there is room for these
-pub record Writable (out : List ℕ) (r : Runs) : Type 0 where
+pub record Writable (out : List ℕ) (r : Stretches) : Type 0 where
   pub long : length (r .list) ≡ mostDays
   pub few : r .n ≤ mostDays
   pub room : 20 * r .n ≤ length out
 
 -- ---- as a list of records
 
--- the record of a stretch
-abbrev pub recordOf : Run → Declared.Stretch
-recordOf r = recorded (asStretch r)
+-- the i-th stretch of a listing
+abbrev pub stretchOf : Listing → ℕ → Declared.Stretch
+stretchOf l i = getD (l .stretches .list) i noStretch
 
-pub record RecordAt (l : Listing) (i : ℕ) (r : Declared.Stretch) : Type 0 where
-  pub is : r ≡ recordOf (getD (l .runs .list) i noRun)
+pub record StretchAt (l : Listing) (i : ℕ) (r : Declared.Stretch) : Type 0 where
+  pub is : r ≡ stretchOf l i
 
 -- how many are handed over, where there is room for so many
-pub record ListAnswer (l : Listing) (room : ℕ) (r : Written) : Type 0 where
+pub record ListAnswer (l : Listing) (room : ℕ) (r : CalendarAnswer) : Type 0 where
   pub refuses : (r .number ≡ 0 → ⊥) → r .length ≡ 0
-  pub answers : r .number ≡ 0 → r .length ≡ l .runs .n
-  pub number : RefusalIs (l .number) (l .runs .n) (l .runs .n) room (r .number)
+  pub answers : r .number ≡ 0 → r .length ≡ l .stretches .n
+  pub number : RefusalIs (l .number) (l .stretches .n) (l .stretches .n) room (r .number)
 
 -- the first n elements are what g says, and the others are as in ys
 abbrev pub filled : List Declared.Stretch → (ℕ → Declared.Stretch) → ℕ → List Declared.Stretch
 filled ys g zero = ys
 filled ys g (suc i) = set (filled ys g i) i (g i)
-
--- the records of a listing
-abbrev pub recordIn : Listing → ℕ → Declared.Stretch
-recordIn l i = recordOf (getD (l .runs .list) i noRun)

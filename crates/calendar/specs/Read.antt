@@ -5,7 +5,8 @@ use lib.ListN.{take, drop, getD}
 use Rattle.rules.specs.Bytes.{big, signedOf}
 use Rattle.rules.specs.Calendar.{Outcome, Stretch}
 use Rattle.rules.specs.declared.PriceAnswer.{PriceAnswer}
-use Rattle.rules.specs.declared.Stretch as Declared
+use Rattle.stretches.specs.declared.Stretch as Declared
+use Rattle.stretches.specs.Stretches.{asStretch}
 
 abbrev pub stretchIn : List ℕ → Stretch
 stretchIn s = record {
@@ -18,11 +19,8 @@ abbrev pub readStretches : ℕ → List ℕ → List Stretch
 readStretches zero s = []
 readStretches (suc n) s = stretchIn s ∷ readStretches n (drop 20 s)
 
-abbrev pub stretchOf : Declared.Stretch → Stretch
-stretchOf r = record { first = r .first; last = r .last; outcome = record { refusal = r .refusal; currency = r .currency; unit = r .unit } }
-
 abbrev pub listedStretches : ℕ → List Declared.Stretch → List Stretch
-listedStretches n l = map stretchOf (take n l)
+listedStretches n l = map asStretch (take n l)
 
 abbrev pub outcomeIn : PriceAnswer → Outcome
 outcomeIn a = record { refusal = a .number; currency = a .currency; unit = a .unit }

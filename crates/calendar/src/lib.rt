@@ -3,9 +3,9 @@ mod bytes;
 pub mod list;
 pub mod listing;
 
-use crate::bytes::write_runs;
+use crate::bytes::write_stretches;
 use crate::listing::listing_of;
-use rules::Written;
+use rules::CalendarAnswer;
 ghost use Rattle.calendar.specs.Calls.{CalendarIs};
 ghost use Rattle.calendar.specs.Listing.{RefusalIs};
 
@@ -23,18 +23,18 @@ fn refusal(listed: u8, stretches: usize, size: usize, room: usize) -> u8
 }
 
 // The calendar from the question's date to `end`, 20 bytes for a stretch. All is found before the first byte is written.
-pub fn calendar(book: &[u8], question: &[u8], end: u32, out: &mut [u8]) -> Written
+pub fn calendar(book: &[u8], question: &[u8], end: u32, out: &mut [u8]) -> CalendarAnswer
     ensures { λ r. ⌜ CalendarIs (now (book .entry)) (now (question .entry)) end (now (out .entry)) r (now (out .exit)) ⌝ }
 {
     let listing = listing_of(book, question, end);
-    let runs = listing.runs;
-    let size = 20 * runs.n;
-    let number = refusal(listing.number, runs.n, size, out.len());
+    let stretches = listing.stretches;
+    let size = 20 * stretches.n;
+    let number = refusal(listing.number, stretches.n, size, out.len());
     if number != 0 {
-        return Written { length: 0, number };
+        return CalendarAnswer { length: 0, number };
     }
-    write_runs(out, runs);
-    Written {
+    write_stretches(out, stretches);
+    CalendarAnswer {
         length: size as u64,
         number: 0,
     }

@@ -1,40 +1,32 @@
 // What is handed over where the stretches go out as a list of records. The list itself is filled by crate plugin.
 use crate::listing::Listing;
 use crate::refusal;
-use rules::Stretch;
-use rules::Written;
+use rules::CalendarAnswer;
+use stretches::Stretch;
 ghost use Prim.Native.Nat.{_<_};
-ghost use Rattle.calendar.specs.Listing.{RecordAt, ListAnswer};
+ghost use Rattle.calendar.specs.Listing.{StretchAt, ListAnswer};
 
 // How many records the call hands over, and its number.
-pub fn list_answer(listing: Listing, room: usize) -> Written
+pub fn list_answer(listing: Listing, room: usize) -> CalendarAnswer
     ensures { λ r. ⌜ ListAnswer listing room r ⌝ }
 {
-    let runs = listing.runs;
-    let number = refusal(listing.number, runs.n, runs.n, room);
+    let n = listing.stretches.n;
+    let number = refusal(listing.number, n, n, room);
     if number != 0 {
-        return Written { length: 0, number };
+        return CalendarAnswer { length: 0, number };
     }
-    Written {
-        length: runs.n as u64,
+    CalendarAnswer {
+        length: n as u64,
         number: 0,
     }
 }
 
-// The record of the i-th stretch.
-pub fn record_at(listing: Listing, i: usize) -> Stretch
+// The i-th stretch is itself the record that is handed over.
+pub fn stretch_at(listing: Listing, i: usize) -> Stretch
     requires { ⌜ i < 1096 ⌝ }
-    ensures { λ r. ⌜ RecordAt listing i r ⌝ }
+    ensures { λ r. ⌜ StretchAt listing i r ⌝ }
 {
-    let runs = listing.runs;
-    let list = runs.list;
-    let run = list[i];
-    let letters = run.currency;
-    Stretch {
-        first: run.first.0,
-        last: run.last.0,
-        unit: run.unit.0,
-        refusal: run.refusal,
-        currency: [letters.0, letters.1, letters.2],
-    }
+    let stretches = listing.stretches;
+    let list = stretches.list;
+    list[i]
 }

@@ -2,9 +2,9 @@
 use period::marks::marks_of;
 use period::period_to;
 use question::Ask;
-use stretches::runs::NO_RUN;
-use stretches::runs::Runs;
-use stretches::runs::runs_of;
+use stretches::NO_STRETCH;
+use stretches::Stretches;
+use stretches::walk::stretches_of;
 use survey::Found;
 use survey::entrance::enter;
 use survey::window::Window;
@@ -20,12 +20,12 @@ ghost use Rattle.choice.specs.Walk.{Asking};
 ghost use Rattle.survey.specs.Window.{Windows};
 ghost use Rattle.survey.specs.Survey.{FoundIs};
 ghost use Rattle.period.specs.Positions.{Dates};
-ghost use Rattle.stretches.specs.Runs.{RunsAre};
+ghost use Rattle.stretches.specs.Stretches.{Lists};
 ghost use Rattle.calendar.specs.Listing.{listing, within, Refused, ListingIs};
 
 // With a number other than 0 nothing is listed.
 pub struct Listing {
-    pub runs: Runs,
+    pub stretches: Stretches,
     pub number: u8,
 }
 
@@ -33,27 +33,27 @@ pub fn refused(number: u8) -> Listing
     requires { ⌜ 0 < number ⌝ }
     ensures { λ r. ⌜ Refused number r ⌝ }
 {
-    let runs = Runs {
-        list: [NO_RUN; 1096],
+    let stretches = Stretches {
+        list: [NO_STRETCH; 1096],
         n: 0,
     };
-    Listing { runs, number }
+    Listing { stretches, number }
 }
 
 // The stretches of these dates: the days of change are marked once, and only they are priced.
-fn runs_in(book: &[u8], question: &[u8], ask: Ask, window: Window, dates: &[u32]) -> Runs
+fn stretches_in(book: &[u8], question: &[u8], ask: Ask, window: Window, dates: &[u32]) -> Stretches
     requires { ⌜ Asking (now question) ask ⌝ }
     requires { ⌜ Windows (now book) 5 (askIn (now question) ask .article) (ask .sort) window ⌝ }
     requires { ⌜ Dates (now dates) ⌝ }
     requires { ⌜ 0 < length (now dates) ⌝ }
-    ensures { λ r. ⌜ RunsAre (stretches (outcome (recordsLeft (now (book .entry)) 5) (askIn (now (question .entry)) ask)) (now (dates .entry))) r ⌝ }
+    ensures { λ r. ⌜ Lists (stretches (outcome (recordsLeft (now (book .entry)) 5) (askIn (now (question .entry)) ask)) (now (dates .entry))) r ⌝ }
 {
     let last = window.last;
     let article = ask.article;
     let from = article.at;
     let to = from + article.size;
     let marks = marks_of(&book[..last], window.first, &question[from..to], ask.sort, dates);
-    runs_of(book, window, question, ask, dates, marks)
+    stretches_of(book, window, question, ask, dates, marks)
 }
 
 // For an accepted book and question.
@@ -71,8 +71,11 @@ fn listing_within(book: &[u8], found: Found, question: &[u8], ask: Ask, end: u32
     if found.article {
         let dates = period.dates;
         let window = found.window;
-        let runs = runs_in(book, question, ask, window, &dates[..n]);
-        return Listing { runs, number: 0 };
+        let stretches = stretches_in(book, question, ask, window, &dates[..n]);
+        return Listing {
+            stretches,
+            number: 0,
+        };
     }
     refused(3)
 }

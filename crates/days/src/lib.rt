@@ -5,6 +5,7 @@ ghost use mathlib.Core.Bool.{true, cond};
 ghost use Rattle.rules.specs.Days.{firstDay, lastDay, leap, daysIn, isDay, next};
 
 // A day, by its number yyyymmdd.
+#[repr(C)]
 pub struct Day(pub u32);
 
 // Every fourth year is a leap year, but of the full hundreds only every fourth.

@@ -11,7 +11,7 @@ use lib.ListN.{length, take, drop, getD, set, replicate, length-set}
 use lib.Seq.{take-suc-set}
 use Rattle.rules.specs.Lists.{any}
 use Rattle.rules.specs.Amounts.{exact, rounded}
-use Rattle.rules.specs.Lines.{totalOf}
+use Rattle.rules.specs.Lines.{mostTotal, totalOf}
 use Rattle.rules.specs.declared.Cents.{Cents}
 use Rattle.rules.specs.declared.Fraction.{Fraction}
 use Rattle.rules.specs.declared.Total.the-variants.{InRange, OutOfRange}
@@ -33,7 +33,7 @@ one-in false a b r most o h k = rw (o .is) k
 
 module _ (v : View) (base total : ℤ) (on : LineOn v base total) (t : Bool) (of : ℤ) (is : OneOfTwo t base total of) where
   pub share-of : BookValue (v .value) of
-  share-of = record { value-in = on .sound .value-in; of-in = one-in t base total of 1_000_000_000 is (on .base-in) (on .total-in) }
+  share-of = record { value-in = on .sound .value-in; of-in = one-in t base total of mostTotal is (on .base-in) (on .total-in) }
 
   module _ (x : Fraction) (e : ExactAmount (v .value) of x) where
     pub can-round : Roundable (v .rounding) x
@@ -121,15 +121,15 @@ pub record Listing (picks : List Pick) (n : ℕ) (listed : List Cents) (base tot
   pub room : length listed ≡ 99
   pub each-in : (k : ℕ) → natAbs (getD listed k noCents .0) ≤ mostAmount
   pub behind : (k : ℕ) → i ≤ k → getD listed k noCents ≡ noCents
-  pub base-in : natAbs base ≤ 1_000_000_000
-  pub total-in : natAbs total ≤ 1_000_000_000
+  pub base-in : natAbs base ≤ mostTotal
+  pub total-in : natAbs total ≤ mostTotal
   pub sound : All Sound (drop i (viewsIn picks n))
   pub base-first : baseFirst (drop i (viewsIn picks n)) ≡ true
   pub level : any isBase (drop i (viewsIn picks n)) ≡ true → base ≡ total
   pub left : amountsIn listed i ++ amountsFrom base total (drop i (viewsIn picks n)) ≡ amountsOf (viewsIn picks n)
   pub to-add : totalFrom total (amountsFrom base total (drop i (viewsIn picks n))) ≡ totalOf (amountsOf (viewsIn picks n))
 
-pub can-add : {v : View} {base total : ℤ} {r : Cents} → natAbs total ≤ 1_000_000_000 → LineAmount v base total r → Addable total (r .0)
+pub can-add : {v : View} {base total : ℤ} {r : Cents} → natAbs total ≤ mostTotal → LineAmount v base total r → Addable total (r .0)
 can-add h a = record { total-in = h; amount-in = omega (arith, a .near) }
 
 view-amounts : (base total : ℤ) (v : View) (vs : List View)
@@ -214,7 +214,7 @@ module _ (picks : List Pick) (n : ℕ) where
                 room = length-set listed i r ∙ inv .room;
                 each-in = stored-in listed i r (inv .each-in) (a .near);
                 behind = λ k g. behind-store listed i r noCents (λ j f. inv .behind j (omega arith)) k (omega arith);
-                base-in = one-in (isBase here) (after .0) base base′ 1_000_000_000 o (after-in-range total (r .0) after e) (inv .base-in);
+                base-in = one-in (isBase here) (after .0) base base′ mostTotal o (after-in-range total (r .0) after e) (inv .base-in);
                 total-in = after-in-range total (r .0) after e;
                 sound = subst (All Sound) next (inv .sound) .1;
                 base-first = first-on (isBase here) (any isBase behind) (baseFirst behind) (none-first behind) firsts;

@@ -7,6 +7,7 @@ use native.Mathlib.Numerals.{add-one}
 use lib.IntN.{ℤ}
 use lib.ListN.{length, drop, getD, set, length-append}
 use lib.Seq.{sets}
+use Rattle.rules.specs.Lines.{lineSize}
 use Rattle.rules.specs.Bytes.{bytesOf, signedBytesOf}
 use Rattle.rules.specs.declared.Cents.{Cents}
 use Rattle.layout.specs.Ensures.{Puts}
@@ -22,7 +23,7 @@ pub pair-puts : (s : List ℕ) (at x y : ℕ) → at + 2 ≤ length s → Puts s
 pair-puts s at x y h = puts-of h (ap (λ (i : ℕ). set (set s at x) i y) (add-one at))
 
 module _ (v : View) (z : ℤ) where
-  pub line-length : length (viewBytes v z) ≡ 14
+  pub line-length : length (viewBytes v z) ≡ lineSize
   line-length = refl
 
   pub line-puts : {a b c d : List ℕ} {at : ℕ} → Puts a at (bytesOf 4 (v .text)) b → Puts b (at + 4) (v .level ∷ v .place ∷ []) c
@@ -31,7 +32,7 @@ module _ (v : View) (z : ℤ) where
 
 -- ---- lines
 
-pub lines-length : (vs : List View) (zs : List ℤ) → length zs ≡ length vs → length (viewsBytes vs zs) ≡ 14 * length vs
+pub lines-length : (vs : List View) (zs : List ℤ) → length zs ≡ length vs → length (viewsBytes vs zs) ≡ lineSize * length vs
 unfolding viewsBytes
 lines-length [] zs e = refl
 lines-length (v ∷ vs) [] e = absurd (omega arith)
@@ -53,23 +54,23 @@ pub record Writing (old : List ℕ) (picks : List Pick) (amounts : List Cents) (
   pub place : i ≤ n
   pub long : n ≤ length picks
   pub long₂ : n ≤ length amounts
-  pub room : 14 * n ≤ length old
+  pub room : lineSize * n ≤ length old
   pub same : length out ≡ length old
-  pub rest : sets out (14 * i) (viewsBytes (drop i (viewsIn picks n)) (drop i (amountsIn amounts n))) ≡ sets old 0 (viewsBytes (viewsIn picks n) (amountsIn amounts n))
+  pub rest : sets out (lineSize * i) (viewsBytes (drop i (viewsIn picks n)) (drop i (amountsIn amounts n))) ≡ sets old 0 (viewsBytes (viewsIn picks n) (amountsIn amounts n))
 
 module _ (old : List ℕ) (picks : List Pick) (amounts : List Cents) (n : ℕ) where
   pub write-start : n ≤ length picks → n ≤ length amounts → Writable old amounts n → Writing old picks amounts n old 0
   write-start k l g = record { place = omega arith; long = k; long₂ = l; room = g .room; same = refl; rest = refl }
 
   module _ (out : List ℕ) (i : ℕ) (inv : Writing old picks amounts n out i) where
-    pub write-again : {new : List ℕ} → i < n → Puts out (14 * i) (viewBytes (viewIn (getD picks i noPick)) (getD amounts i noCents .0)) new
+    pub write-again : {new : List ℕ} → i < n → Puts out (lineSize * i) (viewBytes (viewIn (getD picks i noPick)) (getD amounts i noCents .0)) new
         → Writing old picks amounts n new (i + 1)
     write-again {new} h p =
         let v : View = viewIn (getD picks i noPick) in
         let z : ℤ = getD amounts i noCents .0 in
         let vs : List View = drop (i + 1) (viewsIn picks n) in
         let zs : List ℤ = drop (i + 1) (amountsIn amounts n) in
-        let e : 14 * (i + 1) ≡ 14 * i + length (viewBytes v z) = omega (arith, line-length v z) in
+        let e : lineSize * (i + 1) ≡ lineSize * i + length (viewBytes v z) = omega (arith, line-length v z) in
         let f : viewsBytes (drop i (viewsIn picks n)) (drop i (amountsIn amounts n)) ≡ viewBytes v z ++ viewsBytes vs zs =
         rw (next-view picks n i h (inv .long), next-amount amounts n i h (inv .long₂)) (cons-bytes v z vs zs) in
         record {
@@ -80,9 +81,9 @@ module _ (old : List ℕ) (picks : List Pick) (amounts : List Cents) (n : ℕ) w
           same = p .long ∙ inv .same;
           rest =
               ap (λ (j : ℕ). sets new j (viewsBytes vs zs)) e
-              ∙ ap (λ s. sets s (14 * i + length (viewBytes v z)) (viewsBytes vs zs)) (sets-of p)
-              ∙ sets-sets (viewBytes v z) (viewsBytes vs zs) out (14 * i)
-              ∙ ap (sets out (14 * i)) (sym f)
+              ∙ ap (λ s. sets s (lineSize * i + length (viewBytes v z)) (viewsBytes vs zs)) (sets-of p)
+              ∙ sets-sets (viewBytes v z) (viewsBytes vs zs) out (lineSize * i)
+              ∙ ap (sets out (lineSize * i)) (sym f)
               ∙ inv .rest;
         }
 
@@ -92,4 +93,4 @@ module _ (old : List ℕ) (picks : List Pick) (amounts : List Cents) (n : ℕ) w
         let b : length (viewsIn picks n) ≡ n = views-count picks n (inv .long) in
         let e : viewsBytes (drop i (viewsIn picks n)) (drop i (amountsIn amounts n)) ≡ [] = rw (views-end picks n i (inv .long) h) (no-bytes (drop i (amountsIn amounts n))) in
         puts-of (omega (arith, inv .room, lines-length (viewsIn picks n) (amountsIn amounts n) (a ∙ sym b)))
-        (sym (ap (sets out (14 * i)) e) ∙ inv .rest)
+        (sym (ap (sets out (lineSize * i)) e) ∙ inv .rest)

@@ -10,8 +10,8 @@ use borrow.Author.Tests.{lt-ltb, le-ltb}
 use Rattle.rules.specs.Lists.{first}
 use Rattle.rules.specs.Book.{Record, rows, roundings}
 use Rattle.rules.specs.BookLayout.{inBounds}
-use Rattle.rules.specs.Question.{Question}
-use Rattle.rules.specs.Lines.{chosen, Line, amounts, total, ofBase, linesOf, totalOf, linesBytes}
+use Rattle.rules.specs.Question.{Question, lettersOf}
+use Rattle.rules.specs.Lines.{chosen, Line, amounts, total, ofBase, linesOf, totalOf, lineSize, linesBytes}
 use Rattle.rules.specs.Refusals.{Result, done, refused, _>>=_, orRefuse, refuseUnless}
 use Rattle.rules.specs.Price.{Priced, priced, inOneCurrency, inRange}
 use Rattle.rules.specs.Amounts.{SoundRounding}
@@ -24,7 +24,7 @@ use Rattle.layout.specs.Ensures.{Says}
 use Rattle.amounts.proofs.TotalLaws.{total-is-sum}
 use Rattle.lines.specs.declared.Pick.{Pick}
 use Rattle.lines.specs.declared.Listed.{Listed}
-use Rattle.lines.specs.Views.{View, viewOf, viewIn, viewsIn, noPick, letters, isBase, baseFirst, oneCurrency, amountsOf, amountsIn, viewsBytes}
+use Rattle.lines.specs.Views.{View, viewOf, viewIn, viewsIn, noPick, isBase, baseFirst, oneCurrency, amountsOf, amountsIn, viewsBytes}
 use Rattle.lines.specs.Contracts.{StandFor, FirstBase, Sound, Listable, ListedIs}
 use Rattle.lines.proofs.WalkLaws.{views-count}
 use Rattle.lines.proofs.ViewLaws.{run-amounts, run-base, run-currency, run-places, run-bytes}
@@ -80,11 +80,11 @@ module _ (book : List Record) (q : Question) (picks : List Pick) (n : ℕ) (stan
       ∙ ap (λ vs. viewsBytes vs (amountsOf (viewsIn picks n))) (sym (stand .is))
 
   -- The lines of n picks are written in 14 n bytes.
-  pub bytes-count : n ≤ length picks → length (linesBytes (linesOf book q)) ≡ 14 * n
+  pub bytes-count : n ≤ length picks → length (linesBytes (linesOf book q)) ≡ lineSize * n
   bytes-count k =
       ap length line-bytes
       ∙ lines-length (viewsIn picks n) (amountsOf (viewsIn picks n)) (ap length (sym line-amounts) ∙ (length-map (linesOf book q) (λ l. l .amount) ∙ (line-count k ∙ sym (views-count picks n k))))
-      ∙ ap (λ (m : ℕ). 14 * m) (views-count picks n k)
+      ∙ ap (λ (m : ℕ). lineSize * m) (views-count picks n k)
 
   -- Picks of rows and roundings in bounds have amounts that can be listed.
   pub can-list : n ≤ 99 → All (λ r. inBounds (r .value) ≡ true) (rows book) → All SoundRounding (roundings book) → Listable picks n
@@ -118,12 +118,12 @@ module _ (book : List Record) (q : Question) (picks : List Pick) (n : ℕ) (stan
     module _ (h : r < n) where
       -- the base currency is that of row r
       from-base : priced book q
-          ≡ pricedAs (linesOf book q) (oneCurrency (letters (getD picks r noPick .currency)) (viewsIn picks n)) (totalOf (amountsOf (viewsIn picks n))) (letters (getD picks r noPick .currency))
+          ≡ pricedAs (linesOf book q) (oneCurrency (lettersOf (getD picks r noPick .currency)) (viewsIn picks n)) (totalOf (amountsOf (viewsIn picks n))) (lettersOf (getD picks r noPick .currency))
       from-base =
           let e : first isBase (viewsIn picks n) ≡ some (viewIn (getD picks r noPick)) = b .is ∙ rw (lt-ltb r n h) in
           priced-views ∙ rw e
 
-      module _ (one : Bool) (c : Says (oneCurrency (letters (getD picks r noPick .currency)) (viewsIn picks n)) one) where
+      module _ (one : Bool) (c : Says (oneCurrency (lettersOf (getD picks r noPick .currency)) (viewsIn picks n)) one) where
         pub price-5 : one ≡ false → priced book q ≡ refused 5
         price-5 f = from-base ∙ rw (c .is, f)
 
@@ -132,7 +132,7 @@ module _ (book : List Record) (q : Question) (picks : List Pick) (n : ℕ) (stan
           price-6 o = from-base ∙ rw (c .is, t, ← is .total, o)
 
           module _ (unit : Cents) (u : l .total ≡ InRange unit) where
-            pub price-done : priced book q ≡ done (record { lines = linesOf book q; currency = letters (getD picks r noPick .currency) })
+            pub price-done : priced book q ≡ done (record { lines = linesOf book q; currency = lettersOf (getD picks r noPick .currency) })
             price-done = from-base ∙ rw (c .is, t, ← is .total, u)
 
   -- what the listed amounts come to, and the bytes with them

@@ -11,7 +11,7 @@ use borrow.Author.Tests.{lt-ltb, le-ltb}
 use Rattle.rules.specs.Lists.{first}
 use Rattle.rules.specs.Lines.{totalOf}
 use Rattle.rules.specs.Book.{Record}
-use Rattle.rules.specs.Question.{Question}
+use Rattle.rules.specs.Question.{Question, lettersOf}
 use Rattle.rules.specs.Refusals.{refused}
 use Rattle.rules.specs.Price.{priced}
 use Rattle.rules.specs.declared.Cents.{Cents}
@@ -24,7 +24,7 @@ use Rattle.amounts.proofs.TotalLaws.{total-in-range}
 use Rattle.lines.specs.declared.Pick.{Pick}
 use Rattle.lines.specs.declared.Listed.{Listed}
 use Rattle.lines.specs.declared.verdict.Verdict.{Verdict}
-use Rattle.lines.specs.Views.{viewIn, viewsIn, noPick, letters, isBase, oneCurrency, amountsOf, noCents}
+use Rattle.lines.specs.Views.{viewIn, viewsIn, noPick, isBase, oneCurrency, amountsOf, noCents}
 use Rattle.lines.specs.Contracts.{StandFor, FirstBase, ListedIs, mostAmount}
 use Rattle.lines.specs.Verdict.{refusedBy, noPrice, priceIf, judged, VerdictIs}
 use Rattle.lines.proofs.AmountLaws.{zeros-in}
@@ -39,7 +39,7 @@ module _ (picks : List Pick) (n base : ℕ) (b : FirstBase picks n base) where
       let e : first isBase (viewsIn picks n) ≡ none = b .is ∙ rw (le-ltb base n h) in
       rw e
 
-  module _ (h : base < n) (one : Bool) (c : Says (oneCurrency (letters (getD picks base noPick .currency)) (viewsIn picks n)) one) where
+  module _ (h : base < n) (one : Bool) (c : Says (oneCurrency (lettersOf (getD picks base noPick .currency)) (viewsIn picks n)) one) where
     at-base : first isBase (viewsIn picks n) ≡ some (viewIn (getD picks base noPick))
     at-base = b .is ∙ rw (lt-ltb base n h)
 
@@ -47,7 +47,7 @@ module _ (picks : List Pick) (n base : ℕ) (b : FirstBase picks n base) where
     unfolding judged
     judged-5 f = rw (at-base, c .is, f)
 
-    judged-by : one ≡ true → (t : Total) → t ≡ totalOf (amountsOf (viewsIn picks n)) → priceIf (letters (getD picks base noPick .currency)) t ≡ judged (viewsIn picks n)
+    judged-by : one ≡ true → (t : Total) → t ≡ totalOf (amountsOf (viewsIn picks n)) → priceIf (lettersOf (getD picks base noPick .currency)) t ≡ judged (viewsIn picks n)
     unfolding judged
     judged-by f t e = rw (at-base, c .is, f, ← e)
 
@@ -60,7 +60,7 @@ refused-by {picks} {n} {k} z j p {r} e =
     rw e (record {
       each-in = zeros-in 99;
       unit-in = omega arith;
-      is = j;
+      is = record { is = j };
       amounts = λ y. absurd (z y);
       behind = λ i h. all-same 99 i noCents;
       zeros = λ y. refl;
@@ -72,7 +72,7 @@ module _ {picks : List Pick} {n base : ℕ} (b : FirstBase picks n base) where
   pub no-base : n ≤ base → {r : Verdict} → r ≡ refusedBy 4 → VerdictIs picks n r
   no-base h e = refused-by (λ y. omega arith) (judged-4 picks n base b h) (λ book q s. price-4 book q picks n s base b h) e
 
-  module _ (h : base < n) {one : Bool} (c : Says (oneCurrency (letters (getD picks base noPick .currency)) (viewsIn picks n)) one) where
+  module _ (h : base < n) {one : Bool} (c : Says (oneCurrency (lettersOf (getD picks base noPick .currency)) (viewsIn picks n)) one) where
     pub two-currencies : not one ≡ true → {r : Verdict} → r ≡ refusedBy 5 → VerdictIs picks n r
     two-currencies f e = refused-by (λ y. omega arith) (judged-5 picks n base b h one c (not-so one f)) (λ book q s. price-5 book q picks n s base b h one c (not-so one f)) e
 
@@ -80,12 +80,13 @@ module _ {picks : List Pick} {n base : ℕ} (b : FirstBase picks n base) where
       pub out-of-range : l .total ≡ OutOfRange → {r : Verdict} → r ≡ refusedBy 6 → VerdictIs picks n r
       out-of-range o e = refused-by (λ y. omega arith) (judged-by picks n base b h one c (so one t) OutOfRange (sym o ∙ is .total)) (λ book q s. price-6 book q picks n s base b h one c (so one t) l is o) e
 
-      pub has-price : {unit : Cents} → l .total ≡ InRange unit → VerdictIs picks n (record { number = 0; currency = getD picks base noPick .currency; unit = unit; amounts = l .amounts })
+      pub has-price : {unit : Cents} → l .total ≡ InRange unit
+          → VerdictIs picks n (record { outcome = record { unit = unit; refusal = 0; currency = getD picks base noPick .currency }; amounts = l .amounts })
       has-price {unit} u =
           record {
             each-in = is .each-in;
             unit-in = total-in-range (amountsOf (viewsIn picks n)) unit (sym (is .total) ∙ u);
-            is = judged-by picks n base b h one c (so one t) (InRange unit) (sym u ∙ is .total);
+            is = record { is = judged-by picks n base b h one c (so one t) (InRange unit) (sym u ∙ is .total) };
             amounts = λ z. is .amounts unit u;
             behind = is .behind;
             zeros = λ z. absurd (z refl);

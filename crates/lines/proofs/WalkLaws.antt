@@ -11,13 +11,14 @@ use lib.ListN.{length, take, drop, getD, length-map, List·getD-map, drop-of-len
 use lib.Seq.{drop-cons, getD-take, length-take-le}
 use borrow.Author.Tests.{lt-ltb, le-ltb, eq-eqb, ne-eqb}
 use Rattle.rules.specs.Lists.{first, pick}
+use Rattle.rules.specs.Question.{lettersOf}
 use Rattle.rules.specs.declared.Cents.{Cents}
 use Rattle.rules.specs.declared.Currency.{Currency}
 use Rattle.rules.specs.declared.Hundredths.{Hundredths}
 use Rattle.rules.specs.declared.Value.the-variants.{Fixed, Percent}
 use Rattle.layout.specs.Ensures.{Says}
 use Rattle.lines.specs.declared.Pick.{Pick}
-use Rattle.lines.specs.Views.{viewIn, viewsIn, noPick, letters, isBase, fits, oneCurrency, amountsIn, noCents}
+use Rattle.lines.specs.Views.{viewIn, viewsIn, noPick, isBase, fits, oneCurrency, amountsIn, noCents}
 use Rattle.lines.specs.Contracts.{FirstBase}
 
 -- ---- the next of the first n
@@ -87,10 +88,10 @@ module _ (picks : List Pick) (n : ℕ) where
 
 module _ (p : Pick) (c : Currency) where
   pub fixed-in : (x : Cents) → p .value ≡ Fixed x
-      → Says (fits (letters c) (viewIn p)) (eqb (p .currency .0) (c .0) && eqb (p .currency .1) (c .1) && eqb (p .currency .2) (c .2))
+      → Says (fits (lettersOf c) (viewIn p)) (eqb (p .currency .0) (c .0) && eqb (p .currency .1) (c .1) && eqb (p .currency .2) (c .2))
   fixed-in x e = record { is = rw (e, and-true, and-assoc) }
 
-  pub share-in : (x : Hundredths) → p .value ≡ Percent x → Says (fits (letters c) (viewIn p)) true
+  pub share-in : (x : Hundredths) → p .value ≡ Percent x → Says (fits (lettersOf c) (viewIn p)) true
   share-in x e = record { is = rw e }
 
 -- the rows before row i are in it if the flag says so

@@ -10,7 +10,7 @@ use Rattle.rules.specs.Lists.{first}
 use Rattle.rules.specs.BookLayout.{inBounds}
 use Rattle.rules.specs.Book.{Record, rows, roundings}
 use Rattle.rules.specs.Question.{Question}
-use Rattle.rules.specs.Lines.{chosen, totalOf}
+use Rattle.rules.specs.Lines.{chosen, mostTotal, totalOf, lineSize}
 use Rattle.rules.specs.Amounts.{SoundRounding}
 use Rattle.rules.specs.declared.Cents.{Cents}
 use Rattle.rules.specs.declared.Total.the-variants.{InRange, OutOfRange}
@@ -44,8 +44,8 @@ pub record Sound (v : View) : Type 0 where
 -- and totals that are in range
 pub record LineOn (v : View) (base total : ℤ) : Type 0 where
   pub sound : Sound v
-  pub base-in : natAbs base ≤ 1_000_000_000
-  pub total-in : natAbs total ≤ 1_000_000_000
+  pub base-in : natAbs base ≤ mostTotal
+  pub total-in : natAbs total ≤ mostTotal
 
 -- an amount that a book's values and roundings can come to
 abbrev pub mostAmount : ℕ
@@ -71,5 +71,5 @@ pub record ListedIs (picks : List Pick) (n : ℕ) (r : Listed) : Type 0 where
 
 pub record Writable (out : List ℕ) (amounts : List Cents) (n : ℕ) : Type 0 where
   pub few : n ≤ 99
-  pub room : 14 * n ≤ length out
+  pub room : lineSize * n ≤ length out
   pub each-in : (i : ℕ) → natAbs (getD amounts i noCents .0) ≤ mostAmount

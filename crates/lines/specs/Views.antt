@@ -8,6 +8,7 @@ use lib.ListN.{take}
 use Rattle.rules.specs.Lists.{same, all, any}
 use Rattle.rules.specs.Bytes.{bytesOf, signedBytesOf}
 use Rattle.rules.specs.Book.{base, roundingFor}
+use Rattle.rules.specs.Question.{lettersOf}
 use Rattle.rules.specs.Choice.{isPercent}
 use Rattle.rules.specs.Amounts.{exact, rounded}
 use Rattle.rules.specs.Lines.{Chosen}
@@ -15,7 +16,6 @@ use Rattle.rules.specs.declared.Cents.{Cents}
 use Rattle.rules.specs.declared.Value.{Value}
 use Rattle.rules.specs.declared.Value.the-variants.{Fixed}
 use Rattle.rules.specs.declared.Way.the-variants.{Down}
-use Rattle.rules.specs.declared.Currency.{Currency}
 use Rattle.rules.specs.declared.Rounding.{Rounding}
 use Rattle.lines.specs.declared.Pick.{Pick}
 
@@ -41,9 +41,6 @@ viewOf rs c =
       rounding = roundingFor (c .row .rounding) rs;
     }
 
-abbrev pub letters : Currency → List ℕ
-letters c = c .0 ∷ c .1 ∷ c .2 ∷ []
-
 -- of a row in the code
 abbrev pub viewIn : Pick → View
 viewIn p =
@@ -53,7 +50,7 @@ viewIn p =
       rule = p .rule;
       text = p .text;
       value = p .value;
-      currency = letters (p .currency);
+      currency = lettersOf (p .currency);
       rounding = p .rounding;
     }
 

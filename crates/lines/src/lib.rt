@@ -6,14 +6,17 @@ use layout::numbers::put_four;
 use layout::numbers::put_signed_eight;
 use rules::Cents;
 use rules::Currency;
+use rules::LINE_SIZE;
 use rules::Rounding;
 use rules::Total;
 use rules::Value;
 ghost use Prim.Native.Nat.{_+_, _≤_};
 ghost use mathlib.Core.List.{[], _∷_};
 ghost use lib.ListN.{length};
+ghost use Rattle.rules.specs.Question.{lettersOf};
+ghost use Rattle.rules.specs.Lines.{lineSize};
 ghost use Rattle.layout.specs.Ensures.{Says, Puts};
-ghost use Rattle.lines.specs.Views.{viewIn, viewsIn, letters, fits, oneCurrency, amountsIn, viewBytes, viewsBytes};
+ghost use Rattle.lines.specs.Views.{viewIn, viewsIn, fits, oneCurrency, amountsIn, viewBytes, viewsBytes};
 ghost use Rattle.lines.specs.Contracts.{FirstBase, OneOfTwo, LineOn, LineAmount, Listable, ListedIs, Writable};
 
 // A chosen row and the rounding that its record names: all that its line needs. Place 0: no granted name brought it.
@@ -53,7 +56,7 @@ fn first_base(picks: [Pick; 99], n: usize) -> usize
 
 // A percentage is in every currency.
 fn is_in(pick: Pick, c: Currency) -> bool
-    ensures { λ r. ⌜ Says (fits (letters c) (viewIn pick)) r ⌝ }
+    ensures { λ r. ⌜ Says (fits (lettersOf c) (viewIn pick)) r ⌝ }
 {
     let value = pick.value;
     let own = pick.currency;
@@ -66,7 +69,7 @@ fn is_in(pick: Pick, c: Currency) -> bool
 // Whether each of the first n rows is in the currency c.
 fn in_one_currency(picks: [Pick; 99], n: usize, c: Currency) -> bool
     requires { ⌜ n ≤ 99 ⌝ }
-    ensures { λ r. ⌜ Says (oneCurrency (letters c) (viewsIn picks n)) r ⌝ }
+    ensures { λ r. ⌜ Says (oneCurrency (lettersOf c) (viewsIn picks n)) r ⌝ }
 {
     let mut ok = true;
     let mut i = 0;
@@ -141,7 +144,7 @@ fn put_pair(out: &mut [u8], at: usize, first: u8, second: u8)
 
 // The 14 bytes of a line: the text's number, the level's letter, the place of the granted name, the amount.
 fn write_line(out: &mut [u8], at: usize, pick: Pick, amount: Cents)
-    requires { ⌜ at + 14 ≤ length (now out) ⌝ }
+    requires { ⌜ at + lineSize ≤ length (now out) ⌝ }
     ensures { λ _. ⌜ Puts (now (out .entry)) at (viewBytes (viewIn pick) (amount .0)) (now (out .exit)) ⌝ }
 {
     put_four(out, at, pick.text);
@@ -156,7 +159,7 @@ pub fn write_lines(out: &mut [u8], picks: [Pick; 99], amounts: [Cents; 99], n: u
 {
     let mut i = 0;
     while i < n {
-        write_line(out, 14 * i, picks[i], amounts[i]);
+        write_line(out, LINE_SIZE * i, picks[i], amounts[i]);
         i += 1;
     }
 }

@@ -5,27 +5,28 @@ use crate::in_one_currency;
 use crate::list_amounts;
 use rules::Cents;
 use rules::Currency;
+use rules::Outcome;
 use rules::Total;
 ghost use mathlib.Core.Path.{_≡_};
 ghost use Rattle.lines.specs.Contracts.{Listable};
 ghost use Rattle.lines.specs.Verdict.{refusedBy, VerdictIs};
 
-// The number of the refusal, with zeros; or 0, the currency, what one piece costs, and the amounts of the lines.
+// What the rows come to, and the amounts of the lines. Where there is no price all amounts are zeros.
 pub struct Verdict {
-    pub number: u8,
-    pub currency: Currency,
-    pub unit: Cents,
+    pub outcome: Outcome,
     pub amounts: [Cents; 99],
 }
 
 fn refused(number: u8) -> Verdict
     ensures { λ r. ⌜ r ≡ refusedBy number ⌝ }
 {
-    let currency = Currency(0, 0, 0);
-    Verdict {
-        number,
-        currency,
+    let outcome = Outcome {
         unit: Cents(0),
+        refusal: number,
+        currency: Currency(0, 0, 0),
+    };
+    Verdict {
+        outcome,
         amounts: [Cents(0); 99],
     }
 }
@@ -50,10 +51,10 @@ pub fn judge(picks: [Pick; 99], n: usize) -> Verdict
         return refused(6);
     };
     let amounts = listed.amounts;
-    Verdict {
-        number: 0,
-        currency,
+    let outcome = Outcome {
         unit,
-        amounts,
-    }
+        refusal: 0,
+        currency,
+    };
+    Verdict { outcome, amounts }
 }

@@ -1,13 +1,14 @@
 // The calls that a planning tool links: thin, total, each with the contract of the call behind it. Only the list of records is filled
 // here: a lent list of structs cannot be handed on.
 use calendar::list::list_answer;
-use calendar::list::record_at;
+use calendar::list::stretch_at;
 use calendar::listing::listing_of;
+use rules::CalendarAnswer;
 use rules::PackagingAnswer;
 use rules::PriceAnswer;
-use rules::Stretch;
 use rules::TextAnswer;
 use rules::Written;
+use stretches::Stretch;
 ghost use mathlib.Core.Path.{_≡_};
 ghost use Rattle.rules.specs.Packaging as Packaging;
 ghost use Rattle.rules.specs.Text as Text;
@@ -28,7 +29,7 @@ pub extern "C" fn rafttwine_calendar(
     question: &[u8],
     end: u32,
     out: &mut [u8],
-) -> Written
+) -> CalendarAnswer
     ensures { λ r. ⌜ CalendarIs (now (book .entry)) (now (question .entry)) end (now (out .entry)) r (now (out .exit)) ⌝ }
 {
     calendar::calendar(book, question, end, out)
@@ -40,7 +41,7 @@ pub extern "C" fn rafttwine_calendar_list(
     question: &[u8],
     end: u32,
     out: &mut [Stretch],
-) -> Written
+) -> CalendarAnswer
     ensures { λ r. ⌜ CalendarListIs (now (book .entry)) (now (question .entry)) end (now (out .entry)) r (now (out .exit)) ⌝ }
 {
     let listing = listing_of(book, question, end);
@@ -48,7 +49,7 @@ pub extern "C" fn rafttwine_calendar_list(
     let n = answer.length as usize;
     let mut i: usize = 0;
     while i < n {
-        out[i] = record_at(listing, i);
+        out[i] = stretch_at(listing, i);
         i += 1;
     }
     answer

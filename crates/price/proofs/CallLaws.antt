@@ -14,8 +14,8 @@ use Rattle.rules.specs.Lists.{isSome}
 use Rattle.rules.proofs.ListLaws.{absent}
 use Rattle.rules.proofs.TestLaws.{so, not-so}
 use Rattle.rules.specs.Book.{Record, Article, articleOf, rows, roundings}
-use Rattle.rules.specs.Question.{Question}
-use Rattle.rules.specs.Lines.{Line, linesOf, linesBytes}
+use Rattle.rules.specs.Question.{Question, lettersOf}
+use Rattle.rules.specs.Lines.{Line, linesOf, lineSize, linesBytes}
 use Rattle.rules.specs.Refusals.{Result, done, refused, _>>=_, orRefuse, refuseUnless, over, lentAfter}
 use Rattle.rules.specs.Price.{Answer, priced, answerOf, written, price, shown, unusedOf, setOf}
 use Rattle.rules.specs.declared.PriceAnswer.{PriceAnswer}
@@ -30,7 +30,7 @@ use Rattle.survey.specs.Entrance.{EnteredIs}
 use Rattle.survey.proofs.EntranceLaws.{stays-out, goes-in}
 use Rattle.lines.specs.declared.Pick.{Pick}
 use Rattle.lines.specs.declared.verdict.Verdict.{Verdict}
-use Rattle.lines.specs.Views.{viewsIn, viewsBytes, letters, baseFirst, amountsIn}
+use Rattle.lines.specs.Views.{viewsIn, viewsBytes, baseFirst, amountsIn}
 use Rattle.lines.specs.Contracts.{StandFor, Listable, Writable}
 use Rattle.lines.specs.Verdict.{VerdictIs}
 use Rattle.lines.proofs.PricedLaws.{line-count, line-places, bytes-count}
@@ -99,11 +99,11 @@ module _ {b : List ℕ} {q : Question} {picks : List Pick} {n : ℕ} (picked : P
   pub can-judge : Listable picks n
   can-judge = record { few = picked .few; sound = picked .sound; base-first = ap baseFirst (picked .is) ∙ chosen-base-first (roundings (recordsLeft b 5)) (rows (recordsLeft b 5)) q }
 
-  pub can-write : {v : Verdict} → VerdictIs picks n v → {lent : List ℕ} → 14 * n ≤ length lent → Writable lent (v .amounts) n
+  pub can-write : {v : Verdict} → VerdictIs picks n v → {lent : List ℕ} → lineSize * n ≤ length lent → Writable lent (v .amounts) n
   can-write j h = record { few = picked .few; room = h; each-in = j .each-in }
 
   -- how many bytes the lines take
-  size : length (linesBytes (linesOf (recordsLeft b 5) q)) ≡ 14 * n
+  size : length (linesBytes (linesOf (recordsLeft b 5) q)) ≡ lineSize * n
   size = bytes-count (recordsLeft b 5) q picks n stand (omega (arith, picked .few, picked .long))
 
   -- the granted places that brought no line
@@ -118,35 +118,35 @@ module _ {b : List ℕ} {q : Question} {picks : List Pick} {n : ℕ} (picked : P
 
 module _ (b s lent : List ℕ) {w : Entered} (told : EnteredIs b s w) (t : w .number ≡ 0) (f : not (w .found .article) ≡ false)
     {picks : List Pick} {n : ℕ} (picked : PickedAre b (askIn s (w .ask)) picks n) {v : Verdict} (j : VerdictIs picks n v) where
-  pub no-price : (v .number ≡ 0 → ⊥) → {r : PriceAnswer} → r ≡ shown (refused (v .number)) → PriceIs b s lent r lent
+  pub no-price : (v .outcome .refusal ≡ 0 → ⊥) → {r : PriceAnswer} → r ≡ shown (refused (v .outcome .refusal)) → PriceIs b s lent r lent
   no-price z =
       let e = j .refuses z (recordsLeft b 5) (askIn s (w .ask)) (stand picked) in
       refuses b s lent (priced-call b s lent told t f ∙ rw (e .is))
 
-  module _ (z : v .number ≡ 0) where
+  module _ (z : v .outcome .refusal ≡ 0) where
     at-price : price b s (length lent)
-        ≡ roomFor (length lent) (answerOf (askIn s (w .ask)) (record { lines = linesOf (recordsLeft b 5) (askIn s (w .ask)); currency = letters (v .currency) }))
+        ≡ roomFor (length lent) (answerOf (askIn s (w .ask)) (record { lines = linesOf (recordsLeft b 5) (askIn s (w .ask)); currency = lettersOf (v .outcome .currency) }))
     at-price = let e = j .answered z (recordsLeft b 5) (askIn s (w .ask)) (stand picked) in priced-call b s lent told t f ∙ rw (e .is)
 
-    pub no-room : length lent < 14 * n → {r : PriceAnswer} → r ≡ shown (refused 7) → PriceIs b s lent r lent
+    pub no-room : length lent < lineSize * n → {r : PriceAnswer} → r ≡ shown (refused 7) → PriceIs b s lent r lent
     unfolding answerOf
     no-room h =
         let e : leb (length (linesBytes (linesOf (recordsLeft b 5) (askIn s (w .ask))))) (length lent) ≡ false =
-        rw (size picked) (lt-leb (14 * n) (length lent) h) in
+        rw (size picked) (lt-leb (lineSize * n) (length lent) h) in
         refuses b s lent (at-price ∙ rw e)
 
     -- with room, the lines go to the front, and what is read is the definition's
-    pub has-answer : {set : ℕ} → UnusedIs (askIn s (w .ask) .granted) (map (λ v. v .place) (viewsIn picks n)) set → 14 * n ≤ length lent
+    pub has-answer : {set : ℕ} → UnusedIs (askIn s (w .ask) .granted) (map (λ v. v .place) (viewsIn picks n)) set → lineSize * n ≤ length lent
         → {after : List ℕ} → Puts lent 0 (viewsBytes (viewsIn picks n) (amountsIn (v .amounts) n)) after
-        → {r : PriceAnswer} → r ≡ answered (w .ask .quantity) n v set → PriceIs b s lent r after
+        → {r : PriceAnswer} → r ≡ answered (w .ask .quantity) n (v .outcome) set → PriceIs b s lent r after
     unfolding answerOf shown lentAfter
     has-answer {set} u h {after} put {r} e =
         let book : List Record = recordsLeft b 5 in
         let q : Question = askIn s (w .ask) in
         let ls : List Line = linesOf book q in
         let x = j .answered z book q (stand picked) in
-        let fits : leb (length (linesBytes ls)) (length lent) ≡ true = rw (size picked) (le-leb (14 * n) (length lent) h) in
-        let is-done : price b s (length lent) ≡ done (answerOf q (record { lines = ls; currency = letters (v .currency) })) = at-price ∙ rw fits in
+        let fits : leb (length (linesBytes ls)) (length lent) ≡ true = rw (size picked) (le-leb (lineSize * n) (length lent) h) in
+        let is-done : price b s (length lent) ≡ done (answerOf q (record { lines = ls; currency = lettersOf (v .outcome .currency) })) = at-price ∙ rw fits in
         let count : length ls ≡ n = line-count book q picks n (stand picked) (omega (arith, picked .few, picked .long)) in
         let set′ : set ≡ setOf (unusedOf q ls) = set-is picked u in
         let ones′ : ones set ≡ length (unusedOf q ls) = ap ones set′ ∙ unused-count q ls in
@@ -159,7 +159,7 @@ module _ (b s lent : List ℕ) {w : Entered} (told : EnteredIs b s w) (t : w .nu
             unused = set′ i;
             «unused_count» = ones′ i;
             number = 0;
-            currency = letters (v .currency);
+            currency = lettersOf (v .outcome .currency);
           }) ∙ ap shown (sym is-done);
           output = puts-front put ∙ ap (λ (new : List ℕ). over new lent) bytes ∙ ap (λ (a : Result Answer). lentAfter written a lent) (sym is-done);
         }

@@ -14,7 +14,7 @@ use Rattle.rules.specs.Lists.{any}
 use Rattle.rules.specs.Book.{Record, Article, base, surcharge, discount, articleOf}
 use Rattle.rules.specs.BookLayout.{records}
 use Rattle.rules.specs.Question.{Question, grants, questionOf, noCurrency}
-use Rattle.rules.specs.Lines.{Line, sum, amounts, total, slotsAt, linesOf, linesBytes}
+use Rattle.rules.specs.Lines.{Line, sum, amounts, total, slotsAt, linesOf, mostLinesSize, linesBytes}
 use Rattle.rules.specs.Refusals.{Result, done, refused, numberOf, over, lentAfter}
 use Rattle.rules.specs.Price.{Answer, answerOf, written, price, shown, unusedOf, setOf, lentAfterPrice}
 use Rattle.rules.specs.declared.PriceAnswer.{PriceAnswer}
@@ -118,7 +118,7 @@ module _ (b s lent : List ℕ) {r : PriceAnswer} {after : List ℕ} (is : PriceI
           (z ∙ ap zeros (sym (ap (λ (y : PriceAnswer). y .number) z)), is .output ∙ ap (λ (x : Result Answer). lentAfterPrice x lent) e)
 
   -- Room for 1,386 bytes is enough for every price: with so much, 7 is never said.
-  pub room-enough : 1386 ≤ length lent → r .number ≡ 7 → ⊥
+  pub room-enough : mostLinesSize ≤ length lent → r .number ≡ 7 → ⊥
   room-enough h e = Rules.price-room-enough b s (length lent) h (sym said ∙ e)
 
   module _ {book : List Record} {q : Question} (is-book : records b ≡ some book) (is-question : questionOf s ≡ some q) where

@@ -6,21 +6,21 @@ use lib.Count.{ones}
 use lib.IntN.{pos, _*ℤ_}
 use lib.ListN.{length}
 use Rattle.rules.specs.Price.{price, shown, lentAfterPrice}
+use Rattle.rules.specs.Question.{lettersOf}
+use Rattle.rules.specs.declared.Outcome.{Outcome}
 use Rattle.rules.specs.declared.PriceAnswer.{PriceAnswer}
-use Rattle.lines.specs.declared.verdict.Verdict.{Verdict}
-use Rattle.lines.specs.Views.{letters}
 
--- so many pieces at this price, in n lines; the set of granted places that brought none
-abbrev pub answered : ℕ → ℕ → Verdict → ℕ → PriceAnswer
-answered quantity n v set =
+-- so many pieces of this outcome, in n lines; the set of granted places that brought none
+abbrev pub answered : ℕ → ℕ → Outcome → ℕ → PriceAnswer
+answered quantity n o set =
     record {
-      unit = v .unit .0;
-      total = pos quantity *ℤ v .unit .0;
+      unit = o .unit .0;
+      total = pos quantity *ℤ o .unit .0;
       lines = n;
       unused = set;
       «unused_count» = ones set;
       number = 0;
-      currency = letters (v .currency);
+      currency = lettersOf (o .currency);
     }
 
 -- the price call on a book b, a question s and a lent output: what it returns and what is then in the output

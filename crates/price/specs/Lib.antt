@@ -3,4 +3,3 @@ pub mod Picks
 pub mod Unused
 pub mod Call
 pub mod Read
-pub mod Day

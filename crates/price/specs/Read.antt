@@ -7,6 +7,7 @@ use lib.ListN.{take, drop, getD}
 use Rattle.rules.specs.Bytes.{big, signedOf}
 use Rattle.rules.specs.Book.{Record, Row}
 use Rattle.rules.specs.Question.{Question}
+use Rattle.rules.specs.Lines.{lineSize}
 use Rattle.rules.proofs.RowLaws.{RowFor}
 
 pub record WrittenLine : Type 0 where
@@ -22,7 +23,7 @@ lineIn bytes = record { text = big (take 4 bytes); level = getD bytes 4 0; place
 -- the first n lines
 abbrev pub linesIn : ℕ → List ℕ → List WrittenLine
 linesIn zero bytes = []
-linesIn (suc n) bytes = lineIn bytes ∷ linesIn n (drop 14 bytes)
+linesIn (suc n) bytes = lineIn bytes ∷ linesIn n (drop lineSize bytes)
 
 abbrev pub amountsIn : ℕ → List ℕ → List ℤ
 amountsIn n bytes = map (λ l. l .amount) (linesIn n bytes)

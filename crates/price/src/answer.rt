@@ -1,10 +1,11 @@
 // What a caller reads of a price.
 use grants::places::Places;
-use lines::verdict::Verdict;
+use rules::Outcome;
 use rules::PriceAnswer;
 ghost use Prim.Native.Nat.{_≤_};
 ghost use mathlib.Core.Path.{_≡_};
 ghost use lib.IntN.{natAbs};
+ghost use Rattle.rules.specs.Lines.{mostTotal};
 ghost use Rattle.rules.specs.Refusals.{refused};
 ghost use Rattle.rules.specs.Price.{shown};
 ghost use Rattle.price.specs.Call.{answered};
@@ -25,13 +26,13 @@ pub fn refusal(number: u8) -> PriceAnswer
 }
 
 // The price of so many pieces, with n lines and the granted places that brought none.
-pub fn answer(quantity: u32, n: usize, v: Verdict, idle: Places) -> PriceAnswer
+pub fn answer(quantity: u32, n: usize, outcome: Outcome, idle: Places) -> PriceAnswer
     requires { ⌜ quantity ≤ 100_000 ⌝ }
-    requires { ⌜ natAbs (v .unit .0) ≤ 1_000_000_000 ⌝ }
-    ensures { λ r. ⌜ r ≡ answered quantity n v (idle .0) ⌝ }
+    requires { ⌜ natAbs (outcome .unit .0) ≤ mostTotal ⌝ }
+    ensures { λ r. ⌜ r ≡ answered quantity n outcome (idle .0) ⌝ }
 {
-    let currency = v.currency;
-    let unit = v.unit.0;
+    let currency = outcome.currency;
+    let unit = outcome.unit.0;
     let count = idle.count();
     PriceAnswer {
         unit,

@@ -5,6 +5,7 @@ use crate::picks::picks_within;
 use crate::unused::unused;
 use lines::verdict::judge;
 use lines::write_lines;
+use rules::LINE_SIZE;
 use rules::PriceAnswer;
 use survey::entrance::enter;
 ghost use Rattle.price.specs.Call.{PriceIs};
@@ -27,14 +28,15 @@ pub fn price(book: &[u8], question: &[u8], out: &mut [u8]) -> PriceAnswer
     let rows = picks.rows;
     let n = picks.n;
     let v = judge(rows, n);
-    if v.number != 0 {
-        return refusal(v.number);
+    let outcome = v.outcome;
+    if outcome.refusal != 0 {
+        return refusal(outcome.refusal);
     }
-    if out.len() < 14 * n {
+    if out.len() < LINE_SIZE * n {
         return refusal(7);
     }
     let idle = unused(question, ask, rows, n);
     let amounts = v.amounts;
     write_lines(out, rows, amounts, n);
-    answer(ask.quantity, n, v, idle)
+    answer(ask.quantity, n, outcome, idle)
 }

@@ -9,9 +9,12 @@ use lib.ListN.{length, length-append, set}
 use lib.Seq.{sets}
 use Rattle.rules.specs.Letters.{text, letter}
 use Rattle.rules.specs.Program.{digits, decimal, signedDecimal, currencyText, stretchText}
+use Rattle.rules.specs.Question.{lettersOf}
 use Rattle.rules.specs.declared.Currency.{Currency}
 use Rattle.layout.proofs.StoreLaws.{puts-of}
-use Rattle.printing.specs.Contracts.{signOf, lettersOf, stretchOf, Prints}
+use Rattle.stretches.specs.declared.Stretch.{Stretch}
+use Rattle.stretches.specs.Stretches.{asStretch}
+use Rattle.printing.specs.Contracts.{signOf, Prints}
 use Rattle.printing.proofs.DigitLaws.{few-digits, prints-then}
 
 -- ---- a number and a blank
@@ -61,38 +64,38 @@ joined a b c d e =
     ∙ ap (λ x. (a ++ s) ++ x) (sym (by b cd))
     ∙ sym (by a (b ++ (s ++ cd)))
 
-module _ {out : List ℕ} {at : ℕ} (first last refusal : ℕ) (currency : Currency) (unit : ℤ) (h : at + 89 ≤ length out)
-    {o₁ : List ℕ} {a : ℕ} (p₁ : Prints out at (decimal first ++ text " ") o₁ a) where
+module _ {out : List ℕ} {at : ℕ} (s : Stretch) (h : at + 89 ≤ length out)
+    {o₁ : List ℕ} {a : ℕ} (p₁ : Prints out at (decimal (s .first .0) ++ text " ") o₁ a) where
   pub room₁ : a + 68 ≤ length o₁
-  room₁ = omega (arith, p₁ .end, p₁ .puts .long, few-number first)
+  room₁ = omega (arith, p₁ .end, p₁ .puts .long, few-number (s .first .0))
 
-  module _ {o₂ : List ℕ} {b : ℕ} (p₂ : Prints o₁ a (decimal last ++ text " ") o₂ b) where
+  module _ {o₂ : List ℕ} {b : ℕ} (p₂ : Prints o₁ a (decimal (s .last .0) ++ text " ") o₂ b) where
     pub room₂ : b + 47 ≤ length o₂
-    room₂ = omega (arith, room₁, p₂ .end, p₂ .puts .long, few-number last)
+    room₂ = omega (arith, room₁, p₂ .end, p₂ .puts .long, few-number (s .last .0))
 
-    module _ {o₃ : List ℕ} {c : ℕ} (p₃ : Prints o₂ b (decimal refusal ++ text " ") o₃ c) where
+    module _ {o₃ : List ℕ} {c : ℕ} (p₃ : Prints o₂ b (decimal (s .outcome .refusal) ++ text " ") o₃ c) where
       pub room₃ : c + 26 ≤ length o₃
-      room₃ = omega (arith, room₂, p₃ .end, p₃ .puts .long, few-number refusal)
+      room₃ = omega (arith, room₂, p₃ .end, p₃ .puts .long, few-number (s .outcome .refusal))
 
-      module _ {word : Currency} (is : lettersOf word ≡ currencyText refusal (lettersOf currency)) {o₄ : List ℕ} {d : ℕ} (p₄ : Prints o₃ c (lettersOf word ++ text " ") o₄ d) where
+      module _ {word : Currency} (is : lettersOf word ≡ currencyText (s .outcome .refusal) (lettersOf (s .outcome .currency))) {o₄ : List ℕ} {d : ℕ} (p₄ : Prints o₃ c (lettersOf word ++ text " ") o₄ d) where
         pub room₄ : d + 22 ≤ length o₄
         room₄ = omega (arith, room₃, p₄ .end, p₄ .puts .long)
 
-        module _ {o₅ : List ℕ} {e : ℕ} (p₅ : Prints o₄ d (signedDecimal unit) o₅ e) where
+        module _ {o₅ : List ℕ} {e : ℕ} (p₅ : Prints o₄ d (signedDecimal (s .outcome .unit .0)) o₅ e) where
           pub room₅ : e < length o₅
-          room₅ = omega (arith, room₄, p₅ .end, p₅ .puts .long, few-signed unit)
+          room₅ = omega (arith, room₄, p₅ .end, p₅ .puts .long, few-signed (s .outcome .unit .0))
 
-          pub line-prints : {o₆ : List ℕ} {r : ℕ} → Prints o₅ e (10 ∷ []) o₆ r → Prints out at (stretchText (stretchOf first last refusal currency unit)) o₆ r
+          pub line-prints : {o₆ : List ℕ} {r : ℕ} → Prints o₅ e (10 ∷ []) o₆ r → Prints out at (stretchText (asStretch s)) o₆ r
           line-prints {o₆} {r} p₆ =
-              subst (λ (bs : List ℕ). Prints out at bs o₆ r) (joined (decimal first) (decimal last) (decimal refusal) (currencyText refusal (lettersOf currency)) (signedDecimal unit))
+              subst (λ (bs : List ℕ). Prints out at bs o₆ r) (joined (decimal (s .first .0)) (decimal (s .last .0)) (decimal (s .outcome .refusal)) (currencyText (s .outcome .refusal) (lettersOf (s .outcome .currency))) (signedDecimal (s .outcome .unit .0)))
               (prints-then p₁ (prints-then p₂ (prints-then p₃ (prints-then (subst (λ (bs : List ℕ). Prints o₃ c (bs ++ text " ") o₄ d) is p₄) (prints-then p₅ p₆)))))
 
 -- a line is at most 89 bytes
-pub line-short : (first last refusal : ℕ) (currency : Currency) (unit : ℤ) → length (stretchText (stretchOf first last refusal currency unit)) ≤ 89
-line-short first last refusal currency unit =
-    subst (λ (bs : List ℕ). length bs ≤ 89) (joined (decimal first) (decimal last) (decimal refusal) (currencyText refusal (lettersOf currency)) (signedDecimal unit))
-    (simp length-append (omega (arith, few-digits 20 first, few-digits 20 last, few-digits 20 refusal, few-currency refusal, few-signed unit)))
+pub line-short : (s : Stretch) → length (stretchText (asStretch s)) ≤ 89
+line-short s =
+    subst (λ (bs : List ℕ). length bs ≤ 89) (joined (decimal (s .first .0)) (decimal (s .last .0)) (decimal (s .outcome .refusal)) (currencyText (s .outcome .refusal) (lettersOf (s .outcome .currency))) (signedDecimal (s .outcome .unit .0)))
+    (simp length-append (omega (arith, few-digits 20 (s .first .0), few-digits 20 (s .last .0), few-digits 20 (s .outcome .refusal), few-currency (s .outcome .refusal), few-signed (s .outcome .unit .0))))
   where
-    few-currency : (k : ℕ) → length (currencyText k (lettersOf currency)) ≡ 3
+    few-currency : (k : ℕ) → length (currencyText k (lettersOf (s .outcome .currency))) ≡ 3
     few-currency zero = refl
     few-currency (suc k) = refl

@@ -15,12 +15,12 @@ use Rattle.rules.specs.Calendar.{Stretch, calendar, stretchesBytes, mostDays}
 use Rattle.rules.specs.Program.{digits, decimal, stretchText, ownLength, endOf, asked, printed, output, mostInput}
 use Rattle.rules.specs.Refusals.{Result, done, refused, _>>=_, refuseUnless, over}
 use Rattle.layout.proofs.StoreLaws.{puts-of, puts-front}
-use Rattle.stretches.specs.declared.turns.Run.{Run}
-use Rattle.stretches.specs.declared.runs.Runs.{Runs}
-use Rattle.stretches.specs.Runs.{asStretch, noRun}
+use Rattle.stretches.specs.declared.Stretch as Declared
+use Rattle.stretches.specs.declared.Stretches.{Stretches}
+use Rattle.stretches.specs.Stretches.{asStretch, noStretch}
 use Rattle.calendar.specs.declared.listing.Listing.{Listing}
 use Rattle.calendar.specs.Listing.{listing, finished, stretchesIn, listed, ListingIs, Refused}
-use Rattle.calendar.proofs.ByteLaws.{runs-count, bytes-length}
+use Rattle.calendar.proofs.ByteLaws.{stretches-count, bytes-length}
 use Rattle.calendar.proofs.CallLaws.{two-parts}
 use Rattle.printing.specs.declared.output.Printed.{Printed}
 use Rattle.printing.specs.Contracts.{Prints}
@@ -39,7 +39,7 @@ map-append : (f : Stretch → List ℕ) (xs : List Stretch) (y : Stretch) → ma
 map-append f [] y = refl
 map-append f (x ∷ xs) y = ap (λ zs. f x ∷ zs) (map-append f xs y)
 
-module _ {old : List ℕ} {r : Runs} where
+module _ {old : List ℕ} {r : Stretches} where
   pub print-start : Printable old r → Printing old r old 0 0
   print-start p = record { place = omega arith; printable = p; short = omega arith; so-far = prints-none old 0 (omega arith) }
 
@@ -51,28 +51,28 @@ module _ {old : List ℕ} {r : Runs} where
     print-room h = omega (arith, w .short, w .printable .few, w .printable .room, w .so-far .puts .long)
 
     -- the next stretch
-    taken : i < r .n → take (i + 1) (stretchesIn r) ≡ take i (stretchesIn r) ++ (asStretch (getD (r .list) i noRun) ∷ [])
+    taken : i < r .n → take (i + 1) (stretchesIn r) ≡ take i (stretchesIn r) ++ (asStretch (getD (r .list) i noStretch) ∷ [])
     taken h =
-        let l : i < length (stretchesIn r) = rw (runs-count r within) h in
+        let l : i < length (stretchesIn r) = rw (stretches-count r within) h in
         ap (λ (k : ℕ). take k (stretchesIn r)) (add-one i)
-        ∙ take-suc (stretchesIn r) i (asStretch noRun) l
-        ∙ ap (λ (s : Stretch). take i (stretchesIn r) ++ (s ∷ [])) (List·getD-map asStretch (take (r .n) (r .list)) i noRun ∙ ap asStretch (getD-take (r .n) (r .list) i noRun h))
+        ∙ take-suc (stretchesIn r) i (asStretch noStretch) l
+        ∙ ap (λ (s : Stretch). take i (stretchesIn r) ++ (s ∷ [])) (List·getD-map asStretch (take (r .n) (r .list)) i noStretch ∙ ap asStretch (getD-take (r .n) (r .list) i noStretch h))
 
-    pub print-again : i < r .n → {new : List ℕ} {end : ℕ} → Prints out at (stretchText (asStretch (getD (r .list) i noRun))) new end → Printing old r new end (i + 1)
+    pub print-again : i < r .n → {new : List ℕ} {end : ℕ} → Prints out at (stretchText (asStretch (getD (r .list) i noStretch))) new end → Printing old r new end (i + 1)
     print-again h {new} {end} p =
-        let run : Run = getD (r .list) i noRun in
+        let next : Declared.Stretch = getD (r .list) i noStretch in
         record {
           place = omega arith;
           printable = w .printable;
-          short = omega (arith, w .short, p .end, line-short (run .first .0) (run .last .0) (run .refusal) (run .currency) (run .unit .0));
+          short = omega (arith, w .short, p .end, line-short next);
           so-far = subst (λ (bs : List ℕ). Prints old 0 bs new end)
-              (sym (ap (λ (ss : List Stretch). join (map stretchText ss)) (taken h) ∙ ap join (map-append stretchText (take i (stretchesIn r)) (asStretch run)) ∙ join-append (map stretchText (take i (stretchesIn r))) (stretchText (asStretch run))))
+              (sym (ap (λ (ss : List Stretch). join (map stretchText ss)) (taken h) ∙ ap join (map-append stretchText (take i (stretchesIn r)) (asStretch next)) ∙ join-append (map stretchText (take i (stretchesIn r))) (stretchText (asStretch next))))
               (prints-then (w .so-far) p);
         }
 
     pub print-end : r .n ≤ i → Prints old 0 (linesText r) out at
     print-end h =
-        subst (λ (ss : List Stretch). Prints old 0 (join (map stretchText ss)) out at) (take-all i (stretchesIn r) (rw (runs-count r within) h)) (w .so-far)
+        subst (λ (ss : List Stretch). Prints old 0 (join (map stretchText ss)) out at) (take-all i (stretchesIn r) (rw (stretches-count r within) h)) (w .so-far)
 
 -- ---- the refusal
 
@@ -93,13 +93,13 @@ module _ {out : List ℕ} (h : 97544 ≤ length out) (number : ℕ) {front : Lis
 -- ---- either
 
 module _ (l : Listing) {out new : List ℕ} {r : ℕ} where
-  pub lists-lines : l .number ≡ 0 → Prints out 0 (linesText (l .runs)) new r → Prints out 0 (listedText l) new r
+  pub lists-lines : l .number ≡ 0 → Prints out 0 (linesText (l .stretches)) new r → Prints out 0 (listedText l) new r
   lists-lines z p = rw (eq-eqb (l .number) 0 z) p
 
   pub lists-refusal : (l .number ≡ 0 → ⊥) → Prints out 0 (text "refusal " ++ (decimal (l .number) ++ text "\n")) new r → Prints out 0 (listedText l) new r
   lists-refusal z p = rw (ne-eqb (l .number) 0 z) p
 
-pub can-print : {l : Listing} → Few l → {out : List ℕ} → 97544 ≤ length out → Printable out (l .runs)
+pub can-print : {l : Listing} → Few l → {out : List ℕ} → 97544 ≤ length out → Printable out (l .stretches)
 can-print f h = record { long = f .long; few = f .few; room = h }
 
 pub few-listed : {o : Result (List Stretch)} {l : Listing} → ListingIs o l → Few l
@@ -115,15 +115,15 @@ fits-all ss h e =
     let b : leb (length (stretchesBytes ss)) (20 * mostDays) ≡ true = le-leb (length (stretchesBytes ss)) (20 * mostDays) (omega arith) in
     rw (a, b)
 
-listed-fits : (l : Listing) → l .runs .n ≤ length (l .runs .list) → l .runs .n ≤ mostDays → finished (λ ss. length (stretchesBytes ss)) (20 * mostDays) (listed l) ≡ listed l
+listed-fits : (l : Listing) → l .stretches .n ≤ length (l .stretches .list) → l .stretches .n ≤ mostDays → finished (λ ss. length (stretchesBytes ss)) (20 * mostDays) (listed l) ≡ listed l
 unfolding finished
 listed-fits l k h = go (eqb (l .number) 0)
   where
-    count : length (stretchesIn (l .runs)) ≡ l .runs .n
-    count = runs-count (l .runs) k
+    count : length (stretchesIn (l .stretches)) ≡ l .stretches .n
+    count = stretches-count (l .stretches) k
 
-    go : (b : Bool) → finished (λ ss. length (stretchesBytes ss)) (20 * mostDays) (cond b (done (stretchesIn (l .runs))) (refused (l .number))) ≡ cond b (done (stretchesIn (l .runs))) (refused (l .number))
-    go true = fits-all (stretchesIn (l .runs)) (omega (arith, count)) (bytes-length (take (l .runs .n) (l .runs .list)) ∙ ap (λ (j : ℕ). 20 * j) (sym (length-map (take (l .runs .n) (l .runs .list)) asStretch)))
+    go : (b : Bool) → finished (λ ss. length (stretchesBytes ss)) (20 * mostDays) (cond b (done (stretchesIn (l .stretches))) (refused (l .number))) ≡ cond b (done (stretchesIn (l .stretches))) (refused (l .number))
+    go true = fits-all (stretchesIn (l .stretches)) (omega (arith, count)) (bytes-length (take (l .stretches .n) (l .stretches .list)) ∙ ap (λ (j : ℕ). 20 * j) (sym (length-map (take (l .stretches .n) (l .stretches .list)) asStretch)))
     go false = refl
 
 -- the bytes behind a place, as a part

@@ -5,21 +5,12 @@ use mathlib.Core.List.{List, [], _∷_}
 use lib.IntN.{ℤ, pos, negsuc}
 use lib.ListN.{length}
 use Rattle.rules.specs.Letters.{letter}
-use Rattle.rules.specs.Calendar.{Stretch}
-use Rattle.rules.specs.declared.Currency.{Currency}
 use Rattle.layout.specs.Ensures.{Puts}
 
 -- the sign of a number below zero
 abbrev pub signOf : ℤ → List ℕ
 signOf (pos n) = []
 signOf (negsuc n) = letter "-" ∷ []
-
-abbrev pub lettersOf : Currency → List ℕ
-lettersOf c = c .0 ∷ c .1 ∷ c .2 ∷ []
-
--- the definition's stretch, of its parts
-abbrev pub stretchOf : ℕ → ℕ → ℕ → Currency → ℤ → Stretch
-stretchOf first last refusal currency unit = record { first = first; last = last; outcome = record { refusal = refusal; currency = lettersOf currency; unit = unit } }
 
 -- the bytes stand from `at` on, and `r` is the place behind them
 pub record Prints (old : List ℕ) (at : ℕ) (bytes new : List ℕ) (r : ℕ) : Type 0 where

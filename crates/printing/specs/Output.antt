@@ -7,14 +7,14 @@ use Rattle.rules.specs.Lists.{join}
 use Rattle.rules.specs.Refusals.{over}
 use Rattle.rules.specs.Calendar.{mostDays}
 use Rattle.rules.specs.Program.{stretchText, printed, output}
-use Rattle.stretches.specs.declared.runs.Runs.{Runs}
+use Rattle.stretches.specs.declared.Stretches.{Stretches}
 use Rattle.calendar.specs.declared.listing.Listing.{Listing}
 use Rattle.calendar.specs.Listing.{stretchesIn, listed}
 use Rattle.printing.specs.declared.output.Printed.{Printed}
 use Rattle.printing.specs.Contracts.{Prints}
 
 -- a line for each stretch
-abbrev pub linesText : Runs → List ℕ
+abbrev pub linesText : Stretches → List ℕ
 linesText r = join (map stretchText (stretchesIn r))
 
 -- or the refusal
@@ -23,17 +23,17 @@ listedText l = printed (listed l)
 
 -- no more stretches than a period has days
 pub record Few (l : Listing) : Type 0 where
-  pub long : length (l .runs .list) ≡ mostDays
-  pub few : l .runs .n ≤ mostDays
+  pub long : length (l .stretches .list) ≡ mostDays
+  pub few : l .stretches .n ≤ mostDays
 
 -- and room for a line on each
-pub record Printable (out : List ℕ) (r : Runs) : Type 0 where
+pub record Printable (out : List ℕ) (r : Stretches) : Type 0 where
   pub long : length (r .list) ≡ mostDays
   pub few : r .n ≤ mostDays
   pub room : 97544 ≤ length out
 
 -- the lines of the first i stretches stand in front of `at`
-pub record Printing (old : List ℕ) (r : Runs) (out : List ℕ) (at i : ℕ) : Type 0 where
+pub record Printing (old : List ℕ) (r : Stretches) (out : List ℕ) (at i : ℕ) : Type 0 where
   pub place : i ≤ r .n
   pub printable : Printable old r
   pub short : at ≤ 89 * i

@@ -1,16 +1,17 @@
 // A stretch on a line of its own.
 use crate::decimal::put_digits;
 use crate::decimal::put_signed;
-use days::Day;
-use rules::Cents;
 use rules::Currency;
+use stretches::Stretch;
 ghost use Prim.Native.Nat.{_+_, _≤_, _<_};
 ghost use mathlib.Core.Path.{_≡_};
 ghost use mathlib.Core.List.{[], _∷_, _++_};
 ghost use lib.ListN.{length};
 ghost use Rattle.rules.specs.Letters.{text};
+ghost use Rattle.rules.specs.Question.{lettersOf};
 ghost use Rattle.rules.specs.Program.{decimal, currencyText, stretchText};
-ghost use Rattle.printing.specs.Contracts.{lettersOf, stretchOf, Prints};
+ghost use Rattle.stretches.specs.Stretches.{asStretch};
+ghost use Rattle.printing.specs.Contracts.{Prints};
 
 pub fn put_byte(out: &mut [u8], at: usize, b: u8) -> usize
     requires { ⌜ at < length (now out) ⌝ }
@@ -52,23 +53,16 @@ fn put_word(out: &mut [u8], at: usize, word: Currency) -> usize
 }
 
 // First day, last day, refusal, currency, unit total.
-pub fn put_stretch(
-    out: &mut [u8],
-    at: usize,
-    first: Day,
-    last: Day,
-    refusal: u8,
-    currency: Currency,
-    unit: Cents,
-) -> usize
+pub fn put_stretch(out: &mut [u8], at: usize, stretch: Stretch) -> usize
     requires { ⌜ at + 89 ≤ length (now out) ⌝ }
-    ensures { λ r. ⌜ Prints (now (out .entry)) at (stretchText (stretchOf (first .0) (last .0) refusal currency (unit .0))) (now (out .exit)) r ⌝ }
+    ensures { λ r. ⌜ Prints (now (out .entry)) at (stretchText (asStretch stretch)) (now (out .exit)) r ⌝ }
 {
-    let word = word_of(refusal, currency);
-    let a = put_number(out, at, first.0 as u64);
-    let b = put_number(out, a, last.0 as u64);
-    let c = put_number(out, b, refusal as u64);
+    let outcome = stretch.outcome;
+    let word = word_of(outcome.refusal, outcome.currency);
+    let a = put_number(out, at, stretch.first.0 as u64);
+    let b = put_number(out, a, stretch.last.0 as u64);
+    let c = put_number(out, b, outcome.refusal as u64);
     let d = put_word(out, c, word);
-    let e = put_signed(out, d, unit.0);
+    let e = put_signed(out, d, outcome.unit.0);
     put_byte(out, e, b'\n')
 }

@@ -7,14 +7,12 @@ use crate::lines::put_stretch;
 use calendar::listing::Listing;
 use calendar::listing::listing_of;
 use calendar::listing::refused;
-use stretches::runs::Runs;
-use stretches::turns::Run;
+use stretches::Stretches;
 ghost use Prim.Native.Nat.{_+_, _≤_};
 ghost use lib.ListN.{length};
 ghost use mathlib.Core.List.{_++_};
 ghost use Rattle.rules.specs.Letters.{text};
-ghost use Rattle.rules.specs.Program.{decimal, stretchText, asked};
-ghost use Rattle.stretches.specs.Runs.{asStretch};
+ghost use Rattle.rules.specs.Program.{decimal, asked};
 ghost use Rattle.calendar.specs.Listing.{ListingIs};
 ghost use Rattle.printing.specs.Contracts.{Prints};
 ghost use Rattle.printing.specs.Output.{linesText, listedText, Few, Printable, OutputIs};
@@ -25,28 +23,17 @@ pub struct Printed {
     pub n: usize,
 }
 
-fn put_run(out: &mut [u8], at: usize, run: Run) -> usize
-    requires { ⌜ at + 89 ≤ length (now out) ⌝ }
-    ensures { λ r. ⌜ Prints (now (out .entry)) at (stretchText (asStretch run)) (now (out .exit)) r ⌝ }
-{
-    let first = run.first;
-    let last = run.last;
-    let currency = run.currency;
-    let unit = run.unit;
-    put_stretch(out, at, first, last, run.refusal, currency, unit)
-}
-
 // Each stretch on its line.
-fn put_runs(out: &mut [u8], runs: Runs) -> usize
-    requires { ⌜ Printable (now out) runs ⌝ }
-    ensures { λ r. ⌜ Prints (now (out .entry)) 0 (linesText runs) (now (out .exit)) r ⌝ }
+fn put_stretches(out: &mut [u8], stretches: Stretches) -> usize
+    requires { ⌜ Printable (now out) stretches ⌝ }
+    ensures { λ r. ⌜ Prints (now (out .entry)) 0 (linesText stretches) (now (out .exit)) r ⌝ }
 {
-    let list = runs.list;
-    let n = runs.n;
+    let list = stretches.list;
+    let n = stretches.n;
     let mut at = 0;
     let mut i = 0;
     while i < n {
-        at = put_run(out, at, list[i]);
+        at = put_stretch(out, at, list[i]);
         i += 1;
     }
     at
@@ -82,9 +69,9 @@ fn put_listing(out: &mut [u8], listing: Listing) -> usize
     requires { ⌜ Few listing ⌝ }
     ensures { λ r. ⌜ Prints (now (out .entry)) 0 (listedText listing) (now (out .exit)) r ⌝ }
 {
-    let runs = listing.runs;
+    let stretches = listing.stretches;
     if listing.number == 0 {
-        return put_runs(out, runs);
+        return put_stretches(out, stretches);
     }
     put_refusal(out, listing.number)
 }

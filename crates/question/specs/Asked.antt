@@ -10,7 +10,7 @@ use Rattle.rules.specs.Lists.{any}
 use Rattle.rules.specs.Days.{isDay}
 use Rattle.rules.specs.Book.{sale, purchase}
 use Rattle.rules.specs.Question.{Question, askedOf, questionOf}
-use Rattle.rules.specs.declared.Currency.{Currency}
+pub use Rattle.rules.specs.Question.{lettersOf}
 use Rattle.layout.specs.Reads.{part, nameStop}
 use Rattle.question.specs.declared.Ask.{Ask}
 use Rattle.question.specs.declared.Terms.{Terms}
@@ -49,9 +49,6 @@ pub record AskAt (s : List ℕ) (a g : ℕ) : Type 0 where
   pub properties : PropertiesStand s (g + 1) (getD s g 0)
   pub names-end : g ≡ stopAfter nameStop s (a + 12 + 1) (getD s (a + 12) 0)
   pub is : questionOf s ≡ some (questionAt s a g)
-
-abbrev pub lettersOf : Currency → List ℕ
-lettersOf c = c .0 ∷ c .1 ∷ c .2 ∷ []
 
 -- the definition's question, of the places in s
 abbrev pub askIn : List ℕ → Ask → Question

@@ -21,7 +21,7 @@ use Rattle.rules.specs.Refusals.{done}
 use Rattle.rules.specs.Price as Price
 use Rattle.rules.specs.Price.{Answer, price}
 use Rattle.rules.specs.Calendar as Calendar
-use Rattle.rules.specs.Calendar.{Stretch, stretchesBytes, calendarIn, calendar, calendarList, listed}
+use Rattle.rules.specs.Calendar.{Stretch, stretchesBytes, calendarIn, calendar, calendarList}
 use Rattle.rules.specs.Program.{output, asked, digits}
 use Rattle.rules.specs.declared.Value.{Value}
 use Rattle.rules.specs.declared.Value.the-variants.{Fixed, Percent}
@@ -140,7 +140,7 @@ pub calendar-K : (room : ℕ) → 60 ≤ room → calendar bookK calendarAsked c
 calendar-K room h = calendar-room stretchesBytes bookK calendarAsked calendarEnd 60 room stretchesK just-bytes h
 
 pub list-K : (room : ℕ) → 3 ≤ room → calendarList bookK calendarAsked calendarEnd room ≡ done stretchesK
-list-K room h = calendar-room (map listed) bookK calendarAsked calendarEnd 3 room stretchesK just-records h
+list-K room h = calendar-room (λ ss. ss) bookK calendarAsked calendarEnd 3 room stretchesK just-records h
 
 -- ---- and printed whole
 

@@ -14,7 +14,7 @@ use Rattle.rules.specs.BookLayout.{records}
 use Rattle.rules.specs.Question.{Question, questionOf}
 use Rattle.rules.specs.Refusals.{Result, done, refused, _>>=_, orRefuse, refuseUnless, numberOf}
 use Rattle.rules.specs.Lists.{first}
-use Rattle.rules.specs.Lines.{amounts, ofBase, linesOf, linesBytes, totalOf}
+use Rattle.rules.specs.Lines.{amounts, ofBase, linesOf, mostLinesSize, linesBytes, totalOf}
 use Rattle.rules.specs.declared.Cents.{Cents}
 use Rattle.rules.specs.declared.Total.{Total}
 use Rattle.rules.specs.declared.Total.the-variants.{InRange, OutOfRange}
@@ -139,7 +139,7 @@ answered-lines b s room a e {book} {q} f g =
     ap (λ (k : Answer). k .lines) (sym (x .is)) ∙ priced-range (x .book) (x .question) (x .is-priced) .2 ∙ (λ i. linesOf (same-book i) (same-question i))
 
 -- with room for 99 lines 7 is never given
-pub price-not-seven : (b s : List ℕ) (room : ℕ) → 1386 ≤ room → Refuses (λ n. n ≡ 7 → ⊥) (price b s room)
+pub price-not-seven : (b s : List ℕ) (room : ℕ) → mostLinesSize ≤ room → Refuses (λ n. n ≡ 7 → ⊥) (price b s room)
 unfolding price answerOf
 price-not-seven b s room h =
     or-refuses NotSeven 1 (records b) _ (λ e. omega arith) (λ book.

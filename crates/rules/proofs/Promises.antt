@@ -16,7 +16,7 @@ use Rattle.rules.specs.BookLayout.{records}
 use Rattle.rules.specs.Question.{Question, grants, questionOf, noCurrency}
 use Rattle.rules.specs.Choice.{step₅, choose}
 use Rattle.rules.specs.Amounts.{multipleBy}
-use Rattle.rules.specs.Lines.{Line, sum, amounts, total, slotsAt}
+use Rattle.rules.specs.Lines.{Line, sum, amounts, total, slotsAt, mostLinesSize}
 use Rattle.rules.specs.Refusals.{done, refused, numberOf, lentAfter}
 use Rattle.rules.specs.Price as Price
 use Rattle.rules.specs.Price.{Answer, answerOf, price, unusedOf, setOf}
@@ -29,7 +29,6 @@ use Rattle.rules.specs.Letters.{text}
 use Rattle.rules.specs.Program.{mostInput, behind, bookIn, questionIn, endIn, output}
 use Rattle.rules.specs.declared.Way.{Way}
 use Rattle.rules.specs.declared.Fraction.{Fraction}
-use Rattle.rules.specs.declared.Stretch as Declared
 use Rattle.rules.proofs.DayLaws as Days
 use Rattle.rules.proofs.GivesLaws.{question-sound}
 use Rattle.rules.proofs.BestLaws as Best
@@ -152,7 +151,7 @@ pub price-numbers : (b s : List ℕ) (room : ℕ) → (numberOf (price b s room)
 price-numbers b s room = known-number Calls.PriceRefusal (price b s room) (Calls.price-refuses b s room)
 
 -- 7 is never among them where there is room for 99 lines, 1,386 bytes, as many as a price can have;
-pub price-room-enough : (b s : List ℕ) (room : ℕ) → 1386 ≤ room → numberOf (price b s room) ≡ 7 → ⊥
+pub price-room-enough : (b s : List ℕ) (room : ℕ) → mostLinesSize ≤ room → numberOf (price b s room) ≡ 7 → ⊥
 price-room-enough b s room h e = let z : numberOf (price b s room) ≡ 0 → ⊥ = λ o. omega arith in known-number (λ n. n ≡ 7 → ⊥) (price b s room) (Calls.price-not-seven b s room h) z e
 
 -- a calendar, in either form, has 1, 2, 9, 3 or 7, and so never 10.
@@ -177,11 +176,11 @@ unfolding Price.shown lentAfter
 refused-price n lent = (refl, refl)
 
 -- for the calendar in both its forms,
-pub refused-calendar : (n : ℕ) (lent : List ℕ) (list : List Declared.Stretch)
+pub refused-calendar : {R : Type 0} (form : Calendars.Stretch → R) (n : ℕ) (lent : List ℕ) (list : List R)
     → (Calendars.shownBytes (refused n) ≡ record { length = 0; number = n }) × (Calendars.lentAfterCalendar (refused n) lent ≡ lent)
-    × (Calendars.shownRecords (refused n) ≡ record { length = 0; number = n }) × (Calendars.lentAfterList (refused n) list ≡ list)
+    × (Calendars.shownRecords (refused n) ≡ record { length = 0; number = n }) × (Calendars.lentAfterList form (refused n) list ≡ list)
 unfolding Calendars.shownBytes Calendars.shownRecords Calendars.lentAfterList lentAfter
-refused-calendar n lent list = (refl, refl, refl, refl)
+refused-calendar form n lent list = (refl, refl, refl, refl)
 
 -- for the final article number,
 pub refused-number : (n : ℕ) (lent : List ℕ) → (FinalNumber.shown (refused n) ≡ record { length = 0; number = n }) × (FinalNumber.lentAfterNumber (refused n) lent ≡ lent)

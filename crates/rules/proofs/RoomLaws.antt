@@ -9,7 +9,7 @@ use lib.ListN.{length, length-append, length-map}
 use Rattle.rules.specs.Lists.{same, keep, consIf, gather, consSome, join}
 use Rattle.rules.specs.Book.{Record, rows, base, surcharge, discount}
 use Rattle.rules.specs.Question.{Question, Grant, grants, firsts, placed}
-use Rattle.rules.specs.Lines.{slotsAt, slots, Line, chosenAt, chosen, linesOf, lineBytes, linesBytes}
+use Rattle.rules.specs.Lines.{slotsAt, slots, Line, chosenAt, chosen, linesOf, lineSize, mostLines, mostLinesSize, lineBytes, linesBytes}
 use Rattle.rules.proofs.LinesLaws.{line-rows}
 
 if-length : {A : Type 0} (b : Bool) (x : A) (xs : List A) → length (consIf b x xs) ≤ suc (length xs)
@@ -53,16 +53,16 @@ slots-length gs =
 lines-length : (book : List Record) (q : Question) → length (linesOf book q) ≡ length (chosen (rows book) q)
 lines-length book q = sym (length-map (linesOf book q) (λ l. l .row)) ∙ ap length (line-rows book q) ∙ length-map (chosen (rows book) q) (λ c. c .row)
 
-most-lines : (book : List Record) (q : Question) → length (q .granted) ≤ 32 → length (linesOf book q) ≤ 99
+most-lines : (book : List Record) (q : Question) → length (q .granted) ≤ 32 → length (linesOf book q) ≤ mostLines
 unfolding chosen
 most-lines book q h =
     omega
     (arith, lines-length book q, gather-length (chosenAt (rows book) q) (slots (grants (q .granted))), slots-length (grants (q .granted)), grants-length (q .granted))
 
-lines-bytes : (ls : List Line) → length (linesBytes ls) ≡ 14 * length ls
+lines-bytes : (ls : List Line) → length (linesBytes ls) ≡ lineSize * length ls
 unfolding linesBytes
 lines-bytes [] = refl
 lines-bytes (l ∷ ls) = length-append (lineBytes l) (join (map lineBytes ls)) ∙ omega (arith, lines-bytes ls)
 
-pub enough-room : (book : List Record) (q : Question) → length (q .granted) ≤ 32 → length (linesBytes (linesOf book q)) ≤ 1386
+pub enough-room : (book : List Record) (q : Question) → length (q .granted) ≤ 32 → length (linesBytes (linesOf book q)) ≤ mostLinesSize
 enough-room book q h = omega (arith, lines-bytes (linesOf book q), most-lines book q h)

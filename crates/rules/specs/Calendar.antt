@@ -1,5 +1,6 @@
 -- "Calendar": the outcome of each day of a period, and the longest stretches of days with one outcome.
 use Prim.Native.Nat.{ℕ, _+_}
+use mathlib.Core.Path.{_≡_}
 use mathlib.Core.Bool.{Bool, true, false, _&&_, cond}
 use mathlib.Core.List.{List, [], _∷_, _++_, map}
 use mathlib.Core.Option.{Option, none}
@@ -11,12 +12,12 @@ use Rattle.rules.specs.Bytes.{bytesOf, signedBytesOf}
 use Rattle.rules.specs.Days.{isDay, daysTo}
 use Rattle.rules.specs.Book.{Record, articleOf}
 use Rattle.rules.specs.BookLayout.{records}
-use Rattle.rules.specs.Question.{Question, questionOf, on, noCurrency}
+use Rattle.rules.specs.Question.{Question, questionOf, on, noCurrency, lettersOf}
 use Rattle.rules.specs.Lines.{total}
 use Rattle.rules.specs.Refusals.{Result, done, _>>=_, orRefuse, refuseUnless, numberOf, orZero, lentAfter}
 use Rattle.rules.specs.Price.{Priced, priced}
-use Rattle.rules.specs.declared.Written.{Written}
-use Rattle.rules.specs.declared.Stretch as Declared
+use Rattle.rules.specs.declared.CalendarAnswer.{CalendarAnswer}
+use Rattle.rules.specs.declared.Outcome as Declared
 
 -- ---- the outcome of a day
 
@@ -25,6 +26,14 @@ pub record Outcome : Type 0 where
   pub refusal : ℕ
   pub currency : List ℕ
   pub unit : ℤ
+
+-- the outcome for which one in the code stands
+abbrev pub asOutcome : Declared.Outcome → Outcome
+asOutcome r = record { refusal = r .refusal; currency = lettersOf (r .currency); unit = r .unit .0 }
+
+-- `r` in the code stands for this outcome
+pub record OutcomeIs (o : Outcome) (r : Declared.Outcome) : Type 0 where
+  pub is : asOutcome r ≡ o
 
 unfoldable pub outcomeOf : Result Priced → Outcome
 outcomeOf r = record { refusal = numberOf r; currency = orZero noCurrency (λ p. p .currency) r; unit = orZero (pos 0) (λ p. total (p .lines)) r }
@@ -95,23 +104,20 @@ calendarIn form bookBytes questionBytes end room = do
 abbrev pub calendar : List ℕ → List ℕ → ℕ → ℕ → Result (List Stretch)
 calendar bookBytes questionBytes end room = calendarIn stretchesBytes bookBytes questionBytes end room
 
-unfoldable pub shownBytes : Result (List Stretch) → Written
+unfoldable pub shownBytes : Result (List Stretch) → CalendarAnswer
 shownBytes r = record { length = orZero 0 (λ ss. length (stretchesBytes ss)) r; number = numberOf r }
 
 abbrev pub lentAfterCalendar : Result (List Stretch) → List ℕ → List ℕ
 lentAfterCalendar r lent = lentAfter stretchesBytes r lent
 
--- ---- as a lent list of records
-
-abbrev pub listed : Stretch → Declared.Stretch
-listed s =
-    record { first = s .first; last = s .last; unit = s .outcome .unit; refusal = s .outcome .refusal; currency = s .outcome .currency }
+-- ---- as a lent list of records, one for each stretch
 
 abbrev pub calendarList : List ℕ → List ℕ → ℕ → ℕ → Result (List Stretch)
-calendarList bookBytes questionBytes end room = calendarIn (map listed) bookBytes questionBytes end room
+calendarList bookBytes questionBytes end room = calendarIn (λ ss. ss) bookBytes questionBytes end room
 
-unfoldable pub shownRecords : Result (List Stretch) → Written
+unfoldable pub shownRecords : Result (List Stretch) → CalendarAnswer
 shownRecords r = record { length = orZero 0 length r; number = numberOf r }
 
-unfoldable pub lentAfterList : Result (List Stretch) → List Declared.Stretch → List Declared.Stretch
-lentAfterList r lent = lentAfter (map listed) r lent
+-- `form` is the record of a stretch
+unfoldable pub lentAfterList : {R : Type 0} → (Stretch → R) → Result (List Stretch) → List R → List R
+lentAfterList form r lent = lentAfter (map form) r lent

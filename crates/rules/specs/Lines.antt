@@ -1,5 +1,5 @@
 -- "From rows to a total": which components bring a line, in which order, and the amount of each line.
-use Prim.Native.Nat.{ℕ}
+use Prim.Native.Nat.{ℕ, _*_}
 use mathlib.Core.Bool.{Bool, cond}
 use mathlib.Core.List.{List, [], _∷_, _++_, map}
 use mathlib.Core.Option.{Option, none, Option·map}
@@ -104,7 +104,19 @@ mostTotal = 1_000_000_000
 unfoldable pub totalOf : List ℤ → Total
 totalOf zs = cond (all (eitherSide mostTotal) (running (pos 0) zs)) (InRange (record { 0 = sum zs })) OutOfRange
 
--- ---- the 14 bytes of a line
+-- ---- the bytes of the lines
+
+-- of a line
+abbrev pub lineSize : ℕ
+lineSize = 14
+
+-- without a condition and for each of 32 granted names there is at most a line at each of three levels
+abbrev pub mostLines : ℕ
+mostLines = 99
+
+-- so much room is enough for the lines of any price
+abbrev pub mostLinesSize : ℕ
+mostLinesSize = mostLines * lineSize
 
 abbrev pub lineBytes : Line → List ℕ
 lineBytes l = bytesOf 4 (l .row .text) ++ (l .row .level ∷ l .place ∷ signedBytesOf 8 (l .amount))

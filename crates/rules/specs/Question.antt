@@ -4,13 +4,14 @@ use mathlib.Core.Bool.{Bool, _||_, not, cond}
 use mathlib.Core.List.{List, [], _∷_, _++_, map}
 use mathlib.Core.Option.{Option, some, none}
 use lib.Dec.{eqb}
-use lib.ListN.{length, take, drop}
+use lib.ListN.{length, take, drop, getD}
 use Rattle.rules.specs.Lists.{same, between, all, any, keep}
 use Rattle.rules.specs.Letters.{letter}
 use Rattle.rules.specs.Layout.{Layout, _>>=_, give, _such_, bytes, byte, times, whole}
 use Rattle.rules.specs.Bytes.{number, name, oneOf, head, capitals, raise, bytesOf}
 use Rattle.rules.specs.Days.{isDay}
 use Rattle.rules.specs.Book.{sale, purchase}
+use Rattle.rules.specs.declared.Currency.{Currency}
 
 pub record Property : Type 0 where
   pub width : ℕ
@@ -31,6 +32,13 @@ pub record Question : Type 0 where
 
 abbrev pub noCurrency : List ℕ
 noCurrency = 0 ∷ 0 ∷ 0 ∷ []
+
+-- the three bytes of a currency in the code, and the currency of three bytes
+abbrev pub lettersOf : Currency → List ℕ
+lettersOf c = c .0 ∷ c .1 ∷ c .2 ∷ []
+
+abbrev pub currencyOf : List ℕ → Currency
+currencyOf s = record { 0 = getD s 0 0; 1 = getD s 1 0; 2 = getD s 2 0 }
 
 abbrev pub askedOf : List ℕ → Option (List ℕ)
 askedOf c = cond (same c noCurrency) none (some c)

@@ -4,6 +4,7 @@
 // ---- three sorts of whole number (the third, `Day`, has its own crate)
 
 // Hundredths of a currency's unit.
+#[repr(C)]
 pub struct Cents(pub i64);
 
 // Hundredths of a percent.
@@ -17,7 +18,8 @@ pub enum Value {
     Percent(Hundredths),
 }
 
-// Three capitals.
+// Three capitals; or three zeros, where there is none.
+#[repr(C)]
 pub struct Currency(pub u8, pub u8, pub u8);
 
 // Some bytes of a record: where they start in it, and how many they are.
@@ -66,11 +68,27 @@ pub struct Fraction {
     pub bottom: u64,
 }
 
+// A total is in range from the first of these to the second, both among them, in cents.
+pub const LEAST_TOTAL: i64 = -1_000_000_000;
+
+pub const MOST_TOTAL: i64 = 1_000_000_000;
+
 // What lines come to, if the total was in range after each of them; or that it was not.
 pub enum Total {
     InRange(Cents),
     OutOfRange,
 }
+
+// What a day comes to: 0, the currency and what one piece costs; or the number of the refusal, with zeros.
+#[repr(C)]
+pub struct Outcome {
+    pub unit: Cents,
+    pub refusal: u8,
+    pub currency: Currency,
+}
+
+// The bytes of a line.
+pub const LINE_SIZE: usize = 14;
 
 // ---- what a caller reads
 
@@ -87,21 +105,18 @@ pub struct PriceAnswer {
     pub currency: [u8; 3],
 }
 
-// How much a call wrote: bytes, or records of a lent list.
+// A calendar: how much of it was written, in bytes or in records of a lent list, and the number of the refusal or 0.
 #[repr(C)]
-pub struct Written {
+pub struct CalendarAnswer {
     pub length: u64,
     pub number: u8,
 }
 
-// Days in a row with one outcome: a unit total in a currency, or a refusal with zeros.
+// How many bytes a call wrote.
 #[repr(C)]
-pub struct Stretch {
-    pub first: u32,
-    pub last: u32,
-    pub unit: i64,
-    pub refusal: u8,
-    pub currency: [u8; 3],
+pub struct Written {
+    pub length: u64,
+    pub number: u8,
 }
 
 // Packaging data: the gross weight, the eight values, which of them are present (a bit for each), and the units of length, volume and weight.

@@ -9,8 +9,9 @@ use lib.IntN.{ℤ, pos, negsuc}
 use mir.Syntax.{w64}
 use mir.Val.{ofZ, SFits}
 use borrow.Author.Tests.{eq-eqb, ne-eqb, eqb-true, eqb-false}
-use Rattle.rules.specs.Calendar.{Outcome, sameInt, sameOutcome, outcome}
+use Rattle.rules.specs.Calendar.{Outcome, asOutcome, OutcomeIs, sameInt, sameOutcome, outcome}
 use Rattle.rules.specs.Question.{on}
+use Rattle.rules.specs.declared.Outcome as Coded
 use Rattle.rules.proofs.TestLaws.{and-true}
 use Rattle.rules.proofs.CalendarLaws.{eq-of, same-outcome}
 use Rattle.rules.proofs.WalkLaws as Walk
@@ -22,10 +23,8 @@ use Rattle.choice.specs.Walk.{Asking, askOn}
 use Rattle.choice.proofs.ChosenLaws.{asking-on, ask-on}
 use Rattle.survey.specs.declared.window.Window.{Window}
 use Rattle.survey.specs.Window.{Windows}
-use Rattle.stretches.specs.declared.turns.Run.{Run}
-use Rattle.price.specs.declared.day.DayPrice.{DayPrice}
-use Rattle.price.specs.Day.{DayPriceIs}
-use Rattle.stretches.specs.Runs.{asStretch, AskedOn, Opened, Longer, Steady, Turned}
+use Rattle.stretches.specs.declared.Stretch as Declared
+use Rattle.stretches.specs.Stretches.{AskedOn, Opened, Longer, Steady, Turned}
 
 -- ---- outcomes compared
 
@@ -43,8 +42,8 @@ int-bits (negsuc a) (negsuc b) f g = go (eqb a b) refl
     go true e = sym (eq-eqb (18446744073709551616 - suc a) (18446744073709551616 - suc b) (ap (λ (n : ℕ). 18446744073709551616 - suc n) (eqb-true a b e)))
     go false e = sym (ne-eqb (18446744073709551616 - suc a) (18446744073709551616 - suc b) (λ h. eqb-false a b e (omega (arith, f .sfits, g .sfits))))
 
-pub outcome-same : (a b : Run) → SFits w64 (a .unit .0) → SFits w64 (b .unit .0)
-    → Says (sameOutcome (asStretch a .outcome) (asStretch b .outcome))
+pub outcome-same : (a b : Coded.Outcome) → SFits w64 (a .unit .0) → SFits w64 (b .unit .0)
+    → Says (sameOutcome (asOutcome a) (asOutcome b))
     (eqb (a .refusal) (b .refusal) && ((eqb (a .currency .0) (b .currency .0) && (eqb (a .currency .1) (b .currency .1) && eqb (a .currency .2) (b .currency .2))) && eqb (ofZ w64 (a .unit .0)) (ofZ w64 (b .unit .0))))
 unfolding sameOutcome
 outcome-same a b f g = record {
@@ -73,32 +72,28 @@ module _ (b q : List ℕ) {ask : Ask} {d : ℕ} {then : Ask} (a : AskedOn ask d 
   unfolding outcome on
   same-day = λ i. outcome (recordsLeft b 5) (asked-is i) (a .is i .date .0)
 
-  pub opened-is : {p : DayPrice} → DayPriceIs (outcome (recordsLeft b 5) (askIn q then) (then .date .0)) p
-      → Opened (outcome (recordsLeft b 5) (askIn q ask)) d (record { first = record { 0 = d }; last = record { 0 = d }; refusal = p .number; currency = p .currency; unit = p .unit })
-  opened-is h = record {
-    is =
-        (λ i. record { first = d; last = d; outcome = record { refusal = h .number i; currency = h .currency i; unit = h .unit i } })
-        ∙ ap (Walk.opened d) same-day;
-  }
+  pub opened-is : {o : Coded.Outcome} → OutcomeIs (outcome (recordsLeft b 5) (askIn q then) (then .date .0)) o
+      → Opened (outcome (recordsLeft b 5) (askIn q ask)) d (record { first = record { 0 = d }; last = record { 0 = d }; outcome = o })
+  opened-is h = record { is = ap (Walk.opened d) (h .is ∙ same-day) }
 
 -- ---- the turn
 
-module _ {f : ℕ → Outcome} {run : Run} {d : ℕ} where
-  grown : {r : Run} → Longer run d r → asStretch run .outcome ≡ f d → Turned f run d (record { run = r; fresh = 0 })
+module _ {f : ℕ → Outcome} {hand : Declared.Stretch} {d : ℕ} where
+  grown : {r : Declared.Stretch} → Longer hand d r → asOutcome (hand .outcome) ≡ f d → Turned f hand d (record { stretch = r; fresh = 0 })
   unfolding Walk.turned
   grown l e =
-      let s : sameOutcome (asStretch run .outcome) (f d) ≡ true = same-outcome (asStretch run .outcome) (f d) e in
-      record { most = omega arith; fresh = rw s; is = rw s (l .is ∙ (λ i. record { first = run .first .0; last = d; outcome = e i })) }
+      let s : sameOutcome (asOutcome (hand .outcome)) (f d) ≡ true = same-outcome (asOutcome (hand .outcome)) (f d) e in
+      record { most = omega arith; fresh = rw s; is = rw s (l .is ∙ (λ i. record { first = hand .first .0; last = d; outcome = e i })) }
 
-  pub turned-quiet : {due : Bool} {r : Run} → Steady f run d due → due ≡ false → Longer run d r → Turned f run d (record { run = r; fresh = 0 })
+  pub turned-quiet : {due : Bool} {r : Declared.Stretch} → Steady f hand d due → due ≡ false → Longer hand d r → Turned f hand d (record { stretch = r; fresh = 0 })
   turned-quiet s e l = grown l (s .stays e)
 
-  module _ {new : Run} {b : Bool} (o : Opened f d new) (t : Says (sameOutcome (asStretch run .outcome) (asStretch new .outcome)) b) where
-    pub turned-same : {r : Run} → b ≡ true → Longer run d r → Turned f run d (record { run = r; fresh = 0 })
-    turned-same e l = grown l (eq-of (asStretch run .outcome) (asStretch new .outcome) (t .is ∙ e) ∙ ap (λ s. s .outcome) (o .is))
+  module _ {new : Declared.Stretch} {b : Bool} (o : Opened f d new) (t : Says (sameOutcome (asOutcome (hand .outcome)) (asOutcome (new .outcome))) b) where
+    pub turned-same : {r : Declared.Stretch} → b ≡ true → Longer hand d r → Turned f hand d (record { stretch = r; fresh = 0 })
+    turned-same e l = grown l (eq-of (asOutcome (hand .outcome)) (asOutcome (new .outcome)) (t .is ∙ e) ∙ ap (λ s. s .outcome) (o .is))
 
-    pub turned-new : b ≡ false → Turned f run d (record { run = new; fresh = 1 })
+    pub turned-new : b ≡ false → Turned f hand d (record { stretch = new; fresh = 1 })
     unfolding Walk.turned
     turned-new e =
-        let s : sameOutcome (asStretch run .outcome) (f d) ≡ false = ap (λ (x : Outcome). sameOutcome (asStretch run .outcome) x) (sym (ap (λ s. s .outcome) (o .is))) ∙ (t .is ∙ e) in
+        let s : sameOutcome (asOutcome (hand .outcome)) (f d) ≡ false = ap (λ (x : Outcome). sameOutcome (asOutcome (hand .outcome)) x) (sym (ap (λ s. s .outcome) (o .is))) ∙ (t .is ∙ e) in
         record { most = omega arith; fresh = rw s; is = rw s (o .is) }

@@ -6,7 +6,6 @@ use crate::fields::three;
 use layout::names::same_bytes;
 use rules::PriceAnswer;
 use rules::TextAnswer;
-use rules::Written;
 ghost use Prim.Native.Nat.{_≤_};
 
 // The byte that stands where nothing was written.
@@ -58,7 +57,7 @@ fn calendar(book: &[u8], question: &[u8], end: u32, room: usize)
     let mut out = [FILL; 2048];
     let answer = plugin::rafttwine_calendar(book, question, end, &mut out[..room]);
     io::write_all(1, b"calendar");
-    written(answer);
+    written(answer.number, answer.length);
     bytes(&out, room + 8);
 }
 
@@ -68,13 +67,14 @@ fn final_number(book: &[u8], question: &[u8], room: usize)
     let mut out = [FILL; 2048];
     let answer = plugin::rafttwine_final_number(book, question, &mut out[..room]);
     io::write_all(1, b"final_number");
-    written(answer);
+    written(answer.number, answer.length);
     bytes(&out, room + 8);
 }
 
-fn written(answer: Written) {
-    number(answer.number as u64);
-    number(answer.length);
+// The number that a call gave, and the length that it wrote.
+fn written(refusal: u8, length: u64) {
+    number(refusal as u64);
+    number(length);
 }
 
 fn packaging(book: &[u8], question: &[u8]) {

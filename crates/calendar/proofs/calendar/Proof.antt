@@ -21,11 +21,11 @@ calendar-spec =
     (λ c κs.
     let l = c .before .before .before .before .before in
     let s = l .before .before .before .before in
-    calendar-writable (now (s .args .book)) (now (s .args .question)) (s .args .end) (now (s .args .out)) (l .listing-of .ensures) (c .before .before .refusal .ensures) (c .before .if1 .left))  -- write-runs-requires
+    calendar-writable (now (s .args .book)) (now (s .args .question)) (s .args .end) (now (s .args .out)) (l .listing-of .ensures) (c .before .before .refusal .ensures) (c .before .if1 .left))  -- write-stretches-requires
     (λ c. search needs)  -- same-length
     (λ c.
     let w = c .before .before in
     let l = w .before .before .before .before .before .before in
     let s = l .before .before .before .before in
     calendar-done (now (s .args .book)) (now (s .args .question)) (s .args .end) (now (s .args .out)) (l .listing-of .ensures) (w .before .before .before .refusal .ensures) (w .before .before .if1 .left)
-    (w .write-runs .ensures)))  -- returns-2
+    (w .write-stretches .ensures)))  -- returns-2

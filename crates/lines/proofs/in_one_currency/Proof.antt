@@ -1,7 +1,7 @@
 -- `lines::in_one_currency` meets its contract: the flag and the rows that are left say the whole, by the laws `compare-..`.
 use Prim.Native.Nat.{_-_}
 use borrow.Author.Needs.{needs}
-use Rattle.lines.specs.Views.{letters}
+use Rattle.rules.specs.Question.{lettersOf}
 use Rattle.lines.proofs.WalkLaws.{Comparing, compare-start, compare-again, compare-end}
 use Rattle.lines.proofs.in_one_currency.Statement.{statement}
 use Rattle.lines.proofs.in_one_currency.Tie as tie
@@ -9,7 +9,7 @@ use Rattle.lines.proofs.in_one_currency.Tie as tie
 ruleset laws = (needs, compare-start, compare-again, compare-end)
 
 abbrev Inv-loop : tie.InvT-loop
-Inv-loop n c picks ok₀ i₀ ok i = Comparing (letters c) picks n ok i
+Inv-loop n c picks ok₀ i₀ ok i = Comparing (lettersOf c) picks n ok i
 
 abbrev μ-loop : tie.MeasureT-loop
 μ-loop n c picks ok₀ i₀ ok i = n - i

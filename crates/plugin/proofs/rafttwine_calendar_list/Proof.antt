@@ -50,15 +50,15 @@ use denote.Triple.Walked.{says, Stays, stay-slice, stay-none-slice, stay-none, w
 use denote.Exit.{yes}
 use borrow.Author.Needs.{scaled-fits}
 use borrow.Author.Tests.{lt-ltb, le-ltb}
-use Rattle.rules.specs.declared.Stretch.{Stretch}
-use Rattle.rules.specs.declared.Written.{Written}
+use Rattle.stretches.specs.declared.Stretch.{Stretch}
+use Rattle.rules.specs.declared.CalendarAnswer.{CalendarAnswer}
 use Rattle.calendar.specs.declared.listing.Listing.{Listing}
-use Rattle.calendar.specs.Listing.{listing, ListingIs, ListAnswer, RecordAt, recordIn, filled}
+use Rattle.calendar.specs.Listing.{listing, ListingIs, ListAnswer, StretchAt, stretchOf, filled}
 use Rattle.calendar.proofs.RecordLaws.{filled-length, list-room, list-few, list-called}
-use Rattle.rules.proofs.Stretch as T
-use Rattle.rules.proofs.Stretch.Laws as T′
-use Rattle.rules.proofs.Written as R
-use Rattle.rules.proofs.Written.Laws as R′
+use Rattle.stretches.proofs.Stretch as T
+use Rattle.stretches.proofs.Stretch.Laws as T′
+use Rattle.rules.proofs.CalendarAnswer as R
+use Rattle.rules.proofs.CalendarAnswer.Laws as R′
 use Rattle.calendar.proofs.listing.Listing as L
 use Rattle.calendar.proofs.listing.Listing.Laws as L′
 use Rattle.calendar.proofs.listing.listing_of as of
@@ -69,10 +69,10 @@ use Rattle.calendar.proofs.list.list_answer as answer
 use Rattle.calendar.proofs.list.list_answer.Symbol as answer-def
 use Rattle.calendar.proofs.list.list_answer.Symbol.{name as #answer}
 use Rattle.calendar.proofs.list.list_answer.Met as answer-thm
-use Rattle.calendar.proofs.list.record_at as at
-use Rattle.calendar.proofs.list.record_at.Symbol as at-def
-use Rattle.calendar.proofs.list.record_at.Symbol.{name as #at}
-use Rattle.calendar.proofs.list.record_at.Met as at-thm
+use Rattle.calendar.proofs.list.stretch_at as at
+use Rattle.calendar.proofs.list.stretch_at.Symbol as at-def
+use Rattle.calendar.proofs.list.stretch_at.Symbol.{name as #at}
+use Rattle.calendar.proofs.list.stretch_at.Met as at-thm
 use Rattle.plugin.proofs.rafttwine_calendar_list.Key.{name as #list}
 use Rattle.plugin.proofs.rafttwine_calendar_list as f
 use Rattle.plugin.proofs.rafttwine_calendar_list.Statement as stated
@@ -150,7 +150,7 @@ module _ {M : Type 1} (𝓤 : URA M) (H : Heap 𝓤) (A : Atoms 𝓤) (W : Given
         nothing ! $ owned ! usize (Is usize) (uint-makes 𝓤 H A W w64) (length ys) _ (refl, g) $ fjoin ! $ owned ! L.the-row (Is L.the-row) (LL.makes L.the-type L′.the-plain 𝓤 H A) l _ is $ fjoin ! $
         move ! (1 ∷ 0 ∷ []) $ join ! $ frame ! $ done !
 
-    said-answer : (r : Written) → ent 𝓤 (ensured 𝓤 H A answer.ended (answer.clauses 𝓤 H A mem run) tt (l, (length ys, tt)) tt r) (fact 𝓤 (ListAnswer l (length ys) r))
+    said-answer : (r : CalendarAnswer) → ent 𝓤 (ensured 𝓤 H A answer.ended (answer.clauses 𝓤 H A mem run) tt (l, (length ys, tt)) tt r) (fact 𝓤 (ListAnswer l (length ys) r))
     said-answer r = exE 𝓤 _ (λ ws. snd∗ 𝓤 (sem 𝓤 H A (lasts answer.ended tt (l, (length ys, tt)) ws)) (fact 𝓤 (ListAnswer l (length ys) r)))
 
     abbrev to-at : ℕ → At 𝓤 H A mem run .Ghost
@@ -161,25 +161,25 @@ module _ {M : Type 1} (𝓤 : URA M) (H : Heap 𝓤) (A : Atoms 𝓤) (W : Given
         qed W (‵ ftrue ∷ []) ∵ says ! small $ frame ! $
         nothing ! $ owned ! usize (Is usize) (uint-makes 𝓤 H A W w64) i _ (refl, g) $ fjoin ! $ owned ! L.the-row (Is L.the-row) (LL.makes L.the-type L′.the-plain 𝓤 H A) l _ is $ fjoin ! $ done !
 
-    said-at : (i : ℕ) (t : Stretch) → ent 𝓤 (ensured 𝓤 H A at.ended (at.clauses 𝓤 H A mem run) tt (l, (i, tt)) tt t) (fact 𝓤 (RecordAt l i t))
-    said-at i t = exE 𝓤 _ (λ ws. snd∗ 𝓤 (sem 𝓤 H A (lasts at.ended tt (l, (i, tt)) ws)) (fact 𝓤 (RecordAt l i t)))
+    said-at : (i : ℕ) (t : Stretch) → ent 𝓤 (ensured 𝓤 H A at.ended (at.clauses 𝓤 H A mem run) tt (l, (i, tt)) tt t) (fact 𝓤 (StretchAt l i t))
+    said-at i t = exE 𝓤 _ (λ ws. snd∗ 𝓤 (sem 𝓤 H A (lasts at.ended tt (l, (i, tt)) ws)) (fact 𝓤 (StretchAt l i t)))
 
   -- ---- the end
 
-  module _ (l : Listing) (r : Written) (w : Val) where
+  module _ (l : Listing) (r : CalendarAnswer) (w : Val) where
     abbrev zs : List Stretch
-    zs = filled ys (recordIn l) (r .length)
+    zs = filled ys (stretchOf l) (r .length)
 
     exits : ListingIs (listing (book .now) (question .now) end) l → ListAnswer l (length ys) r → Is R.the-row r (w ∷ []) → end < 2 ^ 32 → Room T.the-row (length ys)
         → ent 𝓤 (⋆ 𝓤 H A (‵ (fobs γ (codedHoleys T.the-row .code (heres T.the-row zs))) ∷ ‵ (fbor κ₂ (Held T.the-row (length zs) b o γ)) ∷ ‵ (flft κ₂ q₂) ∷ Tokens ∷ ‵ Own₁ ∷ ‵ Own₂ ∷ [])) (Post w)
     exits h a is ge room =
         qed W (‵ (fobs γ (codedHoleys T.the-row .code (heres T.the-row zs))) ∷ ‵ (fbor κ₂ (Held T.the-row (length zs) b o γ)) ∷ ‵ (flft κ₂ q₂) ∷ Tokens ∷ ‵ Own₁ ∷ ‵ Own₂ ∷ []) ∵
-        suffices ! _ (ends-at 𝓤 H A f.ended stayed (f.clauses 𝓤 H A mem run) W (((κ₀, (κ₁, (κ₂, tt))), (q₀, (q₁, (q₂, tt))), tt, x, vals), tt) w r (tt, (tt, (tt, (zs, tt)))) (tt, (tt, (tt, (filled-length ys (recordIn l) (r .length), tt))))) $
+        suffices ! _ (ends-at 𝓤 H A f.ended stayed (f.clauses 𝓤 H A mem run) W (((κ₀, (κ₁, (κ₂, tt))), (q₀, (q₁, (q₂, tt))), tt, x, vals), tt) w r (tt, (tt, (tt, (zs, tt)))) (tt, (tt, (tt, (filled-length ys (stretchOf l) (r .length), tt))))) $
         says ! (list-called (book .now) (question .now) end ys h a) $
         -- the tokens, in the parameters' order
         move ! (3 ∷ []) $ split ! $ move ! (1 ∷ []) $ split ! $ move ! (5 ∷ 1 ∷ []) $ join ! $ move ! (1 ∷ 0 ∷ []) $ join ! $ move ! (1 ∷ 0 ∷ []) $ join ! $ frame ! $
         -- what the parameters own
-        fjoin ! $ pureI ! (at-slice T.the-row (ref zs) (v ∷ [])) (tt, (tt, tt)) (ap (λ (m : ℕ). sliceVal (b, o) m ∷ []) (sym (filled-length ys (recordIn l) (r .length))), subst (Room T.the-row) (sym (filled-length ys (recordIn l) (r .length))) room) $ fjoin ! $
+        fjoin ! $ pureI ! (at-slice T.the-row (ref zs) (v ∷ [])) (tt, (tt, tt)) (ap (λ (m : ℕ). sliceVal (b, o) m ∷ []) (sym (filled-length ys (stretchOf l) (r .length))), subst (Room T.the-row) (sym (filled-length ys (stretchOf l) (r .length))) room) $ fjoin ! $
         nothing ! $ move ! (1 ∷ 0 ∷ []) $ fjoin ! $ owned ! u32 (Is u32) (uint-makes 𝓤 H A W w32) end _ (refl, ge) $ fjoin ! $ move ! (2 ∷ 0 ∷ []) $ fjoin ! $ move ! (1 ∷ 0 ∷ []) $ fjoin ! $
         -- and the answer
         owned ! R.the-row (Is R.the-row) (LL.makes R.the-type R′.the-plain 𝓤 H A) r _ is $ move ! (1 ∷ 0 ∷ []) $ done !
@@ -217,14 +217,14 @@ module _ {M : Type 1} (𝓤 : URA M) (H : Heap 𝓤) (A : Atoms 𝓤) (W : Given
           ∷ ‵ (fdies R′.mir l₀) ∷ ‵ (fdies (bytes 0) l₁) ∷ ‵ (fdies (bytes 1) l₂) ∷ ‵ (fdies (tyInt w32) l₃) ∷ ‵ (fdies structs l₄) ∷ ‵ (fdies L′.mir l₅) ∷ ‵ (fdies R′.mir l₆) ∷ ‵ (fdies word l₇) ∷ ‵ (fdies word l₈)
           ∷ ‵ (fdies word l₉) ∷ ‵ (fdies tyBool l₁₀) ∷ ‵ (fdies T′.mir l₁₁) ∷ ‵ (fdies word l₁₂) ∷ ‵ (fdies tyPtr l₁₃) ∷ []
 
-      module _ (l : Listing) (wl : Val) (r : Written) (wr : Val) (of-is : Is L.the-row l (wl ∷ [])) (r-is : Is R.the-row r (wr ∷ [])) (h : ListingIs (listing (book .now) (question .now) end) l) (a : ListAnswer l (length ys) r)
+      module _ (l : Listing) (wl : Val) (r : CalendarAnswer) (wr : Val) (of-is : Is L.the-row l (wl ∷ [])) (r-is : Is R.the-row r (wr ∷ [])) (h : ListingIs (listing (book .now) (question .now) end) l) (a : ListAnswer l (length ys) r)
           (gn : r .length < 2 ^ 64) where
         abbrev n : ℕ
         n = r .length
 
         -- before turn i
         abbrev Turn : ℕ → List (Item 𝓤)
-        Turn i = State (row T.the-row fullShare (filled ys (recordIn l) i) b o) (fat fullShare L′.mir l₅ 0 wl) (fat fullShare R′.mir l₆ 0 wr) (fat fullShare word l₇ 0 (vint w64 n)) (fat fullShare word l₈ 0 (vint w64 i)) (fat fullShare word l₉ 0 (vint w64 (length ys)))
+        Turn i = State (row T.the-row fullShare (filled ys (stretchOf l) i) b o) (fat fullShare L′.mir l₅ 0 wl) (fat fullShare R′.mir l₆ 0 wr) (fat fullShare word l₇ 0 (vint w64 n)) (fat fullShare word l₈ 0 (vint w64 i)) (fat fullShare word l₉ 0 (vint w64 (length ys)))
 
         -- the invariant, where t turns are left
         abbrev Inv : ℕ → SProp 𝓤
@@ -249,18 +249,18 @@ module _ {M : Type 1} (𝓤 : URA M) (H : Heap 𝓤) (A : Atoms 𝓤) (W : Given
             -- [the callee's pre; row; _8; _10; _11; _12; _13; _1; _2; _3; _4; _5; ..]
             calls-at ! (fmOf 𝓤 H (W .laws) 𝓣) (At 𝓤 H A mem run) known-at (to-at l wl i) (and-then ! (load ! (from ! (stop !)) (look ! 11 refl)) (and-then ! (load ! (from ! (stop !)) (look ! 2 refl)) (no-more !))) (λ w.
             use1 W (later (some (λ (t : Stretch). (‵ ftrue ⊛ ‵ (T.the-row .own t (w ∷ []))) ⊛ raw (ensured 𝓤 H A at.ended (at.clauses 𝓤 H A mem run) tt (l, (i, tt)) tt t)))) (id⊢ 𝓤 _) $ await ! tt $ pick ! (λ t.
-            split ! $ move ! (1 ∷ []) $ use1 W (raw (fact 𝓤 (RecordAt l i t))) (said-at l wl i t) $ heard ! (RecordAt l i t) (λ e. split ! $ drop ! $
+            split ! $ move ! (1 ∷ []) $ use1 W (raw (fact 𝓤 (StretchAt l i t))) (said-at l wl i t) $ heard ! (StretchAt l i t) (λ e. split ! $ drop ! $
             -- [the record's own; row; _8; _10; _11; _12; _13; _1; _2; _3; _4; ..]
             peeks ! T.the-row (Is T.the-row) (shows 𝓤 H A T.the-row) t (w ∷ []) (λ is.
             land ! (from ! (stop !)) (init ! 4 refl (LL.lawful T.the-type T′.the-laws 𝓤 H A W .typed t _ is .0)) $
             assigns ! (bin ! (load ! (from ! (stop !)) (look ! 2 refl)) (lit ! tt) (scaled-fits i (length ys) 24 within (room .1))) (from ! (stop !)) (init ! 5 refl (tt, scaled-fits i (length ys) 24 within (room .1))) $
             assigns ! (bin ! (load ! (from ! (fld ! refl (stop !))) (look-in ! 10 (sub ! 0 refl (whole !)))) (load ! (from ! (stop !)) (look ! 5 refl)) tt) (from ! (stop !)) (init ! 6 refl (tt, tt)) $
             rewrite ! 6 (λ (p : ℕ). ‵ (fat fullShare tyPtr l₁₃ 0 (vptr b p))) (sym (place-is 24 o i)) refl $
-            move ! (1 ∷ []) $ elem-out ! T.the-row (Is T.the-row) (shows 𝓤 H A T.the-row) (LL.vals T.the-type T′.the-laws) (LL.tells T.the-type T′.the-laws) fullShare (filled ys (recordIn l) i) i t b o in-list (λ _.
+            move ! (1 ∷ []) $ elem-out ! T.the-row (Is T.the-row) (shows 𝓤 H A T.the-row) (LL.vals T.the-type T′.the-laws) (LL.tells T.the-type T′.the-laws) fullShare (filled ys (stretchOf l) i) i t b o in-list (λ _.
             -- [out[i]; what it owns; the others; the record's own; _8; _10; _11; _12; _13; ..]
             assigns ! (of-opd ! (load ! (from ! (stop !)) (look ! 6 refl))) (from ! (hop ! (look ! 8 refl) (stop !))) (store-raw ! 0 refl (LL.lawful T.the-type T′.the-laws 𝓤 H A W .typed t _ is .0)) $
-            move ! (1 ∷ []) $ drop ! $ move ! (0 ∷ 2 ∷ 1 ∷ []) $ elem-put ! T.the-row fullShare (filled ys (recordIn l) i) i t (w ∷ []) b o in-list $
-            rewrite ! 0 (λ (z : Stretch). ‵ (row T.the-row fullShare (set (filled ys (recordIn l) i) i z) b o)) (e .is) refl $
+            move ! (1 ∷ []) $ drop ! $ move ! (0 ∷ 2 ∷ 1 ∷ []) $ elem-put ! T.the-row fullShare (filled ys (stretchOf l) i) i t (w ∷ []) b o in-list $
+            rewrite ! 0 (λ (z : Stretch). ‵ (row T.the-row fullShare (set (filled ys (stretchOf l) i) i z) b o)) (e .is) refl $
             -- [row; _8; _10; _11; _12; _13; ..]
             assigns-last ! (bin ! (load ! (from ! (stop !)) (look ! 1 refl)) (lit ! tt) (record { fits = next-fits })) (from ! (stop !)) (store ! 1 refl (tt, record { fits = next-fits })) $
             forget ! 2 refl $ forget ! 3 refl $ forget ! 4 refl $ forget ! 5 refl $
@@ -278,8 +278,8 @@ module _ {M : Type 1} (𝓤 : URA M) (H : Heap 𝓤) (A : Atoms 𝓤) (W : Given
             within : i < length ys
             within = omega (arith, list-room (book .now) (question .now) end ys h a)
 
-            in-list : i < length (filled ys (recordIn l) i)
-            in-list = omega (arith, within, filled-length ys (recordIn l) i)
+            in-list : i < length (filled ys (stretchOf l) i)
+            in-list = omega (arith, within, filled-length ys (stretchOf l) i)
 
         -- the turn that leaves the loop, and the rest of the body: the borrow is closed at what is filled
         ends : (X : SProp 𝓤) → ent 𝓤 (⋆ 𝓤 H A (Turn n)) (Wp 𝓤 H C Λ En pieces.turn-1 (afterTurn 𝓤 H X Left))
@@ -290,7 +290,7 @@ module _ {M : Type 1} (𝓤 : URA M) (H : Heap 𝓤) (A : Atoms 𝓤) (W : Given
             rewrite ! 2 (λ (t : Bool). ‵ (fat fullShare tyBool l₁₀ 0 (vbool t))) (le-ltb n n (omega arith)) refl $
             leaves-loop ! (load ! (from ! (stop !)) (look ! 2 refl)) $ exec ! C Λ En pieces.t-7 (atRet En Post) $
             assigns ! (of-opd ! (load ! (from ! (stop !)) (look ! 11 refl))) (from ! (stop !)) (init ! 14 refl (LL.lawful R.the-type R′.the-laws 𝓤 H A W .typed r _ r-is .0)) $
-            move ! (0 ∷ 15 ∷ 16 ∷ 17 ∷ []) $ closes-slice ! tt T.the-row ys (filled ys (recordIn l) n) (filled-length ys (recordIn l) n) b o $
+            move ! (0 ∷ 15 ∷ 16 ∷ 17 ∷ []) $ closes-slice ! tt T.the-row ys (filled ys (stretchOf l) n) (filled-length ys (stretchOf l) n) b o $
             -- [obs; the borrow; the token; _8; _10; _11; _12; _13; _1; _2; _3; _4; _5; _6; _7; _9; _0; tokens; Own₁; Own₂; dies]
             returns ! (look ! 16 refl) $ forget ! 3 refl $ forget ! 4 refl $ forget ! 8 refl $ forget ! 9 refl $ forget ! 10 refl $ forget ! 11 refl $ forget ! 12 refl $ forget ! 13 refl $ forget ! 14 refl $ forget ! 15 refl $ forget ! 16 refl $
             move ! (16 ∷ 20 ∷ []) $ free1 ! $ move ! (8 ∷ 19 ∷ []) $ free1 ! $ move ! (8 ∷ 18 ∷ []) $ free1 ! $ move ! (8 ∷ 17 ∷ []) $ free1 ! $ move ! (8 ∷ 16 ∷ []) $ free1 ! $ move ! (8 ∷ 15 ∷ []) $ free1 ! $
@@ -342,13 +342,13 @@ module _ {M : Type 1} (𝓤 : URA M) (H : Heap 𝓤) (A : Atoms 𝓤) (W : Given
           assigns ! (of-opd ! (load ! (from ! (fld ! refl (stop !))) (look-in ! 9 (sub ! 1 refl (whole !))))) (from ! (stop !)) (init ! 13 refl (tt, record { fits = room .0 })) $
           nothing ! $ use1 W (raw (Answer 𝓤 H A mem run .pre (to-answer l wl))) (goes-answer l wl of-is (room .0)) $
           calls-at ! (fmOf 𝓤 H (W .laws) 𝓣) (Answer 𝓤 H A mem run) known-answer (to-answer l wl) (and-then ! (load ! (from ! (stop !)) (look ! 11 refl)) (and-then ! (load ! (from ! (stop !)) (look ! 14 refl)) (no-more !))) (λ wr.
-          use1 W (later (some (λ (r : Written). (‵ ftrue ⊛ ‵ (R.the-row .own r (wr ∷ []))) ⊛ raw (ensured 𝓤 H A answer.ended (answer.clauses 𝓤 H A mem run) tt (l, (length ys, tt)) tt r)))) (id⊢ 𝓤 _) $ await ! tt $ pick ! (λ r.
+          use1 W (later (some (λ (r : CalendarAnswer). (‵ ftrue ⊛ ‵ (R.the-row .own r (wr ∷ []))) ⊛ raw (ensured 𝓤 H A answer.ended (answer.clauses 𝓤 H A mem run) tt (l, (length ys, tt)) tt r)))) (id⊢ 𝓤 _) $ await ! tt $ pick ! (λ r.
           split ! $ move ! (1 ∷ []) $ use1 W (raw (fact 𝓤 (ListAnswer l (length ys) r))) (said-answer l wl r) $ heard ! (ListAnswer l (length ys) r) (λ a. split ! $ drop ! $
           peeks ! R.the-row (Is R.the-row) (shows 𝓤 H A R.the-row) r (wr ∷ []) (λ r-is.
           land ! (from ! (stop !)) (init ! 12 refl (LL.lawful R.the-type R′.the-laws 𝓤 H A W .typed r _ r-is .0)) $ drop ! $
           by ! (answered l wl r wr of-is r-is h a (few-fits r a))))))
         where
-          few-fits : (r : Written) → ListAnswer l (length ys) r → r .length < 2 ^ 64
+          few-fits : (r : CalendarAnswer) → ListAnswer l (length ys) r → r .length < 2 ^ 64
           few-fits r a = omega (arith, list-few (book .now) (question .now) end ys h a)
 
       -- from the start, the list's borrow being open
@@ -436,4 +436,4 @@ rafttwine-calendar-list-spec 𝓤 H 𝓜 𝓖 𝓡 =
     (list-meets 𝓤 H (𝓖 .A) (givenOf 𝓤 H 𝓜 𝓖) (𝓜 .mem) (𝓡 .run) (tablesOf 𝓤 H 𝓜 (tables 𝓤 H 𝓜 𝓡 code.env))
     (cited 𝓤 H (Of 𝓤 H (𝓖 .A) (𝓜 .mem) (𝓡 .run)) 𝓜 𝓡 code.env #of of-def.routine code.calls-calendar·listing·listing-of (of-thm.met 𝓤 H 𝓜 𝓖 𝓡))
     (cited 𝓤 H (Answer 𝓤 H (𝓖 .A) (𝓜 .mem) (𝓡 .run)) 𝓜 𝓡 code.env #answer answer-def.routine code.calls-calendar·list·list-answer (answer-thm.met 𝓤 H 𝓜 𝓖 𝓡))
-    (cited 𝓤 H (At 𝓤 H (𝓖 .A) (𝓜 .mem) (𝓡 .run)) 𝓜 𝓡 code.env #at at-def.routine code.calls-calendar·list·record-at (at-thm.met 𝓤 H 𝓜 𝓖 𝓡)))
+    (cited 𝓤 H (At 𝓤 H (𝓖 .A) (𝓜 .mem) (𝓡 .run)) 𝓜 𝓡 code.env #at at-def.routine code.calls-calendar·list·stretch-at (at-thm.met 𝓤 H 𝓜 𝓖 𝓡)))

@@ -14,8 +14,8 @@ listing-within-spec =
     (λ c κs. search laws)  -- refused-requires
     (λ c. search laws)  -- returns
     (λ c. search needs)  -- array-share-prefix-dates
-    (λ c. search laws)  -- slice-aggregate-runs-in
-    (λ c κs. (search needs, (search laws, (search laws, search laws))))  -- runs-in-requires
+    (λ c. search laws)  -- slice-aggregate-stretches-in
+    (λ c κs. (search needs, (search laws, (search laws, search laws))))  -- stretches-in-requires
     (λ c. search laws)  -- returns-2
     (λ c κs. search laws)  -- refused-requires-2
     (λ c. search laws))  -- returns-3

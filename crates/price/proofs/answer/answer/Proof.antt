@@ -6,6 +6,7 @@ use lib.IntN.{pos, _*ℤ_}
 use mir.Syntax.{w64}
 use mir.Val.{SFits, toZ}
 use mir.ValLaws.{toZ-ofZ}
+use Rattle.rules.specs.Lines.{mostTotal}
 use Rattle.integers.proofs.Signed.{cast64, within64, mul64}
 use Rattle.price.proofs.answer.answer.Statement.{statement}
 use Rattle.price.proofs.answer.answer.Tie as tie
@@ -14,11 +15,11 @@ module _ (s : tie.Start) where
   cast : toZ w64 (s .args .quantity) ≡ pos (s .args .quantity)
   cast = cast64 (s .args .quantity) 100_000 (s .pre .0) tt
 
-  unit-fits : SFits w64 (s .args .v .unit .0)
-  unit-fits = within64 (s .args .v .unit .0) 1_000_000_000 (s .pre .1) tt
+  unit-fits : SFits w64 (s .args .outcome .unit .0)
+  unit-fits = within64 (s .args .outcome .unit .0) mostTotal (s .pre .1) tt
 
-  total-fits : SFits w64 (pos (s .args .quantity) *ℤ s .args .v .unit .0)
-  total-fits = mul64 (pos (s .args .quantity)) (s .args .v .unit .0) 100_000 1_000_000_000 (s .pre .0) (s .pre .1) tt
+  total-fits : SFits w64 (pos (s .args .quantity) *ℤ s .args .outcome .unit .0)
+  total-fits = mul64 (pos (s .args .quantity)) (s .args .outcome .unit .0) 100_000 mostTotal (s .pre .0) (s .pre .1) tt
 
 mul-t9 : tie.Need-mul-t9
 mul-t9 c = let s = c .before .before .before in simp (toZ-ofZ, cast s, unit-fits s) (total-fits s)

@@ -10,7 +10,7 @@ ruleset laws = (needs, asking, kept-out, ask-there, window-there, no-article, ca
 
 returns-3 : tie.Need-returns-3
 returns-3 c =
-    let judged = c .before .before .before in
+    let judged = c .before .before .before .before in
     let picks = judged .before .before in
     let article = picks .before .before in
     let inside = article .before .before .before .before in
@@ -19,7 +19,7 @@ returns-3 c =
 
 returns-4 : tie.Need-returns-4
 returns-4 c =
-    let judged = c .before .before .before .before in
+    let judged = c .before .before .before .before .before in
     let picks = judged .before .before in
     let article = picks .before .before in
     let inside = article .before .before .before .before in
@@ -28,7 +28,7 @@ returns-4 c =
 
 answer-requires : tie.Need-answer-requires
 answer-requires c κs =
-    let judged = c .before .before .before .before .before .before .before .before .before in
+    let judged = c .before .before .before .before .before .before .before .before .before .before in
     let inside = judged .before .before .before .before .before .before .before .before in
     (ask-there (inside .before .before .enter .ensures) (inside .if1 .left) .most, judged .judge .ensures .unit-in)
 
@@ -36,7 +36,7 @@ returns-5 : tie.Need-returns-5
 returns-5 c =
     let wrote = c .before .before .before in
     let idle = wrote .before .before .before in
-    let judged = idle .before .before .before .before in
+    let judged = idle .before .before .before .before .before in
     let picks = judged .before .before in
     let article = picks .before .before in
     let inside = article .before .before .before .before in

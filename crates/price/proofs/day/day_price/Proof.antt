@@ -10,7 +10,7 @@ judge-requires c κs = can-judge (c .before .picks-within .ensures)
 
 returns : tie.Need-returns
 returns c =
-    let judged = c .before .before in
+    let judged = c .before in
     day-priced (judged .before .before .picks-within .ensures) (judged .judge .ensures)
 
 pub day-price-spec : {M : Type 1} → statement M

@@ -9,7 +9,7 @@ pub put-listing-spec : {M : Type 1} → statement M
 put-listing-spec =
     tie.close
     (tie.spec
-    (λ c κs. search laws)  -- put-runs-requires
+    (λ c κs. search laws)  -- put-stretches-requires
     (λ c. search needs)  -- same-length
     (λ c. search laws)  -- returns
     (λ c κs. search laws)  -- put-refusal-requires

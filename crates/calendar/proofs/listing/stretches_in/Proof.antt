@@ -1,13 +1,13 @@
--- `calendar::listing::runs_in` meets its contract: the marks make all other days steady, by `marked`.
+-- `calendar::listing::stretches_in` meets its contract: the marks make all other days steady, by `marked`.
 use borrow.Author.Needs.{needs}
 use Rattle.calendar.proofs.ListingLaws.{window-size, window-between, marked}
-use Rattle.calendar.proofs.listing.runs_in.Statement.{statement}
-use Rattle.calendar.proofs.listing.runs_in.Tie as tie
+use Rattle.calendar.proofs.listing.stretches_in.Statement.{statement}
+use Rattle.calendar.proofs.listing.stretches_in.Tie as tie
 
 ruleset laws = (needs, window-size, window-between, marked)
 
-pub runs-in-spec : {M : Type 1} → statement M
-runs-in-spec =
+pub stretches-in-spec : {M : Type 1} → statement M
+stretches-in-spec =
     tie.close
     (tie.spec
     (λ c. search needs)  -- add-to
@@ -16,5 +16,5 @@ runs-in-spec =
     (λ c. search needs)  -- part-marks-of-start
     (λ c. search needs)  -- part-marks-of-end
     (λ c κs. search laws)  -- marks-of-requires
-    (λ c κs. search laws)  -- runs-of-requires
+    (λ c κs. search laws)  -- stretches-of-requires
     (λ c. search laws))  -- returns

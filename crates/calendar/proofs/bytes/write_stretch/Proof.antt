@@ -1,13 +1,13 @@
--- `calendar::bytes::write_run` meets its contract: four fields, one behind the other, by `run-puts`.
+-- `calendar::bytes::write_stretch` meets its contract: four fields, one behind the other, by `stretch-puts`.
 use borrow.Author.Needs.{needs}
-use Rattle.calendar.proofs.ByteLaws.{run-puts}
-use Rattle.calendar.proofs.bytes.write_run.Statement.{statement}
-use Rattle.calendar.proofs.bytes.write_run.Tie as tie
+use Rattle.calendar.proofs.ByteLaws.{stretch-puts}
+use Rattle.calendar.proofs.bytes.write_stretch.Statement.{statement}
+use Rattle.calendar.proofs.bytes.write_stretch.Tie as tie
 
-ruleset laws = (needs, run-puts)
+ruleset laws = (needs, stretch-puts)
 
-pub write-run-spec : {M : Type 1} → statement M
-write-run-spec =
+pub write-stretch-spec : {M : Type 1} → statement M
+write-stretch-spec =
     tie.close
     (tie.spec
     (λ c κs. search laws)  -- put-four-requires

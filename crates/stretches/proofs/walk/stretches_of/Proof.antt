@@ -1,14 +1,15 @@
--- `stretches::runs::runs_of` meets its contract: the stretches closed, the one in hand and the days to come make up the whole, by the laws `go-..`.
+-- `stretches::walk::stretches_of` meets its contract: the stretches closed, the one in hand and the days to come make up the whole, by
+-- the laws `go-..`.
 use Prim.Native.Nat.{_-_}
 use lib.ListN.{length}
 use borrow.Author.Needs.{needs}
 use Rattle.rules.specs.Calendar.{outcome}
 use Rattle.book.specs.Records.{recordsLeft}
 use Rattle.question.specs.Asked.{askIn}
-use Rattle.stretches.specs.Runs.{Going}
-use Rattle.stretches.proofs.RunLaws.{go-start, go-steady, go-turn, go-end}
-use Rattle.stretches.proofs.runs.runs_of.Statement.{statement}
-use Rattle.stretches.proofs.runs.runs_of.Tie as tie
+use Rattle.stretches.specs.Stretches.{Going}
+use Rattle.stretches.proofs.WalkLaws.{go-start, go-steady, go-turn, go-end}
+use Rattle.stretches.proofs.walk.stretches_of.Statement.{statement}
+use Rattle.stretches.proofs.walk.stretches_of.Tie as tie
 
 ruleset laws = (needs, go-start, go-steady, go-turn, go-end)
 
@@ -18,8 +19,8 @@ Inv-loop b w q ask dates marks list₀ n₀ i₀ list n i = Going (outcome (reco
 abbrev μ-loop : tie.MeasureT-loop
 μ-loop b w q ask dates marks list₀ n₀ i₀ list n i = length dates - i
 
-pub runs-of-spec : {M : Type 1} → statement M
-runs-of-spec =
+pub stretches-of-spec : {M : Type 1} → statement M
+stretches-of-spec =
     tie.close
     (tie.spec
     Inv-loop
