@@ -161,12 +161,6 @@ typedef struct rafttwine_text_answer {
 rafttwine_text_answer rafttwine_text(const uint8_t *asked, size_t asked_length, const uint8_t *fallback, size_t fallback_length,
                                      uint32_t number);
 
-/* How much was written, by the calls that only write. */
-typedef struct rafttwine_written {
-    uint64_t length; /* in bytes; for a list, in records */
-    uint8_t number;  /* 0, or the refusal */
-} rafttwine_written;
-
 /* ---- The price calendar: from which day to which a price stays ---- */
 
 /* The period starts on the question's day and ends on the day `end`, a number yyyymmdd; both belong to it. It is cut into the longest
@@ -182,8 +176,15 @@ typedef struct rafttwine_written {
 #define RAFTTWINE_STRETCH_BYTES 20
 #define RAFTTWINE_MOST_STRETCHES 1096
 
-rafttwine_written rafttwine_calendar(const uint8_t *book, size_t book_length, const uint8_t *question, size_t question_length,
-                                     uint32_t end, uint8_t *out, size_t out_length);
+/* It lies in memory as a rafttwine_written does, and is handed back the same way: a program that was compiled with that type for it
+ * reads the same. */
+typedef struct rafttwine_calendar_answer {
+    uint64_t length; /* how much was written, in bytes; of a list, in records */
+    uint8_t number;  /* 0, or the refusal */
+} rafttwine_calendar_answer;
+
+rafttwine_calendar_answer rafttwine_calendar(const uint8_t *book, size_t book_length, const uint8_t *question, size_t question_length,
+                                             uint32_t end, uint8_t *out, size_t out_length);
 
 /* The same stretches as a list of records, with the same refusals. The list's room is counted in records, and so is the length in the
  * answer; nobody needs room for more than RAFTTWINE_MOST_STRETCHES. */
@@ -195,13 +196,18 @@ typedef struct rafttwine_stretch {
     uint8_t currency[3]; /* three capitals; zeros if there is no price */
 } rafttwine_stretch;
 
-rafttwine_written rafttwine_calendar_list(const uint8_t *book, size_t book_length, const uint8_t *question, size_t question_length,
-                                          uint32_t end, rafttwine_stretch *out, size_t out_count);
+rafttwine_calendar_answer rafttwine_calendar_list(const uint8_t *book, size_t book_length, const uint8_t *question,
+                                                  size_t question_length, uint32_t end, rafttwine_stretch *out, size_t out_count);
 
 /* ---- The final article number: the base number with the properties' values ---- */
 
 /* Writes Latin-1 bytes with no zero behind them. The refusal is 1, 2, 3 or 7, the first that applies. */
 #define RAFTTWINE_MOST_NUMBER_BYTES 1256
+
+typedef struct rafttwine_written {
+    uint64_t length; /* how many bytes were written */
+    uint8_t number;  /* 0, or the refusal */
+} rafttwine_written;
 
 rafttwine_written rafttwine_final_number(const uint8_t *book, size_t book_length, const uint8_t *question, size_t question_length,
                                          uint8_t *out, size_t out_length);

@@ -206,8 +206,8 @@ static void print_price(const packed *book, const packed *texts, const packed *a
 
 static void print_calendar(const packed *book, const packed *asked, uint32_t end) {
     static rafttwine_stretch stretches[RAFTTWINE_MOST_STRETCHES];
-    rafttwine_written found = rafttwine_calendar_list(book->bytes, book->length, asked->bytes, asked->length, end, stretches,
-                                                      RAFTTWINE_MOST_STRETCHES);
+    rafttwine_calendar_answer found = rafttwine_calendar_list(book->bytes, book->length, asked->bytes, asked->length, end,
+                                                              stretches, RAFTTWINE_MOST_STRETCHES);
     if (found.number != RAFTTWINE_DONE) {
         printf("  No calendar: %s\n", rafttwine_refusal_text(found.number));
         return;

@@ -14,6 +14,13 @@ pub struct PriceAnswer {
 
 #[repr(C)]
 #[derive(Debug, Default, PartialEq, Eq, Clone, Copy)]
+pub struct CalendarAnswer {
+    pub length: u64,
+    pub number: u8,
+}
+
+#[repr(C)]
+#[derive(Debug, Default, PartialEq, Eq, Clone, Copy)]
 pub struct Written {
     pub length: u64,
     pub number: u8,
@@ -51,6 +58,12 @@ pub struct TextAnswer {
 impl PriceAnswer {
     pub fn refused(number: u8) -> Self {
         PriceAnswer { number, ..Self::default() }
+    }
+}
+
+impl CalendarAnswer {
+    pub fn refused(number: u8) -> Self {
+        CalendarAnswer { length: 0, number }
     }
 }
 

@@ -1,6 +1,6 @@
 //! The price of every day of a period, gathered into stretches of equal days.
 
-use crate::answers::{Stretch, Written};
+use crate::answers::{CalendarAnswer, Stretch};
 use crate::book::Book;
 use crate::days::period;
 use crate::price::price_on;
@@ -11,30 +11,31 @@ pub const STRETCH_LENGTH: usize = 20;
 
 const MOST_STRETCHES: usize = 1_200;
 
-pub fn calendar(book: &[u8], question: &[u8], end: u32, out: &mut [u8]) -> Written {
-    match stretches(book, question, end) {
-        Ok(stretches) => {
-            let bytes: Vec<u8> = stretches.iter().flat_map(Stretch::bytes).collect();
-            write(&bytes, out)
-        }
-        Err(number) => Written::refused(number),
+pub fn calendar(book: &[u8], question: &[u8], end: u32, out: &mut [u8]) -> CalendarAnswer {
+    answer(stretches(book, question, end).and_then(|stretches| {
+        let bytes: Vec<u8> = stretches.iter().flat_map(Stretch::bytes).collect();
+        write(&bytes, out)
+    }))
+}
+
+pub fn calendar_list(book: &[u8], question: &[u8], end: u32, out: &mut [Stretch]) -> CalendarAnswer {
+    answer(stretches(book, question, end).and_then(|stretches| write(&stretches, out)))
+}
+
+fn answer(written: Result<u64, u8>) -> CalendarAnswer {
+    match written {
+        Ok(length) => CalendarAnswer { length, number: DONE },
+        Err(number) => CalendarAnswer::refused(number),
     }
 }
 
-pub fn calendar_list(book: &[u8], question: &[u8], end: u32, out: &mut [Stretch]) -> Written {
-    match stretches(book, question, end) {
-        Ok(stretches) => write(&stretches, out),
-        Err(number) => Written::refused(number),
-    }
-}
-
-/// Copies all of `parts` to the front of `out`, or nothing if the room is too little.
-pub fn write<T: Copy>(parts: &[T], out: &mut [T]) -> Written {
+/// Copies all of `parts` to the front of `out`, or nothing if the room is too little. Gives how many they are, or the refusal.
+pub fn write<T: Copy>(parts: &[T], out: &mut [T]) -> Result<u64, u8> {
     if out.len() < parts.len() {
-        return Written::refused(TOO_LITTLE_ROOM);
+        return Err(TOO_LITTLE_ROOM);
     }
     out[..parts.len()].copy_from_slice(parts);
-    Written { length: parts.len() as u64, number: DONE }
+    Ok(parts.len() as u64)
 }
 
 impl Stretch {

@@ -1,11 +1,11 @@
 //! The calls as something that has several implementations.
 
-use crate::answers::{PackagingAnswer, PriceAnswer, Stretch, TextAnswer, Written};
+use crate::answers::{CalendarAnswer, PackagingAnswer, PriceAnswer, Stretch, TextAnswer, Written};
 
 pub trait Calls {
     fn price(&self, book: &[u8], question: &[u8], out: &mut [u8]) -> PriceAnswer;
-    fn calendar(&self, book: &[u8], question: &[u8], end: u32, out: &mut [u8]) -> Written;
-    fn calendar_list(&self, book: &[u8], question: &[u8], end: u32, out: &mut [Stretch]) -> Written;
+    fn calendar(&self, book: &[u8], question: &[u8], end: u32, out: &mut [u8]) -> CalendarAnswer;
+    fn calendar_list(&self, book: &[u8], question: &[u8], end: u32, out: &mut [Stretch]) -> CalendarAnswer;
     fn final_number(&self, book: &[u8], question: &[u8], out: &mut [u8]) -> Written;
     fn packaging(&self, book: &[u8], question: &[u8]) -> PackagingAnswer;
     fn text(&self, asked: &[u8], fallback: &[u8], number: u32) -> TextAnswer;
@@ -19,11 +19,11 @@ impl Calls for Second {
         crate::price(book, question, out)
     }
 
-    fn calendar(&self, book: &[u8], question: &[u8], end: u32, out: &mut [u8]) -> Written {
+    fn calendar(&self, book: &[u8], question: &[u8], end: u32, out: &mut [u8]) -> CalendarAnswer {
         crate::calendar(book, question, end, out)
     }
 
-    fn calendar_list(&self, book: &[u8], question: &[u8], end: u32, out: &mut [Stretch]) -> Written {
+    fn calendar_list(&self, book: &[u8], question: &[u8], end: u32, out: &mut [Stretch]) -> CalendarAnswer {
         crate::calendar_list(book, question, end, out)
     }
 
@@ -46,7 +46,7 @@ pub struct Archive;
 
 #[cfg(feature = "archive")]
 mod linked {
-    use super::{PackagingAnswer, PriceAnswer, Stretch, TextAnswer, Written};
+    use super::{CalendarAnswer, PackagingAnswer, PriceAnswer, Stretch, TextAnswer, Written};
 
     extern "C" {
         pub fn rafttwine_price(
@@ -65,7 +65,7 @@ mod linked {
             end: u32,
             out: *mut u8,
             out_len: usize,
-        ) -> Written;
+        ) -> CalendarAnswer;
         pub fn rafttwine_calendar_list(
             book: *const u8,
             book_len: usize,
@@ -74,7 +74,7 @@ mod linked {
             end: u32,
             out: *mut Stretch,
             out_count: usize,
-        ) -> Written;
+        ) -> CalendarAnswer;
         pub fn rafttwine_final_number(
             book: *const u8,
             book_len: usize,
@@ -104,7 +104,7 @@ impl Calls for Archive {
         }
     }
 
-    fn calendar(&self, book: &[u8], question: &[u8], end: u32, out: &mut [u8]) -> Written {
+    fn calendar(&self, book: &[u8], question: &[u8], end: u32, out: &mut [u8]) -> CalendarAnswer {
         unsafe {
             linked::rafttwine_calendar(
                 book.as_ptr(),
@@ -118,7 +118,7 @@ impl Calls for Archive {
         }
     }
 
-    fn calendar_list(&self, book: &[u8], question: &[u8], end: u32, out: &mut [Stretch]) -> Written {
+    fn calendar_list(&self, book: &[u8], question: &[u8], end: u32, out: &mut [Stretch]) -> CalendarAnswer {
         unsafe {
             linked::rafttwine_calendar_list(
                 book.as_ptr(),

@@ -1,6 +1,6 @@
 //! Runs one call of a case and keeps everything that can be seen of it.
 
-use crate::answers::{PackagingAnswer, PriceAnswer, Stretch, TextAnswer, Written};
+use crate::answers::{CalendarAnswer, PackagingAnswer, PriceAnswer, Stretch, TextAnswer, Written};
 use crate::calendar::{stretches, STRETCH_LENGTH};
 use crate::calls::{Calls, Second};
 use crate::cases::{Case, Inputs};
@@ -55,6 +55,7 @@ pub const STRETCH_NUMBERS: [u8; 4] = [0, 4, 5, 6];
 #[derive(Debug, Clone, Copy, PartialEq, Eq)]
 pub enum Answer {
     Price(PriceAnswer),
+    Calendar(CalendarAnswer),
     Written(Written),
     Packaging(PackagingAnswer),
     Text(TextAnswer),
@@ -64,6 +65,7 @@ impl Answer {
     pub fn number(&self) -> u8 {
         match self {
             Answer::Price(answer) => answer.number,
+            Answer::Calendar(answer) => answer.number,
             Answer::Written(answer) => answer.number,
             Answer::Packaging(answer) => answer.number,
             Answer::Text(answer) => answer.number,
@@ -183,11 +185,11 @@ pub fn run(call: Call, calls: &dyn Calls, inputs: &Inputs, sizes: Sizes) -> Outc
         }
         Call::Calendar => {
             bytes = pattern(sizes.calendar + GUARD);
-            Answer::Written(calls.calendar(book, question, end, &mut bytes[..sizes.calendar]))
+            Answer::Calendar(calls.calendar(book, question, end, &mut bytes[..sizes.calendar]))
         }
         Call::CalendarList => {
             list = list_pattern(sizes.list + GUARD);
-            Answer::Written(calls.calendar_list(book, question, end, &mut list[..sizes.list]))
+            Answer::Calendar(calls.calendar_list(book, question, end, &mut list[..sizes.list]))
         }
         Call::FinalNumber => {
             bytes = pattern(sizes.number + GUARD);
@@ -208,7 +210,8 @@ pub fn broken_promise(outcome: &Outcome) -> Option<&'static str> {
     let number = outcome.answer.number();
     let (empty, bytes_written, records_written) = match outcome.answer {
         Answer::Price(answer) => (answer == PriceAnswer::refused(number), answer.lines as usize * 14, 0),
-        Answer::Written(answer) => (answer == Written::refused(number), answer.length as usize, answer.length as usize),
+        Answer::Calendar(answer) => (answer == CalendarAnswer::refused(number), answer.length as usize, answer.length as usize),
+        Answer::Written(answer) => (answer == Written::refused(number), answer.length as usize, 0),
         Answer::Packaging(answer) => (answer == PackagingAnswer::refused(number), 0, 0),
         Answer::Text(answer) => (answer == TextAnswer::refused(number), 0, 0),
     };

@@ -25,7 +25,7 @@ pub mod refusal;
 pub mod shrink;
 pub mod texts;
 
-pub use answers::{PackagingAnswer, PriceAnswer, Stretch, TextAnswer, Written};
+pub use answers::{CalendarAnswer, PackagingAnswer, PriceAnswer, Stretch, TextAnswer, Written};
 pub use book::book_ok;
 pub use calendar::{calendar, calendar_list};
 pub use number::final_number;

@@ -4,11 +4,11 @@ use crate::answers::Written;
 use crate::book::{Book, Scheme};
 use crate::calendar::write;
 use crate::question::{Property, Question, State};
-use crate::refusal::{BAD_BOOK, BAD_QUESTION, NO_ARTICLE};
+use crate::refusal::{BAD_BOOK, BAD_QUESTION, DONE, NO_ARTICLE};
 
 pub fn final_number(book: &[u8], question: &[u8], out: &mut [u8]) -> Written {
-    match final_number_of(book, question) {
-        Ok(number) => write(&number, out),
+    match final_number_of(book, question).and_then(|number| write(&number, out)) {
+        Ok(length) => Written { length, number: DONE },
         Err(refusal) => Written::refused(refusal),
     }
 }

@@ -2,8 +2,8 @@
 
 use second::make::{self, latin1, Article, Packaging, Price, Question, Record, Rounding, Scheme, TextRecord};
 use second::{
-    book_ok, calendar, calendar_list, final_number, packaging, price, program, question_ok, text, text_book_ok, PackagingAnswer,
-    PriceAnswer, Stretch, TextAnswer, Written,
+    book_ok, calendar, calendar_list, final_number, packaging, price, program, question_ok, text, text_book_ok, CalendarAnswer,
+    PackagingAnswer, PriceAnswer, Stretch, TextAnswer, Written,
 };
 
 const PATTERN: u8 = 0xA5;
@@ -546,7 +546,7 @@ fn order_of_refusals() {
 
 // The calendar and its program.
 
-fn calendar_length(book: &[u8], question: &Question, end: u32) -> Written {
+fn calendar_length(book: &[u8], question: &Question, end: u32) -> CalendarAnswer {
     calendar(book, &question.bytes(), end, &mut [0; 1200 * 20])
 }
 
@@ -1164,6 +1164,8 @@ fn struct_layouts() {
     assert_eq!(offset_of!(PriceAnswer, unused_count), 28);
     assert_eq!(offset_of!(PriceAnswer, number), 29);
     assert_eq!(offset_of!(PriceAnswer, currency), 30);
+    assert_eq!(size_of::<CalendarAnswer>(), 16);
+    assert_eq!(offset_of!(CalendarAnswer, number), 8);
     assert_eq!(size_of::<Written>(), 16);
     assert_eq!(offset_of!(Written, number), 8);
     assert_eq!(size_of::<Stretch>(), 24);

@@ -14,6 +14,10 @@ class PriceAnswer(Structure):
                 ("number", c_uint8), ("currency", c_uint8 * 3)]
 
 
+class CalendarAnswer(Structure):
+    _fields_ = [("length", c_uint64), ("number", c_uint8)]
+
+
 class Written(Structure):
     _fields_ = [("length", c_uint64), ("number", c_uint8)]
 
@@ -39,8 +43,8 @@ LIST = [POINTER(StretchRecord), c_size_t]
 # What each call returns, and what it takes, by name.
 CALLS: dict[str, tuple[Any, dict[str, list[Any]]]] = {
     "price": (PriceAnswer, {"book": READ, "question": READ, "lines": BYTES}),
-    "calendar": (Written, {"book": READ, "question": READ, "end": END, "out": BYTES}),
-    "calendar_list": (Written, {"book": READ, "question": READ, "end": END, "out": LIST}),
+    "calendar": (CalendarAnswer, {"book": READ, "question": READ, "end": END, "out": BYTES}),
+    "calendar_list": (CalendarAnswer, {"book": READ, "question": READ, "end": END, "out": LIST}),
     "final_number": (Written, {"book": READ, "question": READ, "out": BYTES}),
     "packaging": (PackagingAnswer, {"book": READ, "question": READ}),
     "text": (TextAnswer, {"asked": READ, "fallback": READ, "number": NUMBER}),

@@ -7,7 +7,7 @@ from unittest import mock
 
 from samples import BOOK, JUNE, QUESTIONS
 from rafttwine import Refusal, Refused, Stretch, calls, price
-from rafttwine.library import PriceAnswer, Written
+from rafttwine.library import CalendarAnswer, PriceAnswer
 
 LATER = 13
 LONGEST_WAIT = 60
@@ -63,11 +63,11 @@ class RefusalTest(unittest.TestCase):
                 self.assertEqual(str(again), str(refused))
 
 
-def a_day_refused(name: str, book: bytes, question: bytes, end: int, out: "object") -> Written:
+def a_day_refused(name: str, book: bytes, question: bytes, end: int, out: "object") -> CalendarAnswer:
     """What a calendar of one refused day would be."""
     written = end.to_bytes(4, "big") * 2 + bytes([LATER]) + bytes(11)
     out[:len(written)] = written
-    return Written(len(written), 0)
+    return CalendarAnswer(len(written), 0)
 
 
 class ProcessesTest(unittest.TestCase):

@@ -15,7 +15,16 @@ pub struct PriceAnswer {
     pub currency: [u8; 3],
 }
 
-/// How much a call wrote.
+/// The answer of [`rafttwine_calendar`] and [`rafttwine_calendar_list`].
+#[repr(C)]
+#[derive(Clone, Copy, Debug)]
+#[allow(missing_docs)]
+pub struct CalendarAnswer {
+    pub length: u64,
+    pub number: u8,
+}
+
+/// The answer of [`rafttwine_final_number`].
 #[repr(C)]
 #[derive(Clone, Copy, Debug)]
 #[allow(missing_docs)]
@@ -77,7 +86,7 @@ extern "C" {
         end: u32,
         out: *mut u8,
         out_length: usize,
-    ) -> Written;
+    ) -> CalendarAnswer;
     pub fn rafttwine_calendar_list(
         book: *const u8,
         book_length: usize,
@@ -86,7 +95,7 @@ extern "C" {
         end: u32,
         out: *mut StretchRecord,
         out_count: usize,
-    ) -> Written;
+    ) -> CalendarAnswer;
     pub fn rafttwine_final_number(
         book: *const u8,
         book_length: usize,

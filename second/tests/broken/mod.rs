@@ -1,7 +1,7 @@
 //! An implementation whose price call is spoilt, to see that the comparison notices it.
 
 use second::calls::{Calls, Second};
-use second::{PackagingAnswer, PriceAnswer, Stretch, TextAnswer, Written};
+use second::{CalendarAnswer, PackagingAnswer, PriceAnswer, Stretch, TextAnswer, Written};
 
 /// What is done to the answer and to the lent bytes.
 pub struct Broken(pub fn(&mut PriceAnswer, &mut [u8]));
@@ -13,11 +13,11 @@ impl Calls for Broken {
         answer
     }
 
-    fn calendar(&self, book: &[u8], question: &[u8], end: u32, out: &mut [u8]) -> Written {
+    fn calendar(&self, book: &[u8], question: &[u8], end: u32, out: &mut [u8]) -> CalendarAnswer {
         Second.calendar(book, question, end, out)
     }
 
-    fn calendar_list(&self, book: &[u8], question: &[u8], end: u32, out: &mut [Stretch]) -> Written {
+    fn calendar_list(&self, book: &[u8], question: &[u8], end: u32, out: &mut [Stretch]) -> CalendarAnswer {
         Second.calendar_list(book, question, end, out)
     }
 

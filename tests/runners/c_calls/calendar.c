@@ -13,20 +13,20 @@ static const uint8_t stretches[] = {
     FOUR(20250101), FOUR(20250102), 4, 0,   0,   0,   FOUR(0), FOUR(0),
 };
 
-static rafttwine_written ask(const sample *question, uint32_t last, size_t room) {
+static rafttwine_calendar_answer ask(const sample *question, uint32_t last, size_t room) {
     memset(out, UNTOUCHED, sizeof out);
     return rafttwine_calendar(book.bytes, book.length, question->bytes, question->length, last, out, room);
 }
 
 static void listed(size_t room) {
-    rafttwine_written answer = ask(&june_oak, end, room);
+    rafttwine_calendar_answer answer = ask(&june_oak, end, room);
     expect("length", (long long)answer.length, sizeof stretches);
     expect("number", answer.number, RAFTTWINE_DONE);
     expect_bytes("stretches", out, stretches, sizeof stretches);
     expect_all("behind the stretches", UNTOUCHED, out + sizeof stretches, sizeof out - sizeof stretches);
 }
 
-static void refused(rafttwine_written answer, enum rafttwine_refusal number) {
+static void refused(rafttwine_calendar_answer answer, enum rafttwine_refusal number) {
     expect("refusal", answer.number, number);
     expect("length of a refusal", (long long)answer.length, 0);
     expect_all("output after a refusal", UNTOUCHED, out, sizeof out);

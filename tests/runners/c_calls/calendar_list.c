@@ -13,7 +13,7 @@ static const rafttwine_stretch stretches[] = {
     {20250101, 20250102, 0, RAFTTWINE_NO_BASE_LINE, {0, 0, 0}},
 };
 
-static rafttwine_written ask(const sample *question, uint32_t last, size_t room) {
+static rafttwine_calendar_answer ask(const sample *question, uint32_t last, size_t room) {
     memset(out, UNTOUCHED, sizeof out);
     return rafttwine_calendar_list(book.bytes, book.length, question->bytes, question->length, last, out, room);
 }
@@ -27,14 +27,14 @@ static void same_stretch(const rafttwine_stretch *found, const rafttwine_stretch
 }
 
 static void listed(size_t room) {
-    rafttwine_written answer = ask(&june_oak, end, room);
+    rafttwine_calendar_answer answer = ask(&june_oak, end, room);
     expect("length", (long long)answer.length, 3);
     expect("number", answer.number, RAFTTWINE_DONE);
     for (int at = 0; at < 3; at++) same_stretch(&out[at], &stretches[at]);
     expect_all("behind the stretches", UNTOUCHED, out + 3, sizeof out - sizeof stretches);
 }
 
-static void refused(rafttwine_written answer, enum rafttwine_refusal number) {
+static void refused(rafttwine_calendar_answer answer, enum rafttwine_refusal number) {
     expect("refusal", answer.number, number);
     expect("length of a refusal", (long long)answer.length, 0);
     expect_all("list after a refusal", UNTOUCHED, out, sizeof out);

@@ -1,7 +1,7 @@
 //! One vector: its bytes, and the line that it has to give.
 
 use second::compare::{hex, Call};
-use second::{calendar, final_number, packaging, price, text, Written};
+use second::{calendar, final_number, packaging, price, text};
 
 /// What is lent is filled with this byte, and so are some bytes behind it.
 const FILL: u8 = 165;
@@ -45,9 +45,15 @@ impl Vector {
         let lent = &mut out[..self.room];
         let answer = match self.call {
             Call::Price => priced(first, second, lent),
-            Call::Calendar => written(calendar(first, second, self.number, lent)),
+            Call::Calendar => {
+                let answer = calendar(first, second, self.number, lent);
+                written(answer.number, answer.length)
+            }
             Call::CalendarList => unreachable!("the program lends no list"),
-            Call::FinalNumber => written(final_number(first, second, lent)),
+            Call::FinalNumber => {
+                let answer = final_number(first, second, lent);
+                written(answer.number, answer.length)
+            }
             Call::Packaging => return format!("packaging {}", packed(first, second)),
             Call::Text => return format!("text {}", found(first, second, self.number)),
         };
@@ -69,8 +75,8 @@ fn priced(book: &[u8], question: &[u8], lent: &mut [u8]) -> String {
     )
 }
 
-fn written(answer: Written) -> String {
-    format!("{} {}", answer.number, answer.length)
+fn written(number: u8, length: u64) -> String {
+    format!("{number} {length}")
 }
 
 fn packed(book: &[u8], question: &[u8]) -> String {

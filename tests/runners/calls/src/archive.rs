@@ -2,7 +2,7 @@
 //! takes them from here too.
 
 use rafttwine::raw;
-use second::{PackagingAnswer, PriceAnswer, Stretch, TextAnswer, Written};
+use second::{CalendarAnswer, PackagingAnswer, PriceAnswer, Stretch, TextAnswer, Written};
 
 // Sound, all of them: each pointer and length are those of one slice, borrowed for the whole call; any bytes make an answer.
 
@@ -14,22 +14,24 @@ pub fn price(book: &[u8], question: &[u8], lines: &mut [u8]) -> PriceAnswer {
     PriceAnswer { unit, total, lines, unused, unused_count, number, currency }
 }
 
-pub fn calendar(book: &[u8], question: &[u8], end: u32, out: &mut [u8]) -> Written {
-    written(unsafe {
+pub fn calendar(book: &[u8], question: &[u8], end: u32, out: &mut [u8]) -> CalendarAnswer {
+    listed(unsafe {
         raw::rafttwine_calendar(book.as_ptr(), book.len(), question.as_ptr(), question.len(), end, out.as_mut_ptr(), out.len())
     })
 }
 
 /// The list itself is lent, as a list of the other type of records: they lie alike, which `structs.rs` holds both to.
-pub fn calendar_list(book: &[u8], question: &[u8], end: u32, out: &mut [Stretch]) -> Written {
+pub fn calendar_list(book: &[u8], question: &[u8], end: u32, out: &mut [Stretch]) -> CalendarAnswer {
     let (list, count) = (out.as_mut_ptr().cast::<raw::StretchRecord>(), out.len());
-    written(unsafe { raw::rafttwine_calendar_list(book.as_ptr(), book.len(), question.as_ptr(), question.len(), end, list, count) })
+    listed(unsafe { raw::rafttwine_calendar_list(book.as_ptr(), book.len(), question.as_ptr(), question.len(), end, list, count) })
 }
 
 pub fn final_number(book: &[u8], question: &[u8], out: &mut [u8]) -> Written {
-    written(unsafe {
+    let answer = unsafe {
         raw::rafttwine_final_number(book.as_ptr(), book.len(), question.as_ptr(), question.len(), out.as_mut_ptr(), out.len())
-    })
+    };
+    let raw::Written { length, number } = answer;
+    Written { length, number }
 }
 
 pub fn packaging(book: &[u8], question: &[u8]) -> PackagingAnswer {
@@ -44,7 +46,7 @@ pub fn text(asked: &[u8], fallback: &[u8], number: u32) -> TextAnswer {
     TextAnswer { place, length, number, book }
 }
 
-fn written(answer: raw::Written) -> Written {
-    let raw::Written { length, number } = answer;
-    Written { length, number }
+fn listed(answer: raw::CalendarAnswer) -> CalendarAnswer {
+    let raw::CalendarAnswer { length, number } = answer;
+    CalendarAnswer { length, number }
 }

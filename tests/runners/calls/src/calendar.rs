@@ -10,7 +10,7 @@ use crate::document::Cells;
 use crate::vector;
 use second::compare::{list_pattern, pattern};
 use second::make::Question;
-use second::{Stretch, Written};
+use second::{CalendarAnswer, Stretch};
 
 /// How a stretch is written as 20 bytes.
 fn stretch_bytes(stretch: &Stretch) -> Vec<u8> {
@@ -38,8 +38,8 @@ fn without(first: u32, last: u32, refusal: u8) -> Stretch {
 /// A vector for both calls.
 #[derive(Clone)]
 struct Vector {
-    bytes: vector::Vector<Written, u8>,
-    list: vector::Vector<Written, Stretch>,
+    bytes: vector::Vector<CalendarAnswer, u8>,
+    list: vector::Vector<CalendarAnswer, Stretch>,
 }
 
 impl Vector {
@@ -71,17 +71,17 @@ fn vectors() -> Vec<Vector> {
 
 const REFUSALS: &[u8] = &[1, 2, 9, 3, 7];
 
-fn example(cells: &Cells) -> (Written, Vec<u8>) {
-    (Written { length: cells.number("length"), number: cells.number("number") }, cells.bytes("Written"))
+fn example(cells: &Cells) -> (CalendarAnswer, Vec<u8>) {
+    (CalendarAnswer { length: cells.number("length"), number: cells.number("number") }, cells.bytes("Written"))
 }
 
 /// The same stretches as records.
-fn list_example(cells: &Cells) -> (Written, Vec<Stretch>) {
+fn list_example(cells: &Cells) -> (CalendarAnswer, Vec<Stretch>) {
     let (written, bytes) = example(cells);
-    (Written { length: written.length / 20, ..written }, bytes.chunks(20).map(stretch_of).collect())
+    (CalendarAnswer { length: written.length / 20, ..written }, bytes.chunks(20).map(stretch_of).collect())
 }
 
-pub fn call() -> Call<Written, u8> {
+pub fn call() -> Call<CalendarAnswer, u8> {
     Call {
         name: "rafttwine_calendar",
         refusals: REFUSALS,
@@ -93,7 +93,7 @@ pub fn call() -> Call<Written, u8> {
     }
 }
 
-pub fn list_call() -> Call<Written, Stretch> {
+pub fn list_call() -> Call<CalendarAnswer, Stretch> {
     Call {
         name: "rafttwine_calendar_list",
         refusals: REFUSALS,

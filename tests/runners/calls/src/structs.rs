@@ -21,6 +21,7 @@ pub fn good(document: &Document) -> bool {
             "rafttwine_price_answer",
             offsets!(second::PriceAnswer, raw::PriceAnswer: unit total lines unused unused_count number currency),
         ),
+        ("rafttwine_calendar_answer", offsets!(second::CalendarAnswer, raw::CalendarAnswer: length number)),
         ("rafttwine_written", offsets!(second::Written, raw::Written: length number)),
         ("rafttwine_stretch", offsets!(second::Stretch, raw::StretchRecord: first last unit refusal currency)),
         ("rafttwine_packaging_answer", offsets!(second::PackagingAnswer, raw::PackagingAnswer: gross values number present units)),

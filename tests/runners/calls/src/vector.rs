@@ -1,7 +1,7 @@
 //! A vector: what is handed to a call, and what was worked out by hand that it does.
 
 use crate::lent::{due, lend, Fill, Outcome};
-use second::{PackagingAnswer, PriceAnswer, TextAnswer, Written};
+use second::{CalendarAnswer, PackagingAnswer, PriceAnswer, TextAnswer, Written};
 use std::fmt::Debug;
 
 /// What every answer has: its number, and zeros beside a refusal.
@@ -24,7 +24,7 @@ macro_rules! answers {
     };
 }
 
-answers!(PriceAnswer Written PackagingAnswer TextAnswer);
+answers!(PriceAnswer CalendarAnswer Written PackagingAnswer TextAnswer);
 
 /// A call as all calls can be called: two byte strings to read, a number where the call takes one, lent memory where it writes.
 pub type Run<A, T> = fn(&[u8], &[u8], u32, &mut [T]) -> A;
