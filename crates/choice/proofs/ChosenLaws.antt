@@ -30,7 +30,7 @@ use Rattle.question.proofs.CountedLaws.{walk-step}
 use Rattle.question.proofs.PartLaws.{granted-stop}
 use Rattle.grants.specs.Table.{tableOf, GrantsAre}
 use Rattle.grants.specs.Places as Grants
-use Rattle.grants.proofs.FillLaws.{names-sized}
+use Rattle.grants.proofs.FillLaws as Fill
 use Rattle.choice.specs.declared.hands.Hand.{Hand}
 use Rattle.choice.specs.declared.hands.Seen.{Seen}
 use Rattle.choice.specs.Slots.{levelOf, inSlot, slotChosen}
@@ -133,10 +133,10 @@ asking-granted {q} {ask} a = record {
   full = names-full q (ask .granted) (ask .conditions) (a .names);
 }
 
--- and there is a table of them
+-- there is a table of its granted names
 pub asking-grants : {q : List ℕ} {ask : Ask} → Asking q ask → GrantsAre (askIn q ask .granted) (tableOf (grants (askIn q ask .granted)))
 asking-grants {q} {ask} a = record {
   is = refl;
-  few = asking-granted a .few;
-  sizes = names-sized q (ask .granted) (ask .conditions) (a .names);
+  few = subst (λ (n : ℕ). n ≤ 32) (sym (Fill.names-count q (ask .granted) (ask .conditions))) (a .few);
+  sizes = Fill.names-sized q (ask .granted) (ask .conditions) (a .names);
 }

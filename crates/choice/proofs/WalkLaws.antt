@@ -8,7 +8,7 @@ use native.Mathlib.Omega.{arith}
 use lib.Dec.{eqb}
 use lib.ListN.{length, take, drop, getD, set, replicate, length-set, length-replicate, getD-replicate}
 use lib.Seq.{getD-set-same, getD-set-other}
-use borrow.Author.Tests.{eq-eqb, ne-eqb, eqb-true, eqb-false}
+use borrow.Author.Tests.{ne-eqb, eqb-true, eqb-false}
 use Rattle.rules.specs.Lists.{same, isSome, ifSome, keep, consIf, consSome, pick, first}
 use Rattle.rules.specs.Layout.{whole}
 use Rattle.rules.specs.Book.{Row, Record, ArticleRecord, PriceRecord, RoundingRecord, PackagingRecord, SchemeRecord, asRow, rows, articles, articleOf}

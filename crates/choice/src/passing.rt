@@ -3,6 +3,7 @@ use crate::hands::Hand;
 use crate::hands::NO_SLOT;
 use crate::hands::Passing;
 use crate::slots::LEVELS;
+use crate::slots::PLACES;
 use crate::slots::level_of;
 use days::Day;
 use grants::NOWHERE;
@@ -39,7 +40,7 @@ fn slot_at(level: usize, place: usize) -> usize
     if NOWHERE <= place {
         return NO_SLOT;
     }
-    level * NOWHERE + place
+    level * PLACES + place
 }
 
 // The slot of a row of the asked article and sort: none if its condition is not granted.

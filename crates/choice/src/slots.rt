@@ -50,6 +50,8 @@ pub fn place_of(q: &[u8], at: usize, n: usize, condition: &[u8]) -> usize
 
 // Base, surcharge and discount.
 pub const LEVELS: usize = 3;
+// A level has a place for rows without a condition and one for each granted name.
+pub const PLACES: usize = 33;
 
 pub fn level_of(letter: u8) -> usize
     ensures { λ r. ⌜ Number (levelOf letter) 4 r ⌝ }
