@@ -1,11 +1,11 @@
 -- What the slots hold after the walk is what the definition chooses, slot by slot.
-use Prim.Native.Nat.{ℕ, zero, suc, _+_, _-_, _*_, _/_, _%_, _≤_, _<_}
+use Prim.Native.Nat.{ℕ, _+_, _-_, _*_, _/_, _%_, _≤_, _<_}
 use mathlib.Core.Path.{_≡_, refl, sym, _∙_, ap, subst}
 use mathlib.Core.Bool.{Bool, true, false, _&&_, cond, false≢true}
 use mathlib.Core.List.{List}
 use mathlib.Core.Option.{Option, none, Option·map}
 use native.Mathlib.Omega.{arith}
-use lib.ListN.{length, take, drop, getD, length-drop}
+use lib.ListN.{length, take, drop, getD}
 use lib.Seq.{length-take-le}
 use borrow.Author.Tests.{eqb-true}
 use Rattle.rules.specs.Lists.{same, isSome, keep}
@@ -17,17 +17,11 @@ use Rattle.rules.specs.Choice.{choose}
 use Rattle.rules.specs.Lines.{Chosen}
 use Rattle.rules.specs.declared.PriceRow.{PriceRow}
 use Rattle.rules.proofs.ChoiceLaws as Choice
-use Rattle.rules.proofs.ListLaws.{All}
-use Rattle.layout.specs.Reads.{nameStop}
 use Rattle.records.specs.Asks.{OfKind}
 use Rattle.records.specs.Ensures.{rowIn, RowIs}
 use Rattle.records.proofs.FieldLaws.{kind-byte}
 use Rattle.question.specs.declared.Ask.{Ask}
-use Rattle.question.specs.Counted.{valuesAt}
-use Rattle.question.specs.Parts.{nameAt, namesAt, NamesStand}
 use Rattle.question.specs.Asked.{askIn, AskIs}
-use Rattle.question.proofs.CountedLaws.{walk-step}
-use Rattle.question.proofs.PartLaws.{granted-stop}
 use Rattle.grants.specs.Table.{tableOf, GrantsAre}
 use Rattle.grants.specs.Places as Grants
 use Rattle.grants.proofs.FillLaws as Fill
@@ -37,7 +31,6 @@ use Rattle.choice.specs.Slots.{levelOf, inSlot, slotChosen}
 use Rattle.choice.specs.Hands.{isEmpty, takenOf, TakenIs, RowThere, Holds, HandIs, NoRow, OneRow, SeenIs}
 use Rattle.choice.specs.Walk.{Asking, askOn, unseen, seenOf, Chooses, SlotsHold}
 use Rattle.choice.proofs.PassingLaws.{same-row}
-use Rattle.choice.proofs.SlotLaws.{Granted}
 
 -- ---- a slot's hand
 
@@ -107,31 +100,6 @@ asking-on a d = record { inside = a .inside; few = a .few; names = a .names }
 pub ask-on : (q : List ℕ) (ask : Ask) (d : ℕ) → askIn q (askOn ask d) ≡ on (askIn q ask) d
 unfolding on
 ask-on q ask d = refl
-
--- its granted names are few and not empty, so that the 99 slots choose what the definition chooses
-module _ (q : List ℕ) where
-  names-count : (at n : ℕ) → length (namesAt q at n) ≡ n
-  unfolding valuesAt
-  names-count at zero = refl
-  names-count at (suc n) = ap suc (names-count (nameStop q at) n)
-
-  names-full : (at n : ℕ) → NamesStand q at n → All (λ x. 1 ≤ length x) (namesAt q at n)
-  unfolding valuesAt
-  names-full at zero p = tt
-  names-full at (suc n) p =
-      let s = walk-step p (omega arith) in
-      let e : suc n - 1 ≡ n = omega arith in
-      let stop = granted-stop {n = getD q at 0} {top = getD q at 0 + 1} (s .here) (record { is = refl; below = omega arith }) in
-      let k : getD q at 0 ≤ length (drop (at + 1) q) = rw length-drop (omega (arith, stop .fits)) in
-      let j : nameStop q at - (at + 1) ≡ getD q at 0 = omega arith in
-      let m : length (nameAt q at) ≡ getD q at 0 = rw j (length-take-le (getD q at 0) (drop (at + 1) q) k) in
-      (omega (arith, stop .low), names-full (nameStop q at) n (rw e at (s .rest)))
-
-pub asking-granted : {q : List ℕ} {ask : Ask} → Asking q ask → Granted (askIn q ask .granted)
-asking-granted {q} {ask} a = record {
-  few = subst (λ (n : ℕ). n ≤ 32) (sym (names-count q (ask .granted) (ask .conditions))) (a .few);
-  full = names-full q (ask .granted) (ask .conditions) (a .names);
-}
 
 -- there is a table of its granted names
 pub asking-grants : {q : List ℕ} {ask : Ask} → Asking q ask → GrantsAre (askIn q ask .granted) (tableOf (grants (askIn q ask .granted)))

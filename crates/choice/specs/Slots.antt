@@ -1,5 +1,5 @@
 -- The 99 slots of a price: three levels of 33 places, the unconditioned one and one for each granted name.
-use Prim.Native.Nat.{ℕ, zero, suc, _/_, _%_}
+use Prim.Native.Nat.{ℕ, suc, _/_, _%_}
 use mathlib.Core.Bool.{Bool, _&&_, cond}
 use mathlib.Core.List.{List, [], _∷_, map}
 use mathlib.Core.Option.{Option, Option·map}
@@ -14,13 +14,9 @@ use Rattle.grants.specs.Places as Grants
 
 -- ---- where a condition stands, by the names as they were sent
 
--- one past the last place
-abbrev pub nowhere : ℕ
-nowhere = 33
-
 -- the first of the names that is this one once raised, counted from n
 unfoldable pub placeFrom : ℕ → List (List ℕ) → List ℕ → ℕ
-placeFrom n [] c = nowhere
+placeFrom n [] c = Grants.nowhere
 placeFrom n (g ∷ gs) c = cond (same (map raise g) c) n (placeFrom (suc n) gs c)
 
 -- a row without a condition is at place 0
@@ -47,11 +43,6 @@ inSlot q level place r =
 unfoldable pub slotChosen : List Row → Question → ℕ → ℕ → Option Chosen
 slotChosen rs q level place =
     Option·map (λ r. record { place = place; row = r }) (choose (q .date) (q .quantity) (q .currency) (keep (inSlot q level place) rs))
-
--- n numbers from k on
-abbrev pub upFrom : ℕ → ℕ → List ℕ
-upFrom k zero = []
-upFrom k (suc n) = k ∷ upFrom (suc k) n
 
 -- slot i is of level i / 33 and place i % 33
 unfoldable pub slotsChosen : List Row → Question → List Chosen

@@ -29,7 +29,7 @@ use Rattle.choice.specs.Slots.{placeOf}
 use Rattle.choice.specs.Walk.{Asking}
 use Rattle.choice.proofs.SlotLaws.{foundAt, firsts-found}
 use Rattle.choice.proofs.PlaceLaws.{place-start}
-use Rattle.choice.proofs.ChosenLaws.{asking-granted}
+use Rattle.choice.proofs.ChosenLaws.{asking-grants}
 use Rattle.lines.specs.declared.Pick.{Pick}
 use Rattle.lines.specs.Views.{View, viewsIn, noPick}
 use Rattle.lines.proofs.WalkLaws.{next-view, views-end}
@@ -161,7 +161,7 @@ gather-start {q} {ask} a flags =
       below = omega arith;
       all = a .names;
       names = rw z (a .names);
-      built = λ places b. rw z (record { last = 0; building = subst (Building 32 (setOf (idle names places)) 0 0) (idle-found names places) (idle-starts names places (asking-granted a .few)) });
+      built = λ places b. rw z (record { last = 0; building = subst (Building 32 (setOf (idle names places)) 0 0) (idle-found names places) (idle-starts names places (asking-grants a .few)) });
     }
 
 module _ {q : List ℕ} {at n : ℕ} {flags : List Bool} {set here k : ℕ} (inv : Gathering q at n flags set here k) where
