@@ -17,7 +17,7 @@ use Rattle.rules.specs.BookLayout.{records, kinded, priceBody, valueOf, inBound
 use Rattle.rules.specs.Question.{Question, questionOf, on, dateAt, redated}
 use Rattle.rules.specs.Refusals.{Result, done, refused, _>>=_ as then, orRefuse, refuseUnless, numberOf}
 use Rattle.rules.specs.Lines.{Line, total, amounts, linesOf, ofBase, Chosen, chosen, mostTotal, totalOf}
-use Rattle.rules.specs.Price.{Priced, Answer, priced, answerOf, written, price, shown, inOneCurrency, inRange}
+use Rattle.rules.specs.Price.{Priced, Answer, priced, answerOf, written, answered, inRoom, price, shown, inOneCurrency, inRange}
 use Rattle.rules.specs.Calendar.{outcomeOf, outcome}
 use Rattle.rules.proofs.ListLaws.{All, Holds, first-holds}
 use Rattle.rules.proofs.RefusalLaws.{then-done, or-done, done-is}
@@ -37,7 +37,7 @@ use Rattle.question.proofs.RedateLaws.{redated-reads, such-bytes}
 module _ (b s : List ℕ) {book : List Record} {q : Question} {a : Article} (e : records b ≡ some book) (f : questionOf s ≡ some q) (g : articleOf book (q .article) ≡ some a) (room : ℕ) where
   -- The price call on the question with another day in its bytes, where it is not refused for its room, answers with the outcome of that day.
   pub call-outcome : (d : ℕ) → isDay d ≡ true → (numberOf (price b (redated (dateAt q) d s) room) ≡ 7 → ⊥) → outcomeIn (shown (price b (redated (dateAt q) d s) room)) ≡ outcome book q d
-  unfolding price shown outcome outcomeOf answerOf on
+  unfolding price answered shown outcome outcomeOf answerOf on
   call-outcome d day n = rw (e, redated-reads s q f d day, g) (go (priced book (on q d)) (rw (e, redated-reads s q f d day, g) at n))
     where
       fitting : Priced → Bool → Result Answer
@@ -47,8 +47,8 @@ module _ (b s : List ℕ) {book : List Record} {q : Question} {a : Article} (e :
       seven p true n = refl
       seven p false n = absurd (n refl)
 
-      go : (x : Result Priced) → (numberOf (then x (λ p. fitting p (leb (length (written (answerOf (on q d) p))) room))) ≡ 7 → ⊥)
-          → outcomeIn (shown (then x (λ p. fitting p (leb (length (written (answerOf (on q d) p))) room)))) ≡ outcomeOf x
+      go : (x : Result Priced) → (numberOf (then (then x (λ p. done (answerOf (on q d) p))) (inRoom room)) ≡ 7 → ⊥)
+          → outcomeIn (shown (then (then x (λ p. done (answerOf (on q d) p))) (inRoom room))) ≡ outcomeOf x
       go (refused n) h = refl
       go (done p) h = seven p (leb (length (written (answerOf (on q d) p))) room) h
 

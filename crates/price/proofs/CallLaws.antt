@@ -17,7 +17,7 @@ use Rattle.rules.specs.Book.{Record, Article, articleOf, rows, roundings}
 use Rattle.rules.specs.Question.{Question, lettersOf}
 use Rattle.rules.specs.Lines.{Line, linesOf, lineSize, linesBytes}
 use Rattle.rules.specs.Refusals.{Result, done, refused, _>>=_, orRefuse, refuseUnless, over, lentAfter}
-use Rattle.rules.specs.Price.{Answer, priced, answerOf, written, price, shown, unusedOf, setOf}
+use Rattle.rules.specs.Price.{Answer, priced, answerOf, written, answered, inRoom, price, shown, unusedOf, setOf}
 use Rattle.rules.specs.declared.PriceAnswer.{PriceAnswer}
 use Rattle.rules.proofs.UnusedLaws.{unused-count}
 use Rattle.layout.specs.Ensures.{Puts}
@@ -37,19 +37,16 @@ use Rattle.lines.proofs.PricedLaws.{line-count, line-places, bytes-count}
 use Rattle.lines.proofs.ChosenLaws.{chosen-base-first}
 use Rattle.price.specs.Picks.{PickedAre}
 use Rattle.price.specs.Unused.{idle, UnusedIs}
-use Rattle.price.specs.Call.{answered, PriceIs}
+use Rattle.price.specs.Call.{answerWith, PriceIs}
 use Rattle.price.proofs.UnusedSetLaws.{idle-lines}
 
 there : {A : Type 0} (o : Option A) → isSome o ≡ true → (a : A) × (o ≡ some a)
 there none e = absurd (false≢true e)
 there (some a) e = (a, refl)
 
--- the definition from refusal 4 on, and from 7 on
-abbrev pub roomFor : ℕ → Answer → Result Answer
-roomFor room a = refuseUnless 7 (leb (length (written a)) room) >>= λ _. done a
-
+-- the definition from refusal 4 on
 abbrev pub pricing : List Record → Question → ℕ → Result Answer
-pricing book q room = priced book q >>= λ p. roomFor room (answerOf q p)
+pricing book q room = priced book q >>= (λ p. done (answerOf q p)) >>= inRoom room
 
 -- ---- an accepted book and question
 
@@ -73,19 +70,19 @@ module _ (b s lent : List ℕ) where
 
   module _ {w : Entered} (told : EnteredIs b s w) where
     pub kept-out : (w .number ≡ 0 → ⊥) → {r : PriceAnswer} → r ≡ shown (refused (w .number)) → PriceIs b s lent r lent
-    unfolding price
+    unfolding price answered
     kept-out n = refuses (stays-out behind told n)
 
     module _ (z : w .number ≡ 0) where
       pub no-article : not (w .found .article) ≡ true → {r : PriceAnswer} → r ≡ shown (refused 3) → PriceIs b s lent r lent
-      unfolding price
+      unfolding price answered
       no-article f =
           let o : Option Article = articleOf (recordsLeft b 5) (askIn s (w .ask) .article) in
           let e : o ≡ none = absent o (sym (told .found-is z .there) ∙ not-so (w .found .article) f) in
           refuses (goes-in behind told z ∙ rw e)
 
       priced-call : not (w .found .article) ≡ false → price b s (length lent) ≡ pricing (recordsLeft b 5) (askIn s (w .ask)) (length lent)
-      unfolding price
+      unfolding price answered
       priced-call f =
           let x = there (articleOf (recordsLeft b 5) (askIn s (w .ask) .article)) (sym (told .found-is z .there) ∙ so (w .found .article) f) in
           goes-in behind told z ∙ rw (x .1)
@@ -125,7 +122,7 @@ module _ (b s lent : List ℕ) {w : Entered} (told : EnteredIs b s w) (t : w .nu
 
   module _ (z : v .outcome .refusal ≡ 0) where
     at-price : price b s (length lent)
-        ≡ roomFor (length lent) (answerOf (askIn s (w .ask)) (record { lines = linesOf (recordsLeft b 5) (askIn s (w .ask)); currency = lettersOf (v .outcome .currency) }))
+        ≡ inRoom (length lent) (answerOf (askIn s (w .ask)) (record { lines = linesOf (recordsLeft b 5) (askIn s (w .ask)); currency = lettersOf (v .outcome .currency) }))
     at-price = let e = j .answered z (recordsLeft b 5) (askIn s (w .ask)) (stand picked) in priced-call b s lent told t f ∙ rw (e .is)
 
     pub no-room : length lent < lineSize * n → {r : PriceAnswer} → r ≡ shown (refused 7) → PriceIs b s lent r lent
@@ -138,7 +135,7 @@ module _ (b s lent : List ℕ) {w : Entered} (told : EnteredIs b s w) (t : w .nu
     -- with room, the lines go to the front, and what is read is the definition's
     pub has-answer : {set : ℕ} → UnusedIs (askIn s (w .ask) .granted) (map (λ v. v .place) (viewsIn picks n)) set → lineSize * n ≤ length lent
         → {after : List ℕ} → Puts lent 0 (viewsBytes (viewsIn picks n) (amountsIn (v .amounts) n)) after
-        → {r : PriceAnswer} → r ≡ answered (w .ask .quantity) n (v .outcome) set → PriceIs b s lent r after
+        → {r : PriceAnswer} → r ≡ answerWith (w .ask .quantity) n (v .outcome) set → PriceIs b s lent r after
     unfolding answerOf shown lentAfter
     has-answer {set} u h {after} put {r} e =
         let book : List Record = recordsLeft b 5 in

@@ -11,8 +11,8 @@ use Rattle.rules.specs.declared.Outcome.{Outcome}
 use Rattle.rules.specs.declared.PriceAnswer.{PriceAnswer}
 
 -- so many pieces of this outcome, in n lines; the set of granted places that brought none
-abbrev pub answered : ℕ → ℕ → Outcome → ℕ → PriceAnswer
-answered quantity n o set =
+abbrev pub answerWith : ℕ → ℕ → Outcome → ℕ → PriceAnswer
+answerWith quantity n o set =
     record {
       unit = o .unit .0;
       total = pos quantity *ℤ o .unit .0;

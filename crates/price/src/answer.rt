@@ -8,7 +8,7 @@ ghost use lib.IntN.{natAbs};
 ghost use Rattle.rules.specs.Lines.{mostTotal};
 ghost use Rattle.rules.specs.Refusals.{refused};
 ghost use Rattle.rules.specs.Price.{shown};
-ghost use Rattle.price.specs.Call.{answered};
+ghost use Rattle.price.specs.Call.{answerWith};
 
 // The number of a refusal, and zeros.
 pub fn refusal(number: u8) -> PriceAnswer
@@ -29,7 +29,7 @@ pub fn refusal(number: u8) -> PriceAnswer
 pub fn answer(quantity: u32, n: usize, outcome: Outcome, idle: Places) -> PriceAnswer
     requires { ⌜ quantity ≤ 100_000 ⌝ }
     requires { ⌜ natAbs (outcome .unit .0) ≤ mostTotal ⌝ }
-    ensures { λ r. ⌜ r ≡ answered quantity n outcome (idle .0) ⌝ }
+    ensures { λ r. ⌜ r ≡ answerWith quantity n outcome (idle .0) ⌝ }
 {
     let currency = outcome.currency;
     let unit = outcome.unit.0;

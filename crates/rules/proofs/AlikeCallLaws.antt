@@ -11,7 +11,7 @@ use Rattle.rules.specs.Book.{Record, articleOf}
 use Rattle.rules.specs.BookLayout.{records}
 use Rattle.rules.specs.Question.{Question, questionOf}
 use Rattle.rules.specs.Refusals.{Result, done, refused, _>>=_, orRefuse, refuseUnless}
-use Rattle.rules.specs.Price.{Priced, priced, Answer, answerOf, written, price}
+use Rattle.rules.specs.Price.{Priced, priced, Answer, answerOf, answered, inRoom, price}
 use Rattle.rules.specs.Calendar.{Outcome, outcome, Stretch, stretches, periodTo, calendarIn}
 use Rattle.rules.proofs.AlikeLaws.{Alike, same-priced, same-outcome}
 
@@ -39,15 +39,16 @@ asked-same none x y h = refl
 asked-same (some q) x y h = h q refl
 
 module _ (one two question : List ℕ) (h : BooksAlike one two question) where
+  same-answered : (q : Question) → questionOf question ≡ some q → answered (h .first-book) q ≡ answered (h .second-book) q
+  unfolding answered
+  same-answered q e =
+      found-same 3 (articleOf (h .first-book) (q .article)) (articleOf (h .second-book) (q .article)) _ _ (h .known q e)
+      (ap (λ (r : Result Priced). r >>= λ p. done (answerOf q p)) (same-priced (h .first-book) (h .second-book) q (h .alike q e)))
+
   -- The price call gives the same answer or the same refusal.
   pub same-price : (room : ℕ) → price one question room ≡ price two question room
   unfolding price
-  same-price room =
-      rw (h .is-first, h .is-second)
-      (asked-same (questionOf question) _ _ λ q e.
-      found-same 3 (articleOf (h .first-book) (q .article)) (articleOf (h .second-book) (q .article)) _ _ (h .known q e)
-      (ap (λ (r : Result Priced). r >>= λ p. refuseUnless 7 (leb (length (written (answerOf q p))) room) >>= λ _. done (answerOf q p))
-      (same-priced (h .first-book) (h .second-book) q (h .alike q e))))
+  same-price room = rw (h .is-first, h .is-second) (asked-same (questionOf question) _ _ λ q e. ap (λ (r : Result Answer). r >>= inRoom room) (same-answered q e))
 
   -- The calendar gives the same stretches or the same refusal, in either form.
   pub same-calendar : {B : Type 0} (form : List Stretch → List B) (end room : ℕ)

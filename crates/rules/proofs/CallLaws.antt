@@ -18,7 +18,7 @@ use Rattle.rules.specs.Lines.{amounts, ofBase, linesOf, mostLinesSize, l
 use Rattle.rules.specs.declared.Cents.{Cents}
 use Rattle.rules.specs.declared.Total.{Total}
 use Rattle.rules.specs.declared.Total.the-variants.{InRange, OutOfRange}
-use Rattle.rules.specs.Price.{Priced, Answer, inOneCurrency, inRange, priced, answerOf, written, price}
+use Rattle.rules.specs.Price.{Priced, Answer, inOneCurrency, inRange, priced, answerOf, written, answered, inRoom, price}
 use Rattle.rules.specs.Calendar.{Stretch, stretches, outcome, periodTo, calendarIn}
 use Rattle.rules.proofs.RefusalLaws.{then-done, or-done, unless-done, done-is, not-refused, NeverZero, done-never, refused-never, or-never, unless-never, then-never, Refuses, or-refuses, unless-refuses, found-refuses, then-refuses}
 use Rattle.rules.proofs.GivesLaws.{question-sound}
@@ -40,14 +40,15 @@ pub record Answered (b s : List ℕ) (room : ℕ) (a : Answer) : Type 0 where
   pub fits : leb (length (written a)) room ≡ true
 
 pub price-answered : (b s : List ℕ) (room : ℕ) (a : Answer) → price b s room ≡ done a → Answered b s room a
-unfolding price
+unfolding price answered
 price-answered b s room a e =
     let x = then-done (orRefuse 1 (records b)) _ e in
     let y = then-done (orRefuse 2 (questionOf s)) _ (x .2) in
-    let z = then-done (orRefuse 3 (articleOf (x .0) (y .0 .article))) _ (y .2) in
+    let v = then-done (answered (x .0) (y .0)) _ (y .2) in
+    let z = then-done (orRefuse 3 (articleOf (x .0) (y .0 .article))) _ (v .1) in
     let p = then-done (priced (x .0) (y .0)) _ (z .2) in
-    let w = then-done (refuseUnless 7 (leb (length (written (answerOf (y .0) (p .0)))) room)) _ (p .2) in
-    let i : answerOf (y .0) (p .0) ≡ a = done-is (answerOf (y .0) (p .0)) a (w .2) in
+    let w = then-done (refuseUnless 7 (leb (length (written (v .0))) room)) _ (v .2) in
+    let i : v .0 ≡ a = done-is (v .0) a (w .2) in
     record {
       book = x .0;
       question = y .0;
@@ -57,13 +58,13 @@ price-answered b s room a e =
       is-question = or-done 2 (questionOf s) (y .1);
       has-article = or-done 3 (articleOf (x .0) (y .0 .article)) (z .1);
       is-priced = p .1;
-      is = i;
-      fits = subst (λ (k : Answer). leb (length (written k)) room ≡ true) i (unless-done 7 (leb (length (written (answerOf (y .0) (p .0)))) room) (w .1));
+      is = done-is (answerOf (y .0) (p .0)) (v .0) (p .2) ∙ i;
+      fits = subst (λ (k : Answer). leb (length (written k)) room ≡ true) i (unless-done 7 (leb (length (written (v .0))) room) (w .1));
     }
 
 -- what is answered with some room is answered with more
 pub price-room : (b s : List ℕ) (room more : ℕ) (a : Answer) → price b s room ≡ done a → room ≤ more → price b s more ≡ done a
-unfolding price
+unfolding price answered
 price-room b s room more a e l =
     let x = price-answered b s room a e in
     let fits : leb (length (written (answerOf (x .question) (x .at)))) more ≡ true =
@@ -81,15 +82,19 @@ priced-never book q =
     unless-never 4 (inOneCurrency (b .row .currency) (linesOf book q)) _
     (then-never (inRange (totalOf (amounts (linesOf book q)))) _ (range-never (totalOf (amounts (linesOf book q)))) (λ c. done-never (record { lines = linesOf book q; currency = b .row .currency }))))
 
+pub answered-never : (book : List Record) (q : Question) → NeverZero (answered book q)
+unfolding answered
+answered-never book q =
+    or-never 2 (articleOf book (q .article)) _ (λ a. then-never (priced book q) _ (priced-never book q) (λ p. done-never (answerOf q p)))
+
 -- so a price call with the number 0 has an answer
 pub price-never : (b s : List ℕ) (room : ℕ) → NeverZero (price b s room)
 unfolding price
 price-never b s room =
     or-never 0 (records b) _ (λ book.
     or-never 1 (questionOf s) _ (λ q.
-    or-never 2 (articleOf book (q .article)) _ (λ a.
-    then-never (priced book q) _ (priced-never book q) (λ p.
-    unless-never 6 (leb (length (written (answerOf q p))) room) _ (done-never (answerOf q p))))))
+    then-never (answered book q) _ (answered-never book q) (λ a.
+    unless-never 6 (leb (length (written a)) room) _ (done-never a))))
 
 -- a price that is refused is refused with 1 to 7
 abbrev pub PriceRefusal : ℕ → Type 0
@@ -106,14 +111,19 @@ priced-refuses P four five six book q =
     unless-refuses P 5 (inOneCurrency (b .row .currency) (linesOf book q)) _ five
     (then-refuses P (inRange (totalOf (amounts (linesOf book q)))) _ (range-refuses P six (totalOf (amounts (linesOf book q)))) (λ c. tt)))
 
+pub answered-refuses : (P : ℕ → Type 0) → P 3 → P 4 → P 5 → P 6 → (book : List Record) (q : Question) → Refuses P (answered book q)
+unfolding answered
+answered-refuses P three four five six book q =
+    or-refuses P 3 (articleOf book (q .article)) _ three (λ a. then-refuses P (priced book q) _ (priced-refuses P four five six book q) (λ p. tt))
+
 pub price-refuses : (b s : List ℕ) (room : ℕ) → Refuses PriceRefusal (price b s room)
 unfolding price
 price-refuses b s room =
     or-refuses PriceRefusal 1 (records b) _ (omega arith, omega arith) (λ book.
     or-refuses PriceRefusal 2 (questionOf s) _ (omega arith, omega arith) (λ q.
-    or-refuses PriceRefusal 3 (articleOf book (q .article)) _ (omega arith, omega arith) (λ a.
-    then-refuses PriceRefusal (priced book q) _ (priced-refuses PriceRefusal (omega arith, omega arith) (omega arith, omega arith) (omega arith, omega arith) book q)
-    (λ p. unless-refuses PriceRefusal 7 (leb (length (written (answerOf q p))) room) _ (omega arith, omega arith) tt))))
+    then-refuses PriceRefusal (answered book q) _
+    (answered-refuses PriceRefusal (omega arith, omega arith) (omega arith, omega arith) (omega arith, omega arith) (omega arith, omega arith) book q)
+    (λ a. unless-refuses PriceRefusal 7 (leb (length (written a)) room) _ (omega arith, omega arith) tt)))
 
 -- a price has the lines of the question, and these are in range
 pub priced-range : (book : List Record) (q : Question) {p : Priced} → priced book q ≡ done p → (c : Cents) × (totalOf (amounts (p .lines)) ≡ InRange c) × (p .lines ≡ linesOf book q)
@@ -129,6 +139,14 @@ priced-range book q {p} e =
     in-range (InRange d) {c} e = ap InRange (done-is d c e)
     in-range OutOfRange {c} e = absurd (not-refused 6 c e)
 
+-- what is answered has these lines
+pub answered-are : (book : List Record) (q : Question) {a : Answer} → answered book q ≡ done a → a .lines ≡ linesOf book q
+unfolding answered answerOf
+answered-are book q {a} e =
+    let x = then-done (orRefuse 3 (articleOf book (q .article))) _ e in
+    let p = then-done (priced book q) _ (x .2) in
+    ap (λ (k : Answer). k .lines) (sym (done-is (answerOf q (p .0)) a (p .2))) ∙ priced-range book q (p .1) .2
+
 -- the lines of an answer are those of the book's records and the question
 pub answered-lines : (b s : List ℕ) (room : ℕ) (a : Answer) → price b s room ≡ done a → {book : List Record} {q : Question} → records b ≡ some book → questionOf s ≡ some q → a .lines ≡ linesOf book q
 unfolding answerOf
@@ -140,35 +158,34 @@ answered-lines b s room a e {book} {q} f g =
 
 -- with room for 99 lines 7 is never given
 pub price-not-seven : (b s : List ℕ) (room : ℕ) → mostLinesSize ≤ room → Refuses (λ n. n ≡ 7 → ⊥) (price b s room)
-unfolding price answerOf
+unfolding price
 price-not-seven b s room h =
     or-refuses NotSeven 1 (records b) _ (λ e. omega arith) (λ book.
     found-refuses NotSeven 2 (questionOf s) _ (λ e. omega arith) (λ q f.
-    or-refuses NotSeven 3 (articleOf book (q .article)) _ (λ e. omega arith) (λ a.
-    go book q (question-sound s q f .granted) (priced book q) refl (priced-refuses NotSeven (λ e. omega arith) (λ e. omega arith) (λ e. omega arith) book q))))
+    go book q (question-sound s q f .granted) (answered book q) refl
+    (answered-refuses NotSeven (λ e. omega arith) (λ e. omega arith) (λ e. omega arith) (λ e. omega arith) book q)))
   where
     NotSeven : ℕ → Type 0
     NotSeven n = n ≡ 7 → ⊥
 
-    go : (book : List Record) (q : Question) → length (q .granted) ≤ 32 → (r : Result Priced) → priced book q ≡ r → Refuses NotSeven r
-        → Refuses NotSeven (r >>= λ p. refuseUnless 7 (leb (length (written (answerOf q p))) room) >>= λ _. done (answerOf q p))
+    go : (book : List Record) (q : Question) → length (q .granted) ≤ 32 → (r : Result Answer) → answered book q ≡ r → Refuses NotSeven r → Refuses NotSeven (r >>= inRoom room)
     go book q few (refused n) e k = k
-    go book q few (done p) e k =
-        let ls : p .lines ≡ linesOf book q = priced-range book q e .2 in
-        let fits : leb (length (written (answerOf q p))) room ≡ true = le-leb (length (written (answerOf q p))) room (omega (arith, ap (λ l. length (linesBytes l)) ls, enough-room book q few)) in
+    go book q few (done a) e k =
+        let fits : leb (length (written a)) room ≡ true =
+        le-leb (length (written a)) room (omega (arith, ap (λ l. length (linesBytes l)) (answered-are book q e), enough-room book q few)) in
         rw fits tt
 
 -- with an accepted book and question and an article that the book has, 4 is the price's own
 pub call-4 : (b s : List ℕ) (room : ℕ) {book : List Record} {q : Question} {a : Article} → records b ≡ some book → questionOf s ≡ some q → articleOf book (q .article) ≡ some a
     → eqb (numberOf (price b s room)) 4 ≡ eqb (numberOf (priced book q)) 4
-unfolding price
+unfolding price answered
 call-4 b s room {book} {q} {a} e f g = rw (e, f, g) (go (priced book q))
   where
     seven : (p : Priced) (t : Bool) → eqb (numberOf {A = Answer} (refuseUnless 7 t >>= λ _. done (answerOf q p))) 4 ≡ false
     seven p true = refl
     seven p false = refl
 
-    go : (r : Result Priced) → eqb (numberOf {A = Answer} (r >>= λ p. refuseUnless 7 (leb (length (written (answerOf q p))) room) >>= λ _. done (answerOf q p))) 4 ≡ eqb (numberOf r) 4
+    go : (r : Result Priced) → eqb (numberOf {A = Answer} (r >>= (λ p. done (answerOf q p)) >>= inRoom room)) 4 ≡ eqb (numberOf r) 4
     go (done p) = seven p (leb (length (written (answerOf q p))) room)
     go (refused n) = refl
 

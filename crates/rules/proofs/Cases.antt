@@ -155,5 +155,5 @@ by AskInput b q = Text (output b)
 
 -- (the line below names what computes: whoever unfolds `found` unfolds all of it)
 unfoldable pub found : Case → Worked
-unfolding price Floor.floor BookLayout.records Book.articleOf Book.schemeOf Book.packOf Book.roundingFor Question.questionOf Question.on Question.grants Choice.component Choice.step₁ Choice.step₂ Choice.step₃ Choice.step₄ Choice.step₅ Choice.surviving Choice.choose Days.isDay Days.next Days.daysTo Amounts.exact Amounts.ceiling Amounts.nearest Amounts.stepsBy Amounts.multipleBy Amounts.rounded Lines.slots Lines.rowsAt Lines.chosenAt Lines.chosen Lines.total Lines.baseSum Lines.lineAfter Lines.linesAfter Lines.linesOf Lines.linesBytes Lines.totalOf Price.priced Price.unusedOf Price.answerOf finalNumber FinalNumber.finalNumberOf FinalNumber.numberBy packaging Packaging.used Packaging.packedOf output asked digits Calendar.calendarIn Calendar.stretchesBytes Price.shown Refusals.lentAfter LineText.text TextBook.entries Calendar.periodTo Calendar.outcome Calendar.outcomeOf Calendar.stretches Calendar.sameOutcome
+unfolding price Floor.floor BookLayout.records Book.articleOf Book.schemeOf Book.packOf Book.roundingFor Question.questionOf Question.on Question.grants Choice.component Choice.step₁ Choice.step₂ Choice.step₃ Choice.step₄ Choice.step₅ Choice.surviving Choice.choose Days.isDay Days.next Days.daysTo Amounts.exact Amounts.ceiling Amounts.nearest Amounts.stepsBy Amounts.multipleBy Amounts.rounded Lines.slots Lines.rowsAt Lines.chosenAt Lines.chosen Lines.total Lines.baseSum Lines.lineAfter Lines.linesAfter Lines.linesOf Lines.linesBytes Lines.totalOf Price.priced Price.answered Price.unusedOf Price.answerOf finalNumber FinalNumber.finalNumberOf FinalNumber.numberBy packaging Packaging.used Packaging.packedOf output asked digits Calendar.calendarIn Calendar.stretchesBytes Price.shown Refusals.lentAfter LineText.text TextBook.entries Calendar.periodTo Calendar.outcome Calendar.outcomeOf Calendar.stretches Calendar.sameOutcome
 found c = by (c .call) (c .book) (c .question)

@@ -68,15 +68,25 @@ answerOf q p =
 abbrev pub written : Answer → List ℕ
 written a = linesBytes (a .lines)
 
+-- what is answered where there is room enough for it: refusals 3 to 6
+unfoldable pub answered : List Record → Question → Result Answer
+answered book q = do
+  _ ← orRefuse 3 (articleOf book (q .article))
+  p ← priced book q
+  done (answerOf q p)
+
+-- and where so much room is lent
+abbrev pub inRoom : ℕ → Answer → Result Answer
+inRoom room a = do
+  _ ← refuseUnless 7 (leb (length (written a)) room)
+  done a
+
 unfoldable pub price : List ℕ → List ℕ → ℕ → Result Answer
 price bookBytes questionBytes room = do
   book ← orRefuse 1 (records bookBytes)
   q ← orRefuse 2 (questionOf questionBytes)
-  _ ← orRefuse 3 (articleOf book (q .article))
-  p ← priced book q
-  let a = answerOf q p
-  _ ← refuseUnless 7 (leb (length (written a)) room)
-  done a
+  a ← answered book q
+  inRoom room a
 
 -- the numbers that the caller reads, and the lent output after the call
 unfoldable pub shown : Result Answer → PriceAnswer
