@@ -1,5 +1,5 @@
 -- A record at a place of a book, the header, and the records one behind the other: what `book_ok` goes by.
-use Prim.Native.Nat.{ℕ, zero, suc, _+_, _-_, _≤_, _<_}
+use Prim.Native.Nat.{ℕ, suc, _+_, _-_, _≤_, _<_}
 use mathlib.Core.Path.{_≡_, refl, sym, _∙_, ap, subst}
 use mathlib.Core.Bool.{Bool, true, false, _&&_, _||_, and-false, false≢true}
 use mathlib.Core.List.{List, [], _∷_}
@@ -11,41 +11,17 @@ use lib.ListN.{length, take, drop, getD, drop-of-length-le, List·getD-eq-defaul
 use lib.Seq.{drop-cons}
 use borrow.Author.Tests.{lt-ltb, le-ltb}
 use Rattle.rules.specs.Lists.{isSome}
-use Rattle.rules.specs.Layout.{andThen, byte, give, whole, wholly, back, repeated}
+use Rattle.rules.specs.Layout.{andThen, give, whole, wholly, back, repeated}
 use Rattle.rules.specs.Bytes.{number, big}
 use Rattle.rules.specs.Book.{Record}
-use Rattle.rules.specs.BookLayout.{kinded, body, oneRecord, mostBytes, records}
+use Rattle.rules.specs.BookLayout.{kinded, oneRecord, mostBytes, records}
 use Rattle.layout.specs.Reads.{when}
 use Rattle.layout.specs.Ensures.{Accepts, Number, Says}
-use Rattle.layout.proofs.LayoutLaws.{andThen-some, then-rest, then-broken, then-when, if-reads, byte-at, byte-cut, bytes-cut, number-at, number-cut, sized-number}
+use Rattle.layout.proofs.LayoutLaws.{andThen-some, then-rest, then-broken, then-when, if-reads, bytes-cut, number-at, number-cut, sized-number}
 use Rattle.layout.proofs.FromLaws.{head-reads, head-cut}
 use Rattle.layout.proofs.SequenceLaws.{repeated-step, repeated-broken, framed-at, framed-left}
 use Rattle.book.specs.Records.{recordIn, recordsFrom}
 use Rattle.book.specs.Ensures.{RecordEnd, Decides, headerOk}
-
--- ---- kinds
-module _ (s : List ℕ) where
-  pub kind-empty : length s < 1 → Accepts (whole kinded s) false
-  kind-empty h = record { is = ap (λ o. isSome (wholly o)) (then-broken byte body (byte-cut s 0 (omega arith)) refl) }
-
-  module _ (h : 1 ≤ length s) where
-    pub kind-is : (k : ℕ) → getD s 0 0 ≡ k → whole kinded s ≡ whole (body k) (drop 1 s)
-    kind-is k e = ap wholly (then-rest byte body (byte-at s 0 (omega arith)) refl) ∙ ap (λ (k : ℕ). whole (body k) (drop 1 s)) e
-
-    pub kind-any : (k : ℕ) {r : Bool} → getD s 0 0 ≡ k → Accepts (whole (body k) (drop 1 s)) r → Accepts (whole kinded s) r
-    kind-any k e p = record { is = ap isSome (kind-is k e) ∙ p .is }
-
-    pub kind-none : (((((Unit {0}) × (getD s 0 0 ≡ 1 → ⊥)) × (getD s 0 0 ≡ 2 → ⊥)) × (getD s 0 0 ≡ 3 → ⊥)) × (getD s 0 0 ≡ 4 → ⊥)) × (getD s 0 0 ≡ 5 → ⊥) → Accepts (whole kinded s) false
-    kind-none n = go (getD s 0 0) refl
-      where
-        go : (k : ℕ) → getD s 0 0 ≡ k → Accepts (whole kinded s) false
-        go zero e = record { is = ap isSome (kind-is 0 e) }
-        go (suc zero) e = absurd (n .0 .0 .0 .0 .1 e)
-        go (suc (suc zero)) e = absurd (n .0 .0 .0 .1 e)
-        go (suc (suc (suc zero))) e = absurd (n .0 .0 .1 e)
-        go (suc (suc (suc (suc zero)))) e = absurd (n .0 .1 e)
-        go (suc (suc (suc (suc (suc zero))))) e = absurd (n .1 e)
-        go (suc (suc (suc (suc (suc (suc k)))))) e = record { is = ap isSome (kind-is (suc (suc (suc (suc (suc (suc k)))))) e) }
 
 -- ---- a record at a place
 

@@ -26,7 +26,7 @@ use Rattle.rules.proofs.CallLaws.{priced-range}
 use Rattle.rules.proofs.LinesLaws.{line-rows}
 use Rattle.amounts.proofs.TotalLaws.{total-in-range, total-is-sum}
 use Rattle.book.specs.Records.{recordsLeft, listed}
-use Rattle.book.proofs.PartsLaws.{record-is}
+use Rattle.kinds.proofs.PartsLaws.{record-is}
 use Rattle.book.proofs.WalkLaws.{all-left}
 use Rattle.records.proofs.FieldLaws.{kind-byte}
 use Rattle.lookup.proofs.LookupLaws.{all-records}

@@ -22,7 +22,7 @@ use Rattle.rules.proofs.TestLaws.{and-left, and-true, and-false, so, not-so}
 use Rattle.rules.proofs.KindLaws.{rowKind, same-held}
 use Rattle.rules.proofs.ChoiceLaws.{isAsked, stands}
 use Rattle.layout.specs.Ensures.{Number, Says}
-use Rattle.book.specs.Records.{kindOf}
+use Rattle.kinds.specs.Fields.{kindOf}
 use Rattle.records.specs.Tests as Tests
 use Rattle.records.specs.Asks.{Accepted, OfKind}
 use Rattle.records.proofs.FieldLaws.{kind-byte}

@@ -1,5 +1,5 @@
 // The values of a question's properties, as a scheme writes them.
-use book::given_or;
+use kinds::given_or;
 use layout::numbers::wide;
 use layout::strings::put_bytes;
 use layout::strings::put_run;

@@ -15,7 +15,7 @@ use Rattle.rules.specs.BookLayout.{kinded, priceBody, valueOf, inBounds, oneRec
 use Rattle.rules.proofs.ListLaws.{All}
 use Rattle.rules.proofs.GivesLaws.{and-then}
 use Rattle.rules.proofs.RowLaws.{Among, among-has}
-use Rattle.book.proofs.PartsLaws.{record-is}
+use Rattle.kinds.proofs.PartsLaws.{record-is}
 use Rattle.records.proofs.FieldLaws.{kind-byte}
 
 -- a byte is below 256

@@ -8,9 +8,9 @@ use Rattle.rules.specs.Book.{ArticleRecord}
 use Rattle.rules.specs.BookLayout.{articleBody}
 use Rattle.layout.specs.Reads.{nameStop}
 use Rattle.layout.specs.Ensures.{Number}
-use Rattle.book.specs.Records.{secondStop, articleAt}
-use Rattle.book.specs.Ensures.{Stands}
-use Rattle.book.proofs.PartsLaws.{article-parts, body-ok}
+use Rattle.kinds.specs.Fields.{secondStop, articleAt}
+use Rattle.kinds.specs.Ensures.{Stands}
+use Rattle.kinds.proofs.PartsLaws.{article-parts, body-ok}
 use Rattle.records.specs.Asks.{OfKind, TwoNames}
 use Rattle.records.specs.Ensures.{ArticleIs, articleIn}
 use Rattle.records.proofs.FieldLaws.{first-there, second-there, two-names}

@@ -18,7 +18,7 @@ use Rattle.rules.proofs.TestLaws.{between-low, between-high}
 use Rattle.rules.proofs.GivesLaws.{Gives, gives-field, gives-any, gives-value, gives-tested, gives-if, gives-such, gives-bytes, gives-name, gives-framed, gives-repeated, whole-gives}
 use Rattle.rules.proofs.ListLaws.{All}
 use Rattle.rules.proofs.RangeLaws.{either-in}
-use Rattle.book.proofs.PartsLaws.{record-is}
+use Rattle.kinds.proofs.PartsLaws.{record-is}
 use Rattle.records.specs.Ensures.{Bounded, ValuesIn}
 use Rattle.records.proofs.FieldLaws.{kind-byte}
 

@@ -20,9 +20,9 @@ use Rattle.rules.specs.Book.{Record, ArticleRecord, PriceRecord, PackagingRecor
 use Rattle.rules.specs.BookLayout.{kinded, body}
 use Rattle.layout.specs.Reads.{part, nameStop}
 use Rattle.layout.specs.Ensures.{Number, SignedNumber, Says}
-use Rattle.book.specs.Records.{kindOf, secondStop, thirdStop, articleAt, rowAt, packAt, schemeAt}
-use Rattle.book.specs.Ensures.{Stands}
-use Rattle.book.proofs.PartsLaws.{record-long, record-is, body-ok, kind-of, article-parts, price-parts, packaging-parts, scheme-parts}
+use Rattle.kinds.specs.Fields.{kindOf, secondStop, thirdStop, articleAt, rowAt, packAt, schemeAt}
+use Rattle.kinds.specs.Ensures.{Stands}
+use Rattle.kinds.proofs.PartsLaws.{record-long, record-is, body-ok, kind-of, article-parts, price-parts, packaging-parts, scheme-parts}
 use Rattle.records.specs.Asks.{Accepted, OfKind, TwoNames}
 use Rattle.records.specs.Tests.{firstName, startsWith}
 

@@ -12,9 +12,9 @@ use Rattle.rules.specs.BookLayout.{packagingBody}
 use Rattle.layout.specs.Reads.{nameStop}
 use Rattle.layout.specs.Ensures.{Number, SignedNumber}
 use Rattle.layout.proofs.LayoutLaws.{taken-are}
-use Rattle.book.specs.Records.{signedAt, secondStop, packAt}
-use Rattle.book.specs.Ensures.{Stands}
-use Rattle.book.proofs.PartsLaws.{packaging-parts, body-ok}
+use Rattle.kinds.specs.Fields.{signedAt, secondStop, packAt}
+use Rattle.kinds.specs.Ensures.{Stands}
+use Rattle.kinds.proofs.PartsLaws.{packaging-parts, body-ok}
 use Rattle.records.specs.Asks.{OfKind, TwoNames}
 use Rattle.records.specs.Ensures.{ValuesAre, UnitsAre, PackIs, packIn}
 use Rattle.records.proofs.FieldLaws.{kept-is, first-there, second-there, two-names}

@@ -20,9 +20,9 @@ use Rattle.layout.specs.Reads.{nameStop}
 use Rattle.rules.proofs.TestLaws.{so, not-so}
 use Rattle.layout.specs.Ensures.{Says, Number, SignedNumber}
 use Rattle.layout.proofs.LayoutLaws.{taken-are}
-use Rattle.book.specs.Records.{numberAt, signedAt, secondStop, rowAt}
-use Rattle.book.specs.Ensures.{Stands}
-use Rattle.book.proofs.PartsLaws.{price-parts, body-ok}
+use Rattle.kinds.specs.Fields.{numberAt, signedAt, secondStop, rowAt}
+use Rattle.kinds.specs.Ensures.{Stands}
+use Rattle.kinds.proofs.PartsLaws.{price-parts, body-ok}
 use Rattle.records.specs.Asks.{Accepted, OfKind, TwoNames}
 use Rattle.records.specs.Tests.{startsWith, rowOf, isRow}
 use Rattle.records.specs.Ensures.{ValueIs, RowIs, rowIn}

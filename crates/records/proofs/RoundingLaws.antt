@@ -20,9 +20,9 @@ use Rattle.rules.specs.declared.Way.{Way}
 use Rattle.rules.specs.declared.Way.the-variants.{Commercial}
 use Rattle.rules.proofs.KindLaws.{roundingKind, read-only}
 use Rattle.layout.specs.Ensures.{Number, SignedNumber, Says}
-use Rattle.book.specs.Records.{kindOf, numberAt, signedAt, roundingAt}
-use Rattle.book.specs.Ensures.{Stands}
-use Rattle.book.proofs.PartsLaws.{rounding-parts, record-is, body-ok}
+use Rattle.kinds.specs.Fields.{kindOf, numberAt, signedAt, roundingAt}
+use Rattle.kinds.specs.Ensures.{Stands}
+use Rattle.kinds.proofs.PartsLaws.{rounding-parts, record-is, body-ok}
 use Rattle.records.specs.Asks.{Accepted, OfKind}
 use Rattle.records.specs.Tests.{isRounding, roundingNumber}
 use Rattle.records.specs.Ensures.{WayIs, RoundingIs}

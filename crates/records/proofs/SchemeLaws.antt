@@ -8,9 +8,9 @@ use Rattle.rules.specs.Book.{SchemeRecord}
 use Rattle.rules.specs.BookLayout.{schemeBody}
 use Rattle.layout.specs.Reads.{nameStop}
 use Rattle.layout.specs.Ensures.{Number}
-use Rattle.book.specs.Records.{secondStop, thirdStop, schemeAt}
-use Rattle.book.specs.Ensures.{Stands}
-use Rattle.book.proofs.PartsLaws.{scheme-parts, record-is, body-ok}
+use Rattle.kinds.specs.Fields.{secondStop, thirdStop, schemeAt}
+use Rattle.kinds.specs.Ensures.{Stands}
+use Rattle.kinds.proofs.PartsLaws.{scheme-parts, record-is, body-ok}
 use Rattle.records.specs.Asks.{OfKind, SchemeNames}
 use Rattle.records.specs.Ensures.{SchemeIs, schemeIn}
 use Rattle.records.proofs.BoundLaws.{in-bounds}

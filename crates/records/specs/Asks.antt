@@ -9,7 +9,7 @@ use Rattle.rules.specs.Lists.{isSome}
 use Rattle.rules.specs.Layout.{whole}
 use Rattle.rules.specs.Book.{Record, SchemeRecord}
 use Rattle.rules.specs.BookLayout.{kinded}
-use Rattle.book.specs.Records.{schemeAt}
+use Rattle.kinds.specs.Fields.{schemeAt}
 
 -- t is a record of an accepted book
 pub record Accepted (t : List ℕ) : Type 0 where

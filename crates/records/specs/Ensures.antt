@@ -16,7 +16,7 @@ use Rattle.rules.specs.declared.Way.{Way}
 use Rattle.rules.specs.declared.PriceRow.{PriceRow}
 use Rattle.rules.specs.declared.Rounding.{Rounding}
 use Rattle.rules.proofs.ListLaws.{All}
-use Rattle.book.specs.Records.{signedAt, valuesAt}
+use Rattle.kinds.specs.Fields.{signedAt, valuesAt}
 use Rattle.records.specs.declared.articles.ArticleParts.{ArticleParts}
 use Rattle.records.specs.declared.packagings.Packing.{Packing}
 use Rattle.records.specs.declared.schemes.SchemeParts.{SchemeParts}

@@ -6,7 +6,7 @@ use mathlib.Core.Option.{Option, some, none}
 use lib.Dec.{eqb}
 use Rattle.rules.specs.Lists.{same, ifSome, isSome}
 use Rattle.rules.specs.Book.{Record, ArticleRecord, PriceRecord, RoundingRecord, PackagingRecord, SchemeRecord, asRow, asRounding}
-use Rattle.book.specs.Records.{kindOf}
+use Rattle.kinds.specs.Fields.{kindOf}
 
 -- the name that it starts with; a rounding has none
 abbrev pub firstName : Record → List ℕ

@@ -11,7 +11,7 @@ ghost use Rattle.rules.specs.Layout.{whole};
 ghost use Rattle.rules.specs.BookLayout.{kinded};
 ghost use Rattle.layout.specs.Reads.{nameStop};
 ghost use Rattle.layout.specs.Ensures.{Number, Says};
-ghost use Rattle.book.specs.Records.{numberAt};
+ghost use Rattle.kinds.specs.Fields.{numberAt};
 ghost use Rattle.records.specs.Asks.{Accepted};
 ghost use Rattle.records.specs.Tests.{startsWith};
 

@@ -5,7 +5,7 @@ use rules::Part;
 ghost use Prim.Native.Nat.{_+_, _≤_};
 ghost use lib.ListN.{length};
 ghost use Rattle.rules.specs.Book.{PackagingRecord};
-ghost use Rattle.book.specs.Records.{packAt};
+ghost use Rattle.kinds.specs.Fields.{packAt};
 ghost use Rattle.records.specs.Asks.{OfKind, TwoNames};
 ghost use Rattle.records.specs.Ensures.{ValuesAre, UnitsAre, PackIs};
 

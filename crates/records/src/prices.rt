@@ -16,7 +16,7 @@ ghost use Rattle.rules.specs.Layout.{whole};
 ghost use Rattle.rules.specs.Book.{PriceRecord};
 ghost use Rattle.rules.specs.BookLayout.{kinded};
 ghost use Rattle.layout.specs.Ensures.{Says};
-ghost use Rattle.book.specs.Records.{rowAt};
+ghost use Rattle.kinds.specs.Fields.{rowAt};
 ghost use Rattle.records.specs.Asks.{Accepted, OfKind, TwoNames};
 ghost use Rattle.records.specs.Tests.{rowOf, isRow};
 ghost use Rattle.records.specs.Ensures.{ValueIs, RowIs};

@@ -1,0 +1,5 @@
+pub mod FieldLaws
+pub mod KindLaws
+pub mod PackagingLaws
+pub mod RecordLaws
+pub mod PartsLaws
