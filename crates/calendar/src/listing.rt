@@ -52,7 +52,13 @@ fn stretches_in(book: &[u8], question: &[u8], ask: Ask, window: Window, dates: &
     let article = ask.article;
     let from = article.at;
     let to = from + article.size;
-    let marks = marks_of(&book[..last], window.first, &question[from..to], ask.sort, dates);
+    let marks = marks_of(
+        &book[..last],
+        window.first,
+        &question[from..to],
+        ask.sort,
+        dates,
+    );
     stretches_of(book, window, question, ask, dates, marks)
 }
 

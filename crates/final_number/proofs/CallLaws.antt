@@ -10,7 +10,7 @@ use lib.Seq.{length-take-le}
 use borrow.Author.Tests.{lt-leb, le-leb}
 use Rattle.rules.specs.Lists.{isSome, ifSome}
 use Rattle.rules.specs.Refusals.{done, refused, lentAfter}
-use Rattle.rules.specs.Book.{Record, Article, articleOf}
+use Rattle.rules.specs.Book.{Record, Article, articleOf, asArticle}
 use Rattle.rules.specs.BookLayout.{records}
 use Rattle.rules.specs.Question.{Question, questionOf}
 use Rattle.rules.specs.FinalNumber.{numberBy, finalNumberOf, finalNumber, shown, lentAfterNumber}
@@ -26,7 +26,7 @@ use Rattle.records.specs.Ensures.{bytesIn, articleIn, ArticleIs}
 use Rattle.records.specs.declared.articles.ArticleParts.{ArticleParts}
 use Rattle.question.specs.declared.Ask.{Ask}
 use Rattle.question.specs.Asked.{AskIs, askIn}
-use Rattle.lookup.specs.Ensures.{FirstNamed, asArticle, articleHeld}
+use Rattle.lookup.specs.Ensures.{FirstNamed, articleHeld}
 use Rattle.lookup.proofs.NamedLaws.{article-found, scheme-found, empty-named}
 use Rattle.final_number.specs.Ensures.{NumberCall, ArticleStands, SchemeOf, SchemeOrNone, numberIn}
 use Rattle.final_number.proofs.ValueLaws.{part-bytes, part-long, inner-bytes}

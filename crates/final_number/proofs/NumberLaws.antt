@@ -10,7 +10,7 @@ use lib.Dec.{eqb}
 use lib.ListN.{length, length-append}
 use borrow.Author.Tests.{eq-eqb, ne-eqb}
 use Rattle.rules.specs.Lists.{joinWith, consSome, gather, isSome, ifSome}
-use Rattle.rules.specs.Book.{Record, Article, Scheme, schemeOf}
+use Rattle.rules.specs.Book.{Record, Article, Scheme, schemeOf, asScheme}
 use Rattle.rules.specs.Question.{Property, Question, property}
 use Rattle.rules.specs.FinalNumber.{shownOf, separatorOf, behind, numberBy, finalNumberOf}
 use Rattle.layout.specs.Ensures.{PutsTo}
@@ -23,7 +23,7 @@ use Rattle.question.specs.Counted.{Stands, valuesAt}
 use Rattle.question.specs.Parts.{propertyAt, propertyStop, propertiesAt, PropertiesStand}
 use Rattle.question.specs.Asked.{PropertyStop, AskIs, askIn}
 use Rattle.question.proofs.CountedLaws.{walk-step, walk-here}
-use Rattle.lookup.specs.Ensures.{asScheme, schemeHeld}
+use Rattle.lookup.specs.Ensures.{schemeHeld}
 use Rattle.final_number.specs.Values.{before, most, led, brought, ledAll, broughtAll}
 use Rattle.final_number.specs.Ensures.{longest, SchemeOrNone, numberIn}
 use Rattle.final_number.proofs.ValueLaws.{part-long, led-short}

@@ -66,11 +66,11 @@ module _ (b s lent : List ℕ) where
 
   -- the definition from refusal 3 on
   abbrev behind : List Record → Question → Result Answer
-  behind book q = orRefuse 3 (articleOf book (q .article)) >>= λ _. pricing book q (length lent)
+  behind book q = answered book q >>= inRoom (length lent)
 
   module _ {w : Entered} (told : EnteredIs b s w) where
     pub kept-out : (w .number ≡ 0 → ⊥) → {r : PriceAnswer} → r ≡ shown (refused (w .number)) → PriceIs b s lent r lent
-    unfolding price answered
+    unfolding price
     kept-out n = refuses (stays-out behind told n)
 
     module _ (z : w .number ≡ 0) where
