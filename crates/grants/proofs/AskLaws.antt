@@ -10,7 +10,7 @@ use Rattle.question.specs.declared.Terms.{Terms}
 use Rattle.question.specs.Parts.{namesAt}
 use Rattle.question.specs.Asked.{askIn, lettersOf, TermsAre, termsOn}
 use Rattle.grants.specs.Table.{tableSize, GrantsAre}
-use Rattle.grants.specs.Asks.{Asks, Tabled}
+use Rattle.grants.specs.Asks.{Asks, Tabled, Asked}
 use Rattle.grants.proofs.FillLaws.{names-count}
 
 module _ (s : List ℕ) (ask : Ask) {terms : Terms} (t : TermsAre ask terms) where
@@ -31,6 +31,10 @@ module _ (s : List ℕ) (ask : Ask) {terms : Terms} (t : TermsAre ask terms) whe
   pub tabled-in : ask .conditions ≤ 32 → {table : List ℕ} → length table ≡ tableSize → Tabled table terms
   tabled-in few long = record { long = long; few = omega (arith, few, ap (λ (x : Terms). x .names) (t .is)) }
 
+  pub asked-in : ask .conditions ≤ 32 → {table : List ℕ} → length table ≡ tableSize → GrantsAre (namesAt s (ask .granted) (ask .conditions)) table
+      → Asked (take (ask .article .at + ask .article .size - ask .article .at) (drop (ask .article .at) s)) table terms
+  asked-in few long g = record { tabled = tabled-in few long; question = askIn s ask; asks = asks-in g }
+
 -- on another day the same question asks by the same terms, but for the date
 pub asks-on : {q : Question} {article table : List ℕ} {terms : Terms} → Asks q article table terms → (d : ℕ) → Asks (on q d) article table (termsOn terms d)
 unfolding on
@@ -43,3 +47,13 @@ asks-on a d = record {
   granted = a .granted;
   count = a .count;
 }
+
+pub asked-on : {article table : List ℕ} {terms : Terms} → Asked article table terms → (d : ℕ) → Asked article table (termsOn terms d)
+asked-on a d = record {
+  tabled = record { long = a .tabled .long; few = a .tabled .few };
+  question = on (a .question) d;
+  asks = asks-on (a .asks) d;
+}
+
+pub asked-tabled : {article table : List ℕ} {terms : Terms} → Asked article table terms → Tabled table terms
+asked-tabled a = a .tabled

@@ -22,3 +22,9 @@ pub record Asks (q : Question) (number table : List ℕ) (terms : Terms) : Type 
 pub record Tabled (table : List ℕ) (terms : Terms) : Type 0 where
   pub long : length table ≡ tableSize
   pub few : terms .names ≤ 32
+
+-- the table is one, and there is a question that asks so
+pub record Asked (number table : List ℕ) (terms : Terms) : Type 0 where
+  pub tabled : Tabled table terms
+  pub question : Question
+  pub asks : Asks question number table terms

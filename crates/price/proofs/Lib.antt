@@ -1,9 +1,4 @@
-pub mod NumberLaws
-pub mod WithinLaws
-pub mod PickLaws
-pub mod UnusedSetLaws
 pub mod CallLaws
 pub mod ReadLaws
 pub mod TextNumberLaws
 pub mod Promises
-pub mod DayPriceLaws

@@ -1,5 +1,2 @@
-pub mod Numbers
-pub mod Picks
-pub mod Unused
 pub mod Call
 pub mod Read

@@ -1,0 +1,57 @@
+// What an article costs within its window of an accepted book, by terms and the table of granted names: no room is asked for, and nothing
+// is written.
+mod numbers;
+mod picks;
+mod unused;
+
+use crate::picks::picks_within;
+use crate::unused::unused;
+use grants::places::Places;
+use lines::Pick;
+use lines::verdict::Verdict;
+use lines::verdict::judge;
+use question::Terms;
+use rules::Outcome;
+use survey::window::Window;
+ghost use Rattle.grants.specs.Asks.{Asked};
+ghost use Rattle.survey.specs.Window.{Windows};
+ghost use Rattle.quote.specs.Quote.{QuoteIs, OutcomeFor};
+
+// The chosen rows, of which the first n count; what is said of them, with the amounts of their lines; and the granted places that brought none.
+pub struct Quote {
+    pub rows: [Pick; 99],
+    pub n: usize,
+    pub verdict: Verdict,
+    pub unused: Places,
+}
+
+// The lines of the article and what they come to, or why there is no price.
+pub fn quote_of(b: &[u8], w: Window, article: &[u8], table: &[u8], terms: Terms) -> Quote
+    requires { ⌜ Asked (now article) (now table) terms ⌝ }
+    requires { ⌜ Windows (now b) 5 (now article) (terms .sort) w ⌝ }
+    ensures { λ r. ⌜ QuoteIs (now (b .entry)) (now (article .entry)) (now (table .entry)) terms r ⌝ }
+{
+    let picks = picks_within(b, w, article, table, terms);
+    let rows = picks.rows;
+    let n = picks.n;
+    let verdict = judge(rows, n);
+    let unused = unused(table, rows, n);
+    Quote {
+        rows,
+        n,
+        verdict,
+        unused,
+    }
+}
+
+// The outcome alone: what a calendar asks, day after day.
+pub fn outcome_of(b: &[u8], w: Window, article: &[u8], table: &[u8], terms: Terms) -> Outcome
+    requires { ⌜ Asked (now article) (now table) terms ⌝ }
+    requires { ⌜ Windows (now b) 5 (now article) (terms .sort) w ⌝ }
+    ensures { λ r. ⌜ OutcomeFor (now (b .entry)) (now (article .entry)) (now (table .entry)) terms r ⌝ }
+{
+    let picks = picks_within(b, w, article, table, terms);
+    let rows = picks.rows;
+    let verdict = judge(rows, picks.n);
+    verdict.outcome
+}
