@@ -1,44 +1,49 @@
 -- The price call, refusal by refusal in their order, and the answer.
-use Prim.Native.Nat.{ℕ, _*_, _≤_, _<_}
-use mathlib.Core.Path.{_≡_, refl, sym, _∙_, ap}
+use Prim.Native.Nat.{ℕ, _+_, _-_, _*_, _≤_, _<_}
+use mathlib.Core.Path.{_≡_, refl, sym, _∙_, ap, subst}
 use mathlib.Core.Bool.{true, false, not, false≢true}
-use mathlib.Core.List.{List, map}
+use mathlib.Core.List.{List}
 use mathlib.Core.Option.{Option, some, none}
 use native.Mathlib.Omega.{arith}
 use lib.Count.{ones}
 use lib.Dec.{leb}
-use lib.IntN.{pos, _*ℤ_}
-use lib.ListN.{length}
+use lib.IntN.{pos, _*ℤ_, natAbs}
+use lib.ListN.{length, take, drop}
 use borrow.Author.Tests.{le-leb, lt-leb}
 use Rattle.rules.specs.Lists.{isSome}
 use Rattle.rules.proofs.ListLaws.{absent}
 use Rattle.rules.proofs.TestLaws.{so, not-so}
-use Rattle.rules.specs.Book.{Record, Article, articleOf, rows, roundings}
+use Rattle.rules.specs.Book.{Record, Article, articleOf, rows}
 use Rattle.rules.specs.Question.{Question, lettersOf}
-use Rattle.rules.specs.Lines.{Line, linesOf, lineSize, linesBytes}
-use Rattle.rules.specs.Refusals.{Result, done, refused, _>>=_, orRefuse, refuseUnless, over, lentAfter}
+use Rattle.rules.specs.Lines.{Line, linesOf, mostTotal, lineSize, linesBytes}
+use Rattle.rules.specs.Refusals.{Result, done, refused, _>>=_, over, lentAfter}
 use Rattle.rules.specs.Price.{Answer, priced, answerOf, written, answered, inRoom, price, shown, unusedOf, setOf}
 use Rattle.rules.specs.declared.PriceAnswer.{PriceAnswer}
 use Rattle.rules.proofs.UnusedLaws.{unused-count}
 use Rattle.layout.specs.Ensures.{Puts}
 use Rattle.layout.proofs.StoreLaws.{puts-front}
 use Rattle.book.specs.Records.{recordsLeft}
-use Rattle.question.specs.Asked.{askIn, AskIs}
+use Rattle.question.specs.declared.Ask.{Ask}
+use Rattle.question.specs.declared.Terms.{Terms}
+use Rattle.question.specs.Parts.{namesAt, NamesStand}
+use Rattle.question.specs.Asked.{askIn, AskIs, TermsAre}
+use Rattle.grants.specs.Table.{tableSize, GrantsAre}
+use Rattle.grants.specs.Idle.{idle}
+use Rattle.grants.specs.Asks.{Asked}
+use Rattle.grants.proofs.AskLaws.{asks-in, asked-in}
+use Rattle.survey.specs.declared.window.Window.{Window}
 use Rattle.survey.specs.declared.entrance.Entered.{Entered}
 use Rattle.survey.specs.Window.{Windows}
 use Rattle.survey.specs.Entrance.{EnteredIs}
 use Rattle.survey.proofs.EntranceLaws.{stays-out, goes-in}
-use Rattle.lines.specs.declared.Pick.{Pick}
-use Rattle.lines.specs.declared.verdict.Verdict.{Verdict}
-use Rattle.lines.specs.Views.{viewsIn, viewsBytes, baseFirst, amountsIn}
-use Rattle.lines.specs.Contracts.{StandFor, Listable, Writable}
-use Rattle.lines.specs.Verdict.{VerdictIs}
+use Rattle.lines.specs.Views.{viewsIn, viewsBytes, amountsIn}
+use Rattle.lines.specs.Contracts.{StandFor, Writable}
 use Rattle.lines.proofs.PricedLaws.{line-count, line-places, bytes-count}
-use Rattle.lines.proofs.ChosenLaws.{chosen-base-first}
-use Rattle.price.specs.Picks.{PickedAre}
-use Rattle.price.specs.Unused.{idle, UnusedIs}
+use Rattle.quote.specs.declared.Quote.{Quote}
+use Rattle.quote.specs.Quote.{Quoted, QuoteIs}
+use Rattle.quote.proofs.PickLaws.{stand}
+use Rattle.quote.proofs.UnusedLaws.{idle-lines}
 use Rattle.price.specs.Call.{answerWith, PriceIs}
-use Rattle.price.proofs.UnusedSetLaws.{idle-lines}
 
 there : {A : Type 0} (o : Option A) → isSome o ≡ true → (a : A) × (o ≡ some a)
 there none e = absurd (false≢true e)
@@ -87,67 +92,91 @@ module _ (b s lent : List ℕ) where
           let x = there (articleOf (recordsLeft b 5) (askIn s (w .ask) .article)) (sym (told .found-is z .there) ∙ so (w .found .article) f) in
           goes-in behind told z ∙ rw (x .1)
 
--- ---- the rows that stand for the question
+-- ---- the quote
 
-module _ {b : List ℕ} {q : Question} {picks : List Pick} {n : ℕ} (picked : PickedAre b q picks n) where
-  pub stand : StandFor (recordsLeft b 5) q picks n
-  stand = record { is = picked .is }
+module _ {s : List ℕ} {ask : Ask} (a : AskIs s ask) where
+  pub quote-names : NamesStand s (ask .granted) (ask .conditions) × (ask .conditions ≤ 32)
+  quote-names = (a .names, a .conditions)
 
-  pub can-judge : Listable picks n
-  can-judge = record { few = picked .few; sound = picked .sound; base-first = ap baseFirst (picked .is) ∙ chosen-base-first (roundings (recordsLeft b 5)) (rows (recordsLeft b 5)) q }
+  pub quote-inside : ask .article .at + ask .article .size ≤ length s
+  quote-inside = a .inside
 
-  pub can-write : {v : Verdict} → VerdictIs picks n v → {lent : List ℕ} → lineSize * n ≤ length lent → Writable lent (v .amounts) n
-  can-write j h = record { few = picked .few; room = h; each-in = j .each-in }
+module _ (s : List ℕ) {ask : Ask} (a : AskIs s ask) {terms : Terms} (t : TermsAre ask terms) where
+  -- the article as it is cut out of the question
+  abbrev cut : List ℕ
+  cut = take (ask .article .at + ask .article .size - ask .article .at) (drop (ask .article .at) s)
+
+  module _ {table : List ℕ} (g : GrantsAre (namesAt s (ask .granted) (ask .conditions)) table) where
+    pub quote-asked : length table ≡ tableSize → Asked cut table terms
+    quote-asked long = asked-in s ask t (a .conditions) long g
+
+    pub quote-window : {b : List ℕ} {w : Window} → Windows b 5 (askIn s ask .article) (ask .sort) w → Windows b 5 cut (terms .sort) w
+    quote-window {b} {w} h =
+        let x = asks-in s ask t g in
+        subst (λ (k : ℕ). Windows b 5 cut k w) (x .sort) (subst (λ (n : List ℕ). Windows b 5 n (ask .sort) w) (x .article) h)
+
+    pub quote-told : {b : List ℕ} {r : Quote} → QuoteIs b cut table terms r → Quoted b (askIn s ask) r
+    quote-told q = q .of (askIn s ask) (asks-in s ask t g)
+
+module _ {b : List ℕ} {q : Question} {r : Quote} (told : Quoted b q r) where
+  few : r .n ≤ 99
+  few = told .picked .few
+
+  stands : StandFor (recordsLeft b 5) q (r .rows) (r .n)
+  stands = stand (told .picked)
+
+  pub can-write : {lent : List ℕ} → lineSize * r .n ≤ length lent → Writable lent (r .verdict .amounts) (r .n)
+  can-write h = record { few = few; room = h; each-in = told .judged .each-in }
+
+  pub unit-in : natAbs (r .verdict .outcome .unit .0) ≤ mostTotal
+  unit-in = told .judged .unit-in
 
   -- how many bytes the lines take
-  size : length (linesBytes (linesOf (recordsLeft b 5) q)) ≡ lineSize * n
-  size = bytes-count (recordsLeft b 5) q picks n stand (omega (arith, picked .few, picked .long))
+  size : length (linesBytes (linesOf (recordsLeft b 5) q)) ≡ lineSize * r .n
+  size = bytes-count (recordsLeft b 5) q (r .rows) (r .n) stands (omega (arith, few, told .picked .long))
 
   -- the granted places that brought no line
-  module _ {set : ℕ} (u : UnusedIs (q .granted) (map (λ v. v .place) (viewsIn picks n)) set) where
-    unused-is : unusedOf q (linesOf (recordsLeft b 5) q) ≡ idle (q .granted) (map (λ v. v .place) (viewsIn picks n))
-    unused-is = idle-lines q (linesOf (recordsLeft b 5) q) ∙ ap (idle (q .granted)) (line-places (recordsLeft b 5) q picks n stand)
-
-    set-is : set ≡ setOf (unusedOf q (linesOf (recordsLeft b 5) q))
-    set-is = u .is ∙ ap setOf (sym unused-is)
+  set-is : r .unused .0 ≡ setOf (unusedOf q (linesOf (recordsLeft b 5) q))
+  set-is =
+      told .idle .is ∙ ap setOf (sym (idle-lines q (linesOf (recordsLeft b 5) q) ∙ ap (idle (q .granted)) (line-places (recordsLeft b 5) q (r .rows) (r .n) stands)))
 
 -- ---- refusals 4 to 7, and the answer
 
 module _ (b s lent : List ℕ) {w : Entered} (told : EnteredIs b s w) (t : w .number ≡ 0) (f : not (w .found .article) ≡ false)
-    {picks : List Pick} {n : ℕ} (picked : PickedAre b (askIn s (w .ask)) picks n) {v : Verdict} (j : VerdictIs picks n v) where
-  pub no-price : (v .outcome .refusal ≡ 0 → ⊥) → {r : PriceAnswer} → r ≡ shown (refused (v .outcome .refusal)) → PriceIs b s lent r lent
+    {k : Quote} (quoted : Quoted b (askIn s (w .ask)) k) where
+  pub no-price : (k .verdict .outcome .refusal ≡ 0 → ⊥) → {r : PriceAnswer} → r ≡ shown (refused (k .verdict .outcome .refusal)) → PriceIs b s lent r lent
   no-price z =
-      let e = j .refuses z (recordsLeft b 5) (askIn s (w .ask)) (stand picked) in
+      let e = quoted .judged .refuses z (recordsLeft b 5) (askIn s (w .ask)) (stands quoted) in
       refuses b s lent (priced-call b s lent told t f ∙ rw (e .is))
 
-  module _ (z : v .outcome .refusal ≡ 0) where
+  module _ (z : k .verdict .outcome .refusal ≡ 0) where
     at-price : price b s (length lent)
-        ≡ inRoom (length lent) (answerOf (askIn s (w .ask)) (record { lines = linesOf (recordsLeft b 5) (askIn s (w .ask)); currency = lettersOf (v .outcome .currency) }))
-    at-price = let e = j .answered z (recordsLeft b 5) (askIn s (w .ask)) (stand picked) in priced-call b s lent told t f ∙ rw (e .is)
+        ≡ inRoom (length lent) (answerOf (askIn s (w .ask)) (record { lines = linesOf (recordsLeft b 5) (askIn s (w .ask)); currency = lettersOf (k .verdict .outcome .currency) }))
+    at-price = let e = quoted .judged .answered z (recordsLeft b 5) (askIn s (w .ask)) (stands quoted) in priced-call b s lent told t f ∙ rw (e .is)
 
-    pub no-room : length lent < lineSize * n → {r : PriceAnswer} → r ≡ shown (refused 7) → PriceIs b s lent r lent
+    pub no-room : length lent < lineSize * k .n → {r : PriceAnswer} → r ≡ shown (refused 7) → PriceIs b s lent r lent
     unfolding answerOf
     no-room h =
         let e : leb (length (linesBytes (linesOf (recordsLeft b 5) (askIn s (w .ask))))) (length lent) ≡ false =
-        rw (size picked) (lt-leb (lineSize * n) (length lent) h) in
+        rw (size quoted) (lt-leb (lineSize * k .n) (length lent) h) in
         refuses b s lent (at-price ∙ rw e)
 
     -- with room, the lines go to the front, and what is read is the definition's
-    pub has-answer : {set : ℕ} → UnusedIs (askIn s (w .ask) .granted) (map (λ v. v .place) (viewsIn picks n)) set → lineSize * n ≤ length lent
-        → {after : List ℕ} → Puts lent 0 (viewsBytes (viewsIn picks n) (amountsIn (v .amounts) n)) after
-        → {r : PriceAnswer} → r ≡ answerWith (w .ask .quantity) n (v .outcome) set → PriceIs b s lent r after
+    pub has-answer : lineSize * k .n ≤ length lent
+        → {after : List ℕ} → Puts lent 0 (viewsBytes (viewsIn (k .rows) (k .n)) (amountsIn (k .verdict .amounts) (k .n))) after
+        → {r : PriceAnswer} → r ≡ answerWith (w .ask .quantity) (k .n) (k .verdict .outcome) (k .unused .0) → PriceIs b s lent r after
     unfolding answerOf shown lentAfter
-    has-answer {set} u h {after} put {r} e =
+    has-answer h {after} put {r} e =
         let book : List Record = recordsLeft b 5 in
         let q : Question = askIn s (w .ask) in
         let ls : List Line = linesOf book q in
-        let x = j .answered z book q (stand picked) in
-        let fits : leb (length (linesBytes ls)) (length lent) ≡ true = rw (size picked) (le-leb (lineSize * n) (length lent) h) in
-        let is-done : price b s (length lent) ≡ done (answerOf q (record { lines = ls; currency = lettersOf (v .outcome .currency) })) = at-price ∙ rw fits in
-        let count : length ls ≡ n = line-count book q picks n (stand picked) (omega (arith, picked .few, picked .long)) in
-        let set′ : set ≡ setOf (unusedOf q ls) = set-is picked u in
-        let ones′ : ones set ≡ length (unusedOf q ls) = ap ones set′ ∙ unused-count q ls in
-        let bytes : viewsBytes (viewsIn picks n) (amountsIn (v .amounts) n) ≡ linesBytes ls = sym (x .bytes) in
+        let x = quoted .judged .answered z book q (stands quoted) in
+        let fits : leb (length (linesBytes ls)) (length lent) ≡ true = rw (size quoted) (le-leb (lineSize * k .n) (length lent) h) in
+        let is-done : price b s (length lent) ≡ done (answerOf q (record { lines = ls; currency = lettersOf (k .verdict .outcome .currency) })) = at-price ∙ rw fits in
+        let count : length ls ≡ k .n = line-count book q (k .rows) (k .n) (stands quoted) (omega (arith, few quoted, quoted .picked .long)) in
+        let set′ : k .unused .0 ≡ setOf (unusedOf q ls) = set-is quoted in
+        let ones′ : ones (k .unused .0) ≡ length (unusedOf q ls) = ap ones set′ ∙ unused-count q ls in
+        let bytes : viewsBytes (viewsIn (k .rows) (k .n)) (amountsIn (k .verdict .amounts) (k .n)) ≡ linesBytes ls = sym (x .bytes) in
         record {
           answer = e ∙ (λ i. record {
             unit = sym (x .unit) i;
@@ -156,7 +185,7 @@ module _ (b s lent : List ℕ) {w : Entered} (told : EnteredIs b s w) (t : w .nu
             unused = set′ i;
             «unused_count» = ones′ i;
             number = 0;
-            currency = lettersOf (v .outcome .currency);
+            currency = lettersOf (k .verdict .outcome .currency);
           }) ∙ ap shown (sym is-done);
           output = puts-front put ∙ ap (λ (new : List ℕ). over new lent) bytes ∙ ap (λ (a : Result Answer). lentAfter written a lent) (sym is-done);
         }

@@ -1,9 +1,7 @@
 // The price call: refusals 1, 2, 3, 4, 5, 6, 7 in that order, and the lines at the front of the lent output.
 use crate::answer::answer;
 use crate::answer::refusal;
-use crate::picks::picks_within;
-use crate::unused::unused;
-use lines::verdict::judge;
+use crate::quoted::quoted;
 use lines::write_lines;
 use rules::LINE_SIZE;
 use rules::PriceAnswer;
@@ -24,19 +22,19 @@ pub fn price(book: &[u8], question: &[u8], out: &mut [u8]) -> PriceAnswer
         return refusal(3);
     }
     let window = found.window;
-    let picks = picks_within(book, window, question, ask);
-    let rows = picks.rows;
-    let n = picks.n;
-    let v = judge(rows, n);
-    let outcome = v.outcome;
+    let quote = quoted(book, window, question, ask);
+    let verdict = quote.verdict;
+    let outcome = verdict.outcome;
     if outcome.refusal != 0 {
         return refusal(outcome.refusal);
     }
+    let n = quote.n;
     if out.len() < LINE_SIZE * n {
         return refusal(7);
     }
-    let idle = unused(question, ask, rows, n);
-    let amounts = v.amounts;
+    let rows = quote.rows;
+    let amounts = verdict.amounts;
+    let idle = quote.unused;
     write_lines(out, rows, amounts, n);
     answer(ask.quantity, n, outcome, idle)
 }
