@@ -9,22 +9,22 @@ use lib.IntN.{ℤ, pos, negsuc}
 use mir.Syntax.{w64}
 use mir.Val.{ofZ, SFits}
 use borrow.Author.Tests.{eq-eqb, ne-eqb, eqb-true, eqb-false}
-use Rattle.rules.specs.Calendar.{Outcome, asOutcome, OutcomeIs, sameInt, sameOutcome, outcome}
+use Rattle.rules.specs.Calendar.{Outcome, asOutcome, sameInt, sameOutcome, outcome}
 use Rattle.rules.specs.Question.{on}
 use Rattle.rules.specs.declared.Outcome as Coded
 use Rattle.rules.proofs.TestLaws.{and-true}
 use Rattle.rules.proofs.CalendarLaws.{eq-of, same-outcome}
 use Rattle.rules.proofs.WalkLaws as Walk
 use Rattle.layout.specs.Ensures.{Says}
-use Rattle.book.specs.Records.{recordsLeft}
-use Rattle.question.specs.declared.Ask.{Ask}
-use Rattle.question.specs.Asked.{askIn}
-use Rattle.choice.specs.Walk.{Asking, askOn}
-use Rattle.choice.proofs.ChosenLaws.{asking-on, ask-on}
+use Rattle.question.specs.declared.Terms.{Terms}
+use Rattle.question.specs.Asked.{termsOn}
+use Rattle.grants.specs.Asks.{Asks, Asked}
+use Rattle.grants.proofs.AskLaws.{asks-on, asked-on}
+use Rattle.quote.specs.Quote.{OutcomeFor}
 use Rattle.survey.specs.declared.window.Window.{Window}
 use Rattle.survey.specs.Window.{Windows}
 use Rattle.stretches.specs.declared.Stretch as Declared
-use Rattle.stretches.specs.Stretches.{AskedOn, Opened, Longer, Steady, Turned}
+use Rattle.stretches.specs.Stretches.{TermsOn, Opened, Longer, Steady, Turned, OpenedFor, SteadyFor, TurnedFor}
 
 -- ---- outcomes compared
 
@@ -55,26 +55,23 @@ outcome-same a b f g = record {
 
 -- ---- a stretch that begins, or grows
 
-pub asked-on : (ask : Ask) (d : ℕ) → AskedOn ask d (askOn ask d)
-asked-on ask d = record { is = refl }
+pub terms-then : (terms : Terms) (d : ℕ) → TermsOn terms d (termsOn terms d)
+terms-then terms d = record { is = refl }
 
-module _ (b q : List ℕ) {ask : Ask} {d : ℕ} {then : Ask} (a : AskedOn ask d then) where
-  asked-is : askIn q then ≡ on (askIn q ask) d
-  asked-is = ap (askIn q) (a .is) ∙ ask-on q ask d
+module _ {terms : Terms} {d : ℕ} {then : Terms} (t : TermsOn terms d then) where
+  pub asked-then : {number table : List ℕ} → Asked number table terms → Asked number table then
+  asked-then {number} {table} a = subst (Asked number table) (sym (t .is)) (asked-on a d)
 
-  pub asking-then : Asking q ask → Asking q then
-  asking-then h = subst (Asking q) (sym (a .is)) (asking-on h d)
+  pub window-then : {b article : List ℕ} {w : Window} → Windows b 5 article (terms .sort) w → Windows b 5 article (then .sort) w
+  window-then {b} {article} {w} h = subst (λ (x : Terms). Windows b 5 article (x .sort) w) (sym (t .is)) h
 
-  pub window-then : {w : Window} → Windows b 5 (askIn q ask .article) (ask .sort) w → Windows b 5 (askIn q then .article) (then .sort) w
-  window-then {w} h = subst (λ (x : Ask). Windows b 5 (askIn q x .article) (x .sort) w) (sym (a .is)) h
-
-  same-day : outcome (recordsLeft b 5) (askIn q then) (then .date .0) ≡ outcome (recordsLeft b 5) (askIn q ask) d
+  -- the question on that day asks by those terms
+  pub opened-for : {b number table : List ℕ} {o : Coded.Outcome} → OutcomeFor b number table then o
+      → OpenedFor b number table terms d (record { first = record { 0 = d }; last = record { 0 = d }; outcome = o })
   unfolding outcome on
-  same-day = λ i. outcome (recordsLeft b 5) (asked-is i) (a .is i .date .0)
-
-  pub opened-is : {o : Coded.Outcome} → OutcomeIs (outcome (recordsLeft b 5) (askIn q then) (then .date .0)) o
-      → Opened (outcome (recordsLeft b 5) (askIn q ask)) d (record { first = record { 0 = d }; last = record { 0 = d }; outcome = o })
-  opened-is h = record { is = ap (Walk.opened d) (h .is ∙ same-day) }
+  opened-for {b} {number} {table} {o} h = record {
+    of = λ q a. record { is = ap (Walk.opened d) (h .of (on q d) (subst (Asks (on q d) number table) (sym (t .is)) (asks-on a d)) .is) };
+  }
 
 -- ---- the turn
 
@@ -85,15 +82,30 @@ module _ {f : ℕ → Outcome} {hand : Declared.Stretch} {d : ℕ} where
       let s : sameOutcome (asOutcome (hand .outcome)) (f d) ≡ true = same-outcome (asOutcome (hand .outcome)) (f d) e in
       record { most = omega arith; fresh = rw s; is = rw s (l .is ∙ (λ i. record { first = hand .first .0; last = d; outcome = e i })) }
 
-  pub turned-quiet : {due : Bool} {r : Declared.Stretch} → Steady f hand d due → due ≡ false → Longer hand d r → Turned f hand d (record { stretch = r; fresh = 0 })
+  turned-quiet : {due : Bool} {r : Declared.Stretch} → Steady f hand d due → due ≡ false → Longer hand d r → Turned f hand d (record { stretch = r; fresh = 0 })
   turned-quiet s e l = grown l (s .stays e)
 
   module _ {new : Declared.Stretch} {b : Bool} (o : Opened f d new) (t : Says (sameOutcome (asOutcome (hand .outcome)) (asOutcome (new .outcome))) b) where
-    pub turned-same : {r : Declared.Stretch} → b ≡ true → Longer hand d r → Turned f hand d (record { stretch = r; fresh = 0 })
+    turned-same : {r : Declared.Stretch} → b ≡ true → Longer hand d r → Turned f hand d (record { stretch = r; fresh = 0 })
     turned-same e l = grown l (eq-of (asOutcome (hand .outcome)) (asOutcome (new .outcome)) (t .is ∙ e) ∙ ap (λ s. s .outcome) (o .is))
 
-    pub turned-new : b ≡ false → Turned f hand d (record { stretch = new; fresh = 1 })
+    turned-new : b ≡ false → Turned f hand d (record { stretch = new; fresh = 1 })
     unfolding Walk.turned
     turned-new e =
         let s : sameOutcome (asOutcome (hand .outcome)) (f d) ≡ false = ap (λ (x : Outcome). sameOutcome (asOutcome (hand .outcome)) x) (sym (ap (λ s. s .outcome) (o .is))) ∙ (t .is ∙ e) in
         record { most = omega arith; fresh = rw s; is = rw s (o .is) }
+
+-- ---- for every question that asks so
+
+module _ {b number table : List ℕ} {terms : Terms} {hand : Declared.Stretch} {d : ℕ} where
+  pub quiet-for : {due : Bool} {r : Declared.Stretch} → SteadyFor b number table terms hand d due → due ≡ false → Longer hand d r
+      → TurnedFor b number table terms hand d (record { stretch = r; fresh = 0 })
+  quiet-for s e l = record { most = omega arith; of = λ q a. turned-quiet (s .of q a) e l }
+
+  module _ {new : Declared.Stretch} {t : Bool} (o : OpenedFor b number table terms d new)
+      (same : Says (sameOutcome (asOutcome (hand .outcome)) (asOutcome (new .outcome))) t) where
+    pub same-for : {r : Declared.Stretch} → t ≡ true → Longer hand d r → TurnedFor b number table terms hand d (record { stretch = r; fresh = 0 })
+    same-for e l = record { most = omega arith; of = λ q a. turned-same (o .of q a) same e l }
+
+    pub new-for : t ≡ false → TurnedFor b number table terms hand d (record { stretch = new; fresh = 1 })
+    new-for e = record { most = omega arith; of = λ q a. turned-new (o .of q a) same e }

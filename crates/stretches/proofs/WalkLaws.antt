@@ -11,9 +11,10 @@ use Rattle.rules.specs.Lists.{consIf}
 use Rattle.rules.specs.Calendar.{Outcome, asOutcome, Stretch, sameOutcome, stretches, mostDays}
 use Rattle.rules.proofs.WalkLaws as Walk
 use Rattle.layout.proofs.StoreLaws.{all-same, behind-store}
+use Rattle.question.specs.declared.Terms.{Terms}
 use Rattle.stretches.specs.declared.Stretch as Declared
 use Rattle.stretches.specs.declared.turns.Turning.{Turning}
-use Rattle.stretches.specs.Stretches.{asStretch, noStretch, Opened, Steady, Turned, Marked, Lists, Going}
+use Rattle.stretches.specs.Stretches.{asStretch, noStretch, Opened, Steady, Turned, Marked, Lists, Going, OpenedFor, SteadyFor, TurnedFor, MarkedFor, ListsFor, GoingFor}
 
 map-snoc : (xs : List Declared.Stretch) (r : Declared.Stretch) → map asStretch (xs ++ (r ∷ [])) ≡ map asStretch xs ++ (asStretch r ∷ [])
 map-snoc [] r = refl
@@ -24,7 +25,7 @@ front-more : (list : List Declared.Stretch) (n : ℕ) → n < length list → ma
 front-more list n h = ap (λ (k : ℕ). map asStretch (take k list)) (add-one n) ∙ ap (map asStretch) (take-suc list n noStretch h) ∙ map-snoc (take n list) (getD list n noStretch)
 
 module _ {f : ℕ → Outcome} {dates : List ℕ} {marks : List Bool} where
-  pub go-start : {r : Declared.Stretch} → Marked f dates marks → Opened f (getD dates 0 0) r → Going f dates marks (set (replicate 1096 noStretch) 0 r) 0 1
+  go-start : {r : Declared.Stretch} → Marked f dates marks → Opened f (getD dates 0 0) r → Going f dates marks (set (replicate 1096 noStretch) 0 r) 0 1
   go-start {r} m o =
       let list : List Declared.Stretch = replicate 1096 noStretch in
       let l : length list ≡ mostDays = length-replicate 1096 noStretch in
@@ -52,7 +53,7 @@ module _ {f : ℕ → Outcome} {dates : List ℕ} {marks : List Bool} where
       abbrev d : ℕ
       d = getD dates i 0
 
-      pub go-steady : Steady f hand d (getD marks i false)
+      go-steady : Steady f hand d (getD marks i false)
       go-steady = record {
         stays = λ e.
             let k : i - 1 + 1 ≡ i = omega (arith, g .low) in
@@ -89,7 +90,7 @@ module _ {f : ℕ → Outcome} {dates : List ℕ} {marks : List Bool} where
             ∙ ap (λ l. l ++ ss) (front-more list n (omega (arith, g .place, g .long, g .marked .few)))
             ∙ append-assoc (map asStretch (take n list)) (asStretch hand ∷ []) ss
 
-        pub go-turn : Going f dates marks list′ (n + t .fresh) (i + 1)
+        go-turn : Going f dates marks list′ (n + t .fresh) (i + 1)
         go-turn = record {
           marked = g .marked;
           low = omega arith;
@@ -111,7 +112,7 @@ module _ {f : ℕ → Outcome} {dates : List ℕ} {marks : List Bool} where
             turned-outcome : Walk.turned (asStretch hand) d (f d) .outcome ≡ f d
             turned-outcome = unfold Walk.turned in refl
 
-    pub go-end : length dates ≤ i → Lists (stretches f dates) (record { list = list; n = n + 1 })
+    go-end : length dates ≤ i → Lists (stretches f dates) (record { list = list; n = n + 1 })
     unfolding Walk.walked
     go-end h = record {
       long = g .long;
@@ -122,3 +123,36 @@ module _ {f : ℕ → Outcome} {dates : List ℕ} {marks : List Bool} where
           ∙ g .goes;
       behind = λ i k. g .behind i (omega arith);
     }
+
+-- ---- for every question that asks so
+
+module _ {b number table : List ℕ} {terms : Terms} {dates : List ℕ} {marks : List Bool} where
+  pub for-start : {r : Declared.Stretch} → MarkedFor b number table terms dates marks → OpenedFor b number table terms (getD dates 0 0) r
+      → GoingFor b number table terms dates marks (set (replicate 1096 noStretch) 0 r) 0 1
+  for-start {r} m o = record {
+    few = m .few;
+    low = omega arith;
+    place = omega arith;
+    most = m .some-day;
+    long = length-set (replicate 1096 noStretch) 0 r ∙ length-replicate 1096 noStretch;
+    of = λ q a. go-start (m .of q a) (o .of q a);
+  }
+
+  module _ {list : List Declared.Stretch} {n i : ℕ} (g : GoingFor b number table terms dates marks list n i) where
+    module _ (h : i < length dates) where
+      pub for-steady : SteadyFor b number table terms (getD list n noStretch) (getD dates i 0) (getD marks i false)
+      for-steady = record { of = λ q a. go-steady (g .of q a) h }
+
+      pub for-turn : {t : Turning} → TurnedFor b number table terms (getD list n noStretch) (getD dates i 0) t
+          → GoingFor b number table terms dates marks (set list (n + t .fresh) (t .stretch)) (n + t .fresh) (i + 1)
+      for-turn {t} w = record {
+        few = g .few;
+        low = omega arith;
+        place = omega (arith, w .most, g .place);
+        most = omega arith;
+        long = length-set list (n + t .fresh) (t .stretch) ∙ g .long;
+        of = λ q a. go-turn (g .of q a) h (w .of q a);
+      }
+
+    pub for-end : length dates ≤ i → ListsFor b number table terms dates (record { list = list; n = n + 1 })
+    for-end h = record { of = λ q a. go-end (g .of q a) h }

@@ -5,11 +5,13 @@ use mathlib.Core.Bool.{Bool, false, cond}
 use mathlib.Core.List.{List, _++_, map}
 use lib.IntN.{pos}
 use lib.ListN.{length, take, drop, getD}
-use Rattle.rules.specs.Calendar.{Outcome, asOutcome, Stretch, sameOutcome, stretches, mostDays}
-use Rattle.rules.specs.Question.{currencyOf}
+use Rattle.rules.specs.Calendar.{Outcome, asOutcome, Stretch, sameOutcome, stretches, outcome, mostDays}
+use Rattle.rules.specs.Question.{Question, currencyOf}
 use Rattle.rules.proofs.WalkLaws as Walk
-use Rattle.question.specs.declared.Ask.{Ask}
-use Rattle.choice.specs.Walk.{askOn}
+use Rattle.book.specs.Records.{recordsLeft}
+use Rattle.question.specs.declared.Terms.{Terms}
+use Rattle.question.specs.Asked.{termsOn}
+use Rattle.grants.specs.Asks.{Asks}
 use Rattle.stretches.specs.declared.Stretch as Declared
 use Rattle.stretches.specs.declared.Stretches.{Stretches}
 use Rattle.stretches.specs.declared.turns.Turning.{Turning}
@@ -37,9 +39,9 @@ noStretch =
 
 -- ---- a day more
 
--- `r` is the same question on the day d
-pub record AskedOn (ask : Ask) (d : ℕ) (r : Ask) : Type 0 where
-  pub is : r ≡ askOn ask d
+-- `r` are the same terms on the day d
+pub record TermsOn (terms : Terms) (d : ℕ) (r : Terms) : Type 0 where
+  pub is : r ≡ termsOn terms d
 
 -- `r` is the stretch of the day d alone
 pub record Opened (f : ℕ → Outcome) (d : ℕ) (r : Declared.Stretch) : Type 0 where
@@ -83,3 +85,32 @@ pub record Going (f : ℕ → Outcome) (dates : List ℕ) (marks : List Bool) (l
   pub behind : (i : ℕ) → n < i → getD list i noStretch ≡ noStretch
   pub hand : asOutcome (getD list n noStretch .outcome) ≡ f (getD dates (i - 1) 0)
   pub goes : map asStretch (take n list) ++ Walk.walked f (asStretch (getD list n noStretch)) (drop i dates) ≡ stretches f dates
+
+-- ---- the same for every question that asks so: f has what it costs, day by day
+
+pub record OpenedFor (b number table : List ℕ) (terms : Terms) (d : ℕ) (r : Declared.Stretch) : Type 0 where
+  pub of : (q : Question) → Asks q number table terms → Opened (outcome (recordsLeft b 5) q) d r
+
+pub record SteadyFor (b number table : List ℕ) (terms : Terms) (hand : Declared.Stretch) (d : ℕ) (due : Bool) : Type 0 where
+  pub of : (q : Question) → Asks q number table terms → Steady (outcome (recordsLeft b 5) q) hand d due
+
+pub record TurnedFor (b number table : List ℕ) (terms : Terms) (hand : Declared.Stretch) (d : ℕ) (r : Turning) : Type 0 where
+  pub most : r .fresh ≤ 1
+  pub of : (q : Question) → Asks q number table terms → Turned (outcome (recordsLeft b 5) q) hand d r
+
+pub record MarkedFor (b number table : List ℕ) (terms : Terms) (dates : List ℕ) (marks : List Bool) : Type 0 where
+  pub some-day : 0 < length dates
+  pub few : length dates ≤ mostDays
+  pub of : (q : Question) → Asks q number table terms → Marked (outcome (recordsLeft b 5) q) dates marks
+
+pub record ListsFor (b number table : List ℕ) (terms : Terms) (dates : List ℕ) (r : Stretches) : Type 0 where
+  pub of : (q : Question) → Asks q number table terms → Lists (stretches (outcome (recordsLeft b 5) q) dates) r
+
+-- the days before i have gone by
+pub record GoingFor (b number table : List ℕ) (terms : Terms) (dates : List ℕ) (marks : List Bool) (list : List Declared.Stretch) (n i : ℕ) : Type 0 where
+  pub few : length dates ≤ mostDays
+  pub low : 1 ≤ i
+  pub place : n < i
+  pub most : i ≤ length dates
+  pub long : length list ≡ mostDays
+  pub of : (q : Question) → Asks q number table terms → Going (outcome (recordsLeft b 5) q) dates marks list n i

@@ -1,17 +1,15 @@
 // The stretch in hand, and what a day makes of it: it grows by that day, or another stretch begins.
 use crate::Stretch;
 use days::Day;
-use price::day::day_price;
-use question::Ask;
+use question::Terms;
+use quote::outcome_of;
 use rules::Outcome;
 use survey::window::Window;
-ghost use Rattle.rules.specs.Calendar.{asOutcome, outcome, sameOutcome};
+ghost use Rattle.rules.specs.Calendar.{asOutcome, sameOutcome};
 ghost use Rattle.layout.specs.Ensures.{Says};
-ghost use Rattle.book.specs.Records.{recordsLeft};
-ghost use Rattle.question.specs.Asked.{askIn};
-ghost use Rattle.choice.specs.Walk.{Asking};
+ghost use Rattle.grants.specs.Asks.{Asked};
 ghost use Rattle.survey.specs.Window.{Windows};
-ghost use Rattle.stretches.specs.Stretches.{AskedOn, Opened, Longer, Steady, Turned};
+ghost use Rattle.stretches.specs.Stretches.{TermsOn, OpenedFor, Longer, SteadyFor, TurnedFor};
 
 // The stretch in hand after a day; `fresh` is 1 if it begins on that day, else 0.
 pub struct Turning {
@@ -28,32 +26,27 @@ fn same_outcome(a: Outcome, b: Outcome) -> bool
         & ((x.0 == y.0) & ((x.1 == y.1) & (x.2 == y.2)) & (a.unit.0 == b.unit.0))
 }
 
-// The same question on another day.
-fn ask_on(ask: Ask, d: Day) -> Ask
-    ensures { λ r. ⌜ AskedOn ask (d .0) r ⌝ }
+// The same terms on another day.
+fn terms_on(terms: Terms, d: Day) -> Terms
+    ensures { λ r. ⌜ TermsOn terms (d .0) r ⌝ }
 {
-    let article = ask.article;
-    let currency = ask.currency;
-    Ask {
-        article,
-        sort: ask.sort,
+    let currency = terms.currency;
+    Terms {
+        sort: terms.sort,
         currency,
         date: d,
-        quantity: ask.quantity,
-        granted: ask.granted,
-        conditions: ask.conditions,
-        properties: ask.properties,
-        count: ask.count,
+        quantity: terms.quantity,
+        names: terms.names,
     }
 }
 
 // A stretch that begins: the day is priced.
-pub fn opened(b: &[u8], w: Window, q: &[u8], ask: Ask, d: Day) -> Stretch
-    requires { ⌜ Asking (now q) ask ⌝ }
-    requires { ⌜ Windows (now b) 5 (askIn (now q) ask .article) (ask .sort) w ⌝ }
-    ensures { λ r. ⌜ Opened (outcome (recordsLeft (now (b .entry)) 5) (askIn (now (q .entry)) ask)) (d .0) r ⌝ }
+pub fn opened(b: &[u8], w: Window, article: &[u8], table: &[u8], terms: Terms, d: Day) -> Stretch
+    requires { ⌜ Asked (now article) (now table) terms ⌝ }
+    requires { ⌜ Windows (now b) 5 (now article) (terms .sort) w ⌝ }
+    ensures { λ r. ⌜ OpenedFor (now (b .entry)) (now (article .entry)) (now (table .entry)) terms (d .0) r ⌝ }
 {
-    let outcome = day_price(b, w, q, ask_on(ask, d));
+    let outcome = outcome_of(b, w, article, table, terms_on(terms, d));
     Stretch {
         first: d,
         last: d,
@@ -74,14 +67,23 @@ fn longer(hand: Stretch, d: Day) -> Stretch
 }
 
 // One day more. Only a day of change is priced; on any other the outcome stays.
-pub fn turn(b: &[u8], w: Window, q: &[u8], ask: Ask, hand: Stretch, d: Day, due: bool) -> Turning
-    requires { ⌜ Asking (now q) ask ⌝ }
-    requires { ⌜ Windows (now b) 5 (askIn (now q) ask .article) (ask .sort) w ⌝ }
-    requires { ⌜ Steady (outcome (recordsLeft (now b) 5) (askIn (now q) ask)) hand (d .0) due ⌝ }
-    ensures { λ r. ⌜ Turned (outcome (recordsLeft (now (b .entry)) 5) (askIn (now (q .entry)) ask)) hand (d .0) r ⌝ }
+pub fn turn(
+    b: &[u8],
+    w: Window,
+    article: &[u8],
+    table: &[u8],
+    terms: Terms,
+    hand: Stretch,
+    d: Day,
+    due: bool,
+) -> Turning
+    requires { ⌜ Asked (now article) (now table) terms ⌝ }
+    requires { ⌜ Windows (now b) 5 (now article) (terms .sort) w ⌝ }
+    requires { ⌜ SteadyFor (now b) (now article) (now table) terms hand (d .0) due ⌝ }
+    ensures { λ r. ⌜ TurnedFor (now (b .entry)) (now (article .entry)) (now (table .entry)) terms hand (d .0) r ⌝ }
 {
     if due {
-        let new = opened(b, w, q, ask, d);
+        let new = opened(b, w, article, table, terms, d);
         if same_outcome(hand.outcome, new.outcome) {
             return Turning {
                 stretch: longer(hand, d),

@@ -4,35 +4,42 @@ use crate::Stretches;
 use crate::turns::opened;
 use crate::turns::turn;
 use days::Day;
-use question::Ask;
+use question::Terms;
 use survey::window::Window;
-ghost use Rattle.rules.specs.Calendar.{outcome, stretches};
-ghost use Rattle.book.specs.Records.{recordsLeft};
-ghost use Rattle.question.specs.Asked.{askIn};
-ghost use Rattle.choice.specs.Walk.{Asking};
+ghost use Rattle.grants.specs.Asks.{Asked};
 ghost use Rattle.survey.specs.Window.{Windows};
-ghost use Rattle.stretches.specs.Stretches.{Marked, Lists};
+ghost use Rattle.stretches.specs.Stretches.{MarkedFor, ListsFor};
 
 // The stretch in hand is the last of the list.
 pub fn stretches_of(
     b: &[u8],
     w: Window,
-    q: &[u8],
-    ask: Ask,
+    article: &[u8],
+    table: &[u8],
+    terms: Terms,
     dates: &[u32],
     marks: [bool; 1097],
 ) -> Stretches
-    requires { ⌜ Asking (now q) ask ⌝ }
-    requires { ⌜ Windows (now b) 5 (askIn (now q) ask .article) (ask .sort) w ⌝ }
-    requires { ⌜ Marked (outcome (recordsLeft (now b) 5) (askIn (now q) ask)) (now dates) marks ⌝ }
-    ensures { λ r. ⌜ Lists (stretches (outcome (recordsLeft (now (b .entry)) 5) (askIn (now (q .entry)) ask)) (now (dates .entry))) r ⌝ }
+    requires { ⌜ Asked (now article) (now table) terms ⌝ }
+    requires { ⌜ Windows (now b) 5 (now article) (terms .sort) w ⌝ }
+    requires { ⌜ MarkedFor (now b) (now article) (now table) terms (now dates) marks ⌝ }
+    ensures { λ r. ⌜ ListsFor (now (b .entry)) (now (article .entry)) (now (table .entry)) terms (now (dates .entry)) r ⌝ }
 {
     let mut list = [NO_STRETCH; 1096];
-    list[0] = opened(b, w, q, ask, Day(dates[0]));
+    list[0] = opened(b, w, article, table, terms, Day(dates[0]));
     let mut n = 0;
     let mut i = 1;
     while i < dates.len() {
-        let t = turn(b, w, q, ask, list[n], Day(dates[i]), marks[i]);
+        let t = turn(
+            b,
+            w,
+            article,
+            table,
+            terms,
+            list[n],
+            Day(dates[i]),
+            marks[i],
+        );
         let hand = t.stretch;
         n = n + t.fresh;
         list[n] = hand;

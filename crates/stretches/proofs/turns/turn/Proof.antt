@@ -1,10 +1,10 @@
 -- `stretches::turns::turn` meets its contract: a day that is not due, one with the same outcome, one with another.
 use borrow.Author.Needs.{needs}
-use Rattle.stretches.proofs.TurnLaws.{turned-quiet, turned-same, turned-new}
+use Rattle.stretches.proofs.TurnLaws.{quiet-for, same-for, new-for}
 use Rattle.stretches.proofs.turns.turn.Statement.{statement}
 use Rattle.stretches.proofs.turns.turn.Tie as tie
 
-ruleset laws = (needs, turned-quiet, turned-same, turned-new)
+ruleset laws = (needs, quiet-for, same-for, new-for)
 
 pub turn-spec : {M : Type 1} → statement M
 turn-spec =
