@@ -1,7 +1,9 @@
 // The stretches that a call asks for, or its refusal: 1, 2, 9 and 3, in this order.
+use grants::grants_of;
 use period::marks::marks_of;
 use period::period_to;
 use question::Ask;
+use question::terms_of;
 use stretches::NO_STRETCH;
 use stretches::Stretches;
 use stretches::walk::stretches_of;
@@ -9,14 +11,10 @@ use survey::Found;
 use survey::entrance::enter;
 use survey::window::Window;
 ghost use Prim.Native.Nat.{_<_};
-ghost use mathlib.Core.Path.{_≡_};
-ghost use mathlib.Core.Bool.{true};
 ghost use lib.ListN.{length};
-ghost use Rattle.rules.specs.Days.{isDay};
 ghost use Rattle.rules.specs.Calendar.{outcome, stretches};
 ghost use Rattle.book.specs.Records.{recordsLeft};
-ghost use Rattle.question.specs.Asked.{askIn};
-ghost use Rattle.choice.specs.Walk.{Asking};
+ghost use Rattle.question.specs.Asked.{askIn, AskIs};
 ghost use Rattle.survey.specs.Window.{Windows};
 ghost use Rattle.survey.specs.Survey.{FoundIs};
 ghost use Rattle.period.specs.Positions.{Dates};
@@ -42,30 +40,26 @@ pub fn refused(number: u8) -> Listing
 
 // The stretches of these dates: the days of change are marked once, and only they are priced.
 fn stretches_in(book: &[u8], question: &[u8], ask: Ask, window: Window, dates: &[u32]) -> Stretches
-    requires { ⌜ Asking (now question) ask ⌝ }
+    requires { ⌜ AskIs (now question) ask ⌝ }
     requires { ⌜ Windows (now book) 5 (askIn (now question) ask .article) (ask .sort) window ⌝ }
     requires { ⌜ Dates (now dates) ⌝ }
     requires { ⌜ 0 < length (now dates) ⌝ }
     ensures { λ r. ⌜ Lists (stretches (outcome (recordsLeft (now (book .entry)) 5) (askIn (now (question .entry)) ask)) (now (dates .entry))) r ⌝ }
 {
+    let table = grants_of(question, ask.granted, ask.conditions);
+    let terms = terms_of(ask);
+    let part = ask.article;
+    let from = part.at;
+    let to = from + part.size;
+    let article = &question[from..to];
     let last = window.last;
-    let article = ask.article;
-    let from = article.at;
-    let to = from + article.size;
-    let marks = marks_of(
-        &book[..last],
-        window.first,
-        &question[from..to],
-        ask.sort,
-        dates,
-    );
-    stretches_of(book, window, question, ask, dates, marks)
+    let marks = marks_of(&book[..last], window.first, article, ask.sort, dates);
+    stretches_of(book, window, article, &table, terms, dates, marks)
 }
 
 // For an accepted book and question.
 fn listing_within(book: &[u8], found: Found, question: &[u8], ask: Ask, end: u32) -> Listing
-    requires { ⌜ Asking (now question) ask ⌝ }
-    requires { ⌜ isDay (ask .date .0) ≡ true ⌝ }
+    requires { ⌜ AskIs (now question) ask ⌝ }
     requires { ⌜ FoundIs (now book) (askIn (now question) ask .article) (ask .sort) found ⌝ }
     ensures { λ r. ⌜ ListingIs (within (recordsLeft (now (book .entry)) 5) (askIn (now (question .entry)) ask) end) r ⌝ }
 {

@@ -1,11 +1,10 @@
 -- `calendar::listing::listing_of` meets its contract: refusals 1 and 2, or what is listed behind them, by the laws `listing-..`.
 use borrow.Author.Needs.{needs}
-use Rattle.choice.proofs.ChosenLaws.{asking}
-use Rattle.calendar.proofs.ListingLaws.{listing-refused, listing-is, ask-there, day-there, found-there}
+use Rattle.calendar.proofs.ListingLaws.{listing-refused, listing-is, ask-there, found-there}
 use Rattle.calendar.proofs.listing.listing_of.Statement.{statement}
 use Rattle.calendar.proofs.listing.listing_of.Tie as tie
 
-ruleset laws = (needs, listing-refused, listing-is, ask-there, day-there, found-there, asking)
+ruleset laws = (needs, listing-refused, listing-is, ask-there, found-there)
 
 pub listing-of-spec : {M : Type 1} → statement M
 listing-of-spec =
