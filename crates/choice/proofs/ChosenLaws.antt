@@ -1,18 +1,15 @@
 -- What the slots hold after the walk is what the definition chooses, slot by slot.
-use Prim.Native.Nat.{ℕ, _+_, _-_, _*_, _/_, _%_, _≤_, _<_}
+use Prim.Native.Nat.{ℕ, _+_, _-_, _*_, _/_, _%_, _<_}
 use mathlib.Core.Path.{_≡_, refl, sym, _∙_, ap, subst}
-use mathlib.Core.Bool.{Bool, true, false, _&&_, cond, false≢true}
+use mathlib.Core.Bool.{Bool, true, false, cond, false≢true}
 use mathlib.Core.List.{List}
 use mathlib.Core.Option.{Option, none, Option·map}
 use native.Mathlib.Omega.{arith}
-use lib.ListN.{length, take, drop, getD}
-use lib.Seq.{length-take-le}
+use lib.ListN.{take, drop, getD}
 use borrow.Author.Tests.{eqb-true}
-use Rattle.rules.specs.Lists.{same, isSome, keep}
-use Rattle.rules.specs.Layout.{whole}
-use Rattle.rules.specs.Book.{Row, Record, PriceRecord, rows}
-use Rattle.rules.specs.BookLayout.{kinded}
-use Rattle.rules.specs.Question.{Question, grants, on}
+use Rattle.rules.specs.Lists.{isSome, keep}
+use Rattle.rules.specs.Book.{Row, PriceRecord, rows}
+use Rattle.rules.specs.Question.{Question}
 use Rattle.rules.specs.Choice.{choose}
 use Rattle.rules.specs.Lines.{Chosen}
 use Rattle.rules.specs.declared.PriceRow.{PriceRow}
@@ -20,16 +17,13 @@ use Rattle.rules.proofs.ChoiceLaws as Choice
 use Rattle.records.specs.Asks.{OfKind}
 use Rattle.records.specs.Ensures.{rowIn, RowIs}
 use Rattle.records.proofs.FieldLaws.{kind-byte}
-use Rattle.question.specs.declared.Ask.{Ask}
-use Rattle.question.specs.Asked.{askIn, AskIs}
-use Rattle.grants.specs.Table.{tableOf, GrantsAre}
 use Rattle.grants.specs.Places as Grants
 use Rattle.grants.proofs.FillLaws as Fill
 use Rattle.choice.specs.declared.hands.Hand.{Hand}
 use Rattle.choice.specs.declared.hands.Seen.{Seen}
-use Rattle.choice.specs.Slots.{levelOf, inSlot, slotChosen}
+use Rattle.choice.specs.Slots.{inSlot, slotChosen}
 use Rattle.choice.specs.Hands.{isEmpty, takenOf, TakenIs, RowThere, Holds, HandIs, NoRow, OneRow, SeenIs}
-use Rattle.choice.specs.Walk.{Asking, askOn, unseen, seenOf, Chooses, SlotsHold}
+use Rattle.choice.specs.Walk.{unseen, seenOf, Chooses, SlotsHold}
 use Rattle.choice.proofs.PassingLaws.{same-row}
 
 -- ---- a slot's hand
@@ -88,23 +82,3 @@ module _ {w : List ℕ} {at end : ℕ} {r : Row} (there : RowThere w at end r) w
   -- and there is one
   pub there-same : {x : Row} → RowThere w at end x → r ≡ x
   there-same also = same-row (sym (there .is) ∙ also .is)
-
--- ---- the question
-
-pub asking : {q : List ℕ} {ask : Ask} → AskIs q ask → Asking q ask
-asking a = record { inside = a .inside; few = a .conditions; names = a .names }
-
-pub asking-on : {q : List ℕ} {ask : Ask} → Asking q ask → (d : ℕ) → Asking q (askOn ask d)
-asking-on a d = record { inside = a .inside; few = a .few; names = a .names }
-
-pub ask-on : (q : List ℕ) (ask : Ask) (d : ℕ) → askIn q (askOn ask d) ≡ on (askIn q ask) d
-unfolding on
-ask-on q ask d = refl
-
--- there is a table of its granted names
-pub asking-grants : {q : List ℕ} {ask : Ask} → Asking q ask → GrantsAre (askIn q ask .granted) (tableOf (grants (askIn q ask .granted)))
-asking-grants {q} {ask} a = record {
-  is = refl;
-  few = subst (λ (n : ℕ). n ≤ 32) (sym (Fill.names-count q (ask .granted) (ask .conditions))) (a .few);
-  sizes = Fill.names-sized q (ask .granted) (ask .conditions) (a .names);
-}

@@ -1,6 +1,6 @@
 pub mod SlotLaws
 pub mod HandLaws
-pub mod PlaceLaws
+pub mod LevelLaws
 pub mod PassingLaws
 pub mod WalkLaws
 pub mod ChosenLaws

@@ -1,7 +1,7 @@
 -- A record that goes by: its slot, whether it holds, and in which currency it is, by its fields.
 use Prim.Native.Nat.{ℕ, _+_, _-_, _*_, _≤_, _<_}
 use mathlib.Core.Path.{_≡_, refl, sym, _∙_, ap}
-use mathlib.Core.Bool.{Bool, true, false, _&&_, _||_, not, cond, and-assoc, false≢true}
+use mathlib.Core.Bool.{Bool, true, false, _&&_, _||_, not, cond, and-assoc}
 use mathlib.Core.List.{List}
 use mathlib.Core.Option.{Option, some, none, Option·some-injective}
 use native.Mathlib.Omega.{arith}
@@ -9,7 +9,7 @@ use native.Mathlib.Decide.{decLt}
 use lib.Dec.{eqb, leb, ltb}
 use lib.ListN.{take, drop}
 use borrow.Author.Tests.{lt-leb, le-leb, lt-ltb, le-ltb, eq-eqb, ne-eqb, eqb-true, eqb-false}
-use Rattle.rules.specs.Lists.{same, isSome, ifSome, between}
+use Rattle.rules.specs.Lists.{same, ifSome, between}
 use Rattle.rules.specs.Layout.{whole}
 use Rattle.rules.specs.Days.{isDay}
 use Rattle.rules.specs.Book.{Row, Record, PriceRecord, asRow}
@@ -18,18 +18,14 @@ use Rattle.rules.specs.Question.{Question, noCurrency, askedOf}
 use Rattle.rules.specs.Choice.{isPercent}
 use Rattle.rules.specs.declared.PriceRow.{PriceRow}
 use Rattle.rules.specs.declared.Currency.{Currency}
-use Rattle.rules.proofs.TestLaws.{and-left, and-true, and-false, so, not-so}
+use Rattle.rules.proofs.TestLaws.{and-true, and-false, so, not-so}
 use Rattle.rules.proofs.KindLaws.{rowKind, same-held}
 use Rattle.rules.proofs.ChoiceLaws.{isAsked, stands}
 use Rattle.layout.specs.Ensures.{Number, Says}
-use Rattle.kinds.specs.Fields.{kindOf}
 use Rattle.records.specs.Tests as Tests
-use Rattle.records.specs.Asks.{Accepted, OfKind}
-use Rattle.records.proofs.FieldLaws.{kind-byte}
 use Rattle.records.specs.Ensures.{rowIn, RowIs}
-use Rattle.question.specs.declared.Ask.{Ask}
 use Rattle.question.specs.declared.Terms.{Terms}
-use Rattle.question.specs.Asked.{askIn, lettersOf}
+use Rattle.question.specs.Asked.{lettersOf}
 use Rattle.grants.specs.Places.{placeOf, PlaceIs}
 use Rattle.grants.specs.Asks.{Asks}
 use Rattle.choice.specs.declared.hands.Passing.{Passing}
@@ -186,31 +182,6 @@ module _ (t : List ℕ) (row : PriceRow) (at end : ℕ) (table : List ℕ) (term
 -- a record is one row
 pub same-row : {x y : Row} → some (PriceRecord x) ≡ some (PriceRecord y) → x ≡ y
 same-row {x} {y} e = same-held rowKind x y (Option·some-injective (PriceRecord x) (PriceRecord y) e)
-
--- the asked article's number, as the code takes it out of the question
-abbrev pub numberIn : List ℕ → Ask → List ℕ
-numberIn q ask = take (ask .article .at + ask .article .size - ask .article .at) (drop (ask .article .at) q)
-
-pub number-is : (q : List ℕ) (ask : Ask) → numberIn q ask ≡ askIn q ask .article
-number-is q ask =
-    let k : ask .article .at + ask .article .size - ask .article .at ≡ ask .article .size = omega arith in
-    rw k
-
-module _ (t q : List ℕ) (ask : Ask) {b : Bool} where
-  pub article-says : Says (Tests.articleOf (numberIn q ask) (whole kinded t)) b → Says (Tests.articleOf (askIn q ask .article) (whole kinded t)) b
-  article-says s = record { is = sym (ap (λ (n : List ℕ). Tests.articleOf n (whole kinded t)) (number-is q ask)) ∙ s .is }
-
-  module _ (s : Says (Tests.rowOf (numberIn q ask) (whole kinded t)) b) where
-    pub says : Tests.rowOf (askIn q ask .article) (whole kinded t) ≡ b
-    says = sym (ap (λ (n : List ℕ). Tests.rowOf n (whole kinded t)) (number-is q ask)) ∙ s .is
-
-    pub row-kind : b ≡ true → Accepted t → OfKind 2 t
-    unfolding Tests.startsWith
-    row-kind e a = go (whole kinded t) refl (s .is ∙ e)
-      where
-        go : (o : Option Record) → whole kinded t ≡ o → Tests.rowOf (numberIn q ask) o ≡ true → OfKind 2 t
-        go none f g = absurd (false≢true g)
-        go (some r) f g = record { kind = kind-byte t r f ∙ eqb-true (kindOf r) 2 (and-left (eqb (kindOf r) 2) _ g); ok = a .ok }
 
 -- no row of the asked article and sort
 foreign : (q : Question) (at end : ℕ) (o : Option Record) → Tests.isRow (q .article) (q .sort) o ≡ false → passingIn q at end o ≡ uncounted

@@ -1,24 +1,23 @@
 -- The rows that the 99 slots choose, slot after slot, are the chosen rows of the definition.
-use Prim.Native.Nat.{ℕ, suc, _+_, _/_, _%_, _≤_}
+use Prim.Native.Nat.{ℕ, _+_, _/_, _%_}
 use mathlib.Core.Path.{_≡_, refl, sym, _∙_, ap}
-use mathlib.Core.Bool.{Bool, true, false, _&&_, not, cond}
+use mathlib.Core.Bool.{Bool, true, false, _&&_, cond}
 use mathlib.Core.List.{List, [], _∷_, _++_, map}
 use mathlib.Core.Option.{Option, some, none, Option·map}
 use native.Mathlib.Omega.{arith}
 use lib.Dec.{eqb}
-use borrow.Author.Tests.{eqb-true, eqb-false, eq-eqb, ne-eqb}
+use borrow.Author.Tests.{eqb-true}
 use Rattle.rules.specs.Lists.{same, keep, consIf, consSome, gather}
-use Rattle.rules.specs.Bytes.{raise}
 use Rattle.rules.specs.Book.{Row, base, surcharge, discount}
-use Rattle.rules.specs.Question.{Question, Grant, placed, firsts, grants}
+use Rattle.rules.specs.Question.{Question, Grant, grants}
 use Rattle.rules.specs.Choice.{component, choose, step₁, step₂, step₃, step₄, step₅, surviving}
 use Rattle.rules.specs.Lines.{Slot, slotsAt, slots, Chosen, rowsAt, chosenAt, chosen}
-use Rattle.rules.proofs.TestLaws.{and-false, and-true}
-use Rattle.rules.proofs.ListLaws.{All, same-refl, keep-keep, gather-append}
+use Rattle.rules.proofs.TestLaws.{and-false}
+use Rattle.rules.proofs.ListLaws.{All, gather-append}
 use Rattle.grants.specs.Table.{GrantsAre}
 use Rattle.grants.specs.Places as Grants
 use Rattle.grants.proofs.GatherLaws as Gathered
-use Rattle.choice.specs.Slots.{placeFrom, levelOf, inSlot, slotChosen, slotsChosen}
+use Rattle.choice.specs.Slots.{levelOf, inSlot, slotChosen, slotsChosen}
 
 -- ---- lists
 
@@ -39,56 +38,6 @@ module _ {A B C : Type 0} where
   gather-map : (f : B → Option C) (g : A → B) (xs : List A) → gather f (map g xs) ≡ gather (λ x. f (g x)) xs
   gather-map f g [] = refl
   gather-map f g (x ∷ xs) = ap (consSome (f (g x))) (gather-map f g xs)
-
--- ---- the granted names that count are those that are found at their own place
-
-same-sym : (xs ys : List ℕ) → same xs ys ≡ same ys xs
-same-sym [] [] = refl
-same-sym [] (y ∷ ys) = refl
-same-sym (x ∷ xs) [] = refl
-same-sym (x ∷ xs) (y ∷ ys) = λ i. eqb-sym x y i && same-sym xs ys i
-  where
-    eqb-sym : (a b : ℕ) → eqb a b ≡ eqb b a
-    eqb-sym a b = go (eqb a b) refl
-      where
-        go : (t : Bool) → eqb a b ≡ t → eqb a b ≡ eqb b a
-        go true e = e ∙ sym (eq-eqb b a (sym (eqb-true a b e)))
-        go false e = e ∙ sym (ne-eqb b a (λ h. eqb-false a b e (sym h)))
-
--- places from n on
-above : (n : ℕ) (names : List (List ℕ)) → All (λ g. n ≤ g .place) (placed n names)
-above n [] = tt
-above n (c ∷ cs) = (omega arith, weaker (placed (suc n) cs) (above (suc n) cs))
-  where
-    weaker : (gs : List Grant) → All (λ g. suc n ≤ g .place) gs → All (λ g. n ≤ g .place) gs
-    weaker [] h = tt
-    weaker (g ∷ gs) h = let l : suc n ≤ g .place = h .0 in (omega arith, weaker gs (h .1))
-
-abbrev pub foundAt : ℕ → List (List ℕ) → Grant → Bool
-foundAt n names g = eqb (placeFrom n names (g .name)) (g .place)
-
-found-behind : (n : ℕ) (c : List ℕ) (cs : List (List ℕ)) (g : Grant) → suc n ≤ g .place
-    → (foundAt (suc n) cs g && not (same (g .name) (map raise c))) ≡ foundAt n (c ∷ cs) g
-unfolding placeFrom
-found-behind n c cs g l = rw (same-sym (g .name) (map raise c)) (go (same (map raise c) (g .name)))
-  where
-    go : (b : Bool) → (foundAt (suc n) cs g && not b) ≡ eqb (cond b n (placeFrom (suc n) cs (g .name))) (g .place)
-    go true = and-false (foundAt (suc n) cs g) ∙ sym (ne-eqb n (g .place) (λ e. omega arith))
-    go false = and-true (foundAt (suc n) cs g)
-
-pub firsts-found : (n : ℕ) (names : List (List ℕ)) → firsts (placed n names) ≡ keep (foundAt n names) (placed n names)
-unfolding placeFrom
-firsts-found n [] = refl
-firsts-found n (c ∷ cs) =
-    ap (λ gs. record { place = n; name = map raise c } ∷ gs)
-    (ap (keep (λ h. not (same (h .name) (map raise c)))) (firsts-found (suc n) cs)
-    ∙ keep-keep (λ h. not (same (h .name) (map raise c))) (foundAt (suc n) cs) (placed (suc n) cs)
-    ∙ keep-same (λ h. foundAt (suc n) cs h && not (same (h .name) (map raise c))) (foundAt n (c ∷ cs)) (placed (suc n) cs) (each (placed (suc n) cs) (above (suc n) cs)))
-    ∙ rw (same-refl (map raise c), eq-eqb n n refl)
-  where
-    each : (gs : List Grant) → All (λ g. suc n ≤ g .place) gs → All (λ g. (foundAt (suc n) cs g && not (same (g .name) (map raise c))) ≡ foundAt n (c ∷ cs) g) gs
-    each [] h = tt
-    each (g ∷ gs) h = (found-behind n c cs g (h .0), each gs (h .1))
 
 -- ---- the rows of a slot are those of a component
 

@@ -9,9 +9,9 @@ use lib.Dec.{eqb}
 use lib.ListN.{length, take, drop, getD, set, replicate, length-set, length-replicate, getD-replicate}
 use lib.Seq.{getD-set-same, getD-set-other}
 use borrow.Author.Tests.{ne-eqb, eqb-true, eqb-false}
-use Rattle.rules.specs.Lists.{same, isSome, ifSome, keep, consIf, consSome, pick, first}
+use Rattle.rules.specs.Lists.{ifSome, keep, consIf, consSome}
 use Rattle.rules.specs.Layout.{whole}
-use Rattle.rules.specs.Book.{Row, Record, ArticleRecord, PriceRecord, RoundingRecord, PackagingRecord, SchemeRecord, asRow, rows, articles, articleOf}
+use Rattle.rules.specs.Book.{Row, Record, PriceRecord, asRow, rows}
 use Rattle.rules.specs.BookLayout.{kinded}
 use Rattle.rules.specs.Question.{Question}
 use Rattle.rules.specs.Choice.{better, reaches}
@@ -22,21 +22,15 @@ use Rattle.rules.proofs.ChoiceLaws as Choice
 use Rattle.book.specs.Records.{recordsLeft}
 use Rattle.book.specs.Ensures.{Between, RecordHere, StopIs}
 use Rattle.book.proofs.WalkLaws.{pass-here, pass-next, pass-record, pass-end}
-use Rattle.records.specs.Asks.{Accepted}
 use Rattle.records.specs.Tests as Tests
-use Rattle.question.specs.declared.Ask.{Ask}
 use Rattle.question.specs.declared.Terms.{Terms}
-use Rattle.question.specs.Parts.{namesAt}
-use Rattle.question.specs.Asked.{askIn, TermsAre}
-use Rattle.grants.specs.Table.{GrantsAre}
-use Rattle.grants.specs.Asks.{Asks, Tabled}
-use Rattle.grants.proofs.AskLaws.{asks-in, tabled-in}
+use Rattle.grants.specs.Asks.{Asks}
 use Rattle.choice.specs.declared.hands.Hand.{Hand}
 use Rattle.choice.specs.declared.hands.Seen.{Seen}
 use Rattle.choice.specs.declared.hands.Passing.{Passing}
 use Rattle.choice.specs.Slots.{inSlot}
 use Rattle.choice.specs.Hands.{limitOf, betterHand, handAfter, seenAfter, SeenAfter, RowThere, Holds, HandIs, NoRow, OneRow, SeenIs}
-use Rattle.choice.specs.Walk.{Asking, slotOf, standing, passingOf, isOwn, passingIn, uncounted, Passes, unseen, seenOf, SlotsHold, SlotsFor}
+use Rattle.choice.specs.Walk.{slotOf, standing, passingOf, isOwn, passingIn, uncounted, Passes, unseen, seenOf, SlotsFor}
 use Rattle.choice.proofs.PassingLaws.{slot-in}
 
 -- ---- a slot sees a row
@@ -226,14 +220,3 @@ module _ (w : List ℕ) (from : ℕ) (article table : List ℕ) (terms : Terms) 
             (sym (ap (λ (rs : List Record). Choice.walk (q .date) (q .quantity) (q .currency) (s .state) (keep (inSlot q level place) (rows rs))) (pass-end (inv .between) h)) ∙ s .rest) (s .is);
       };
     }
-
--- ---- for the question that stands in bytes
-
-module _ (q : List ℕ) {ask : Ask} {terms : Terms} (t : TermsAre ask terms) {table : List ℕ} where
-  pub walk-tabled : Asking q ask → length table ≡ 672 → Tabled table terms
-  walk-tabled a long = tabled-in q ask t (a .few) long
-
-  pub walk-holds : {w : List ℕ} {rs : List Row} {slots : List Seen} → GrantsAre (namesAt q (ask .granted) (ask .conditions)) table
-      → SlotsFor w rs (take (ask .article .at + ask .article .size - ask .article .at) (drop (ask .article .at) q)) table terms slots
-      → SlotsHold w rs (askIn q ask) slots
-  walk-holds g s = s .of (askIn q ask) (asks-in q ask t g)

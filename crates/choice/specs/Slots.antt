@@ -1,28 +1,15 @@
 -- The 99 slots of a price: three levels of 33 places, the unconditioned one and one for each granted name.
-use Prim.Native.Nat.{ℕ, suc, _/_, _%_}
+use Prim.Native.Nat.{ℕ, _/_, _%_}
 use mathlib.Core.Bool.{Bool, _&&_, cond}
-use mathlib.Core.List.{List, [], _∷_, map}
+use mathlib.Core.List.{List}
 use mathlib.Core.Option.{Option, Option·map}
 use lib.Dec.{eqb}
 use Rattle.rules.specs.Lists.{same, keep, gather}
-use Rattle.rules.specs.Bytes.{raise}
 use Rattle.rules.specs.Book.{Row, base, surcharge, discount}
 use Rattle.rules.specs.Question.{Question}
 use Rattle.rules.specs.Choice.{choose}
 use Rattle.rules.specs.Lines.{Chosen}
 use Rattle.grants.specs.Places as Grants
-
--- ---- where a condition stands, by the names as they were sent
-
--- the first of the names that is this one once raised, counted from n
-unfoldable pub placeFrom : ℕ → List (List ℕ) → List ℕ → ℕ
-placeFrom n [] c = Grants.nowhere
-placeFrom n (g ∷ gs) c = cond (same (map raise g) c) n (placeFrom (suc n) gs c)
-
--- a row without a condition is at place 0
-unfoldable pub placeOf : List (List ℕ) → List ℕ → ℕ
-placeOf names [] = 0
-placeOf names (b ∷ c) = placeFrom 1 names (b ∷ c)
 
 -- ---- which slot a row is of
 

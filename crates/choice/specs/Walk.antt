@@ -1,5 +1,5 @@
 -- What a record that goes by is to the questions that ask so, and what the walk over the records leaves in the slots.
-use Prim.Native.Nat.{ℕ, _+_, _*_, _/_, _%_, _≤_, _<_}
+use Prim.Native.Nat.{ℕ, _+_, _*_, _/_, _%_, _<_}
 use mathlib.Core.Path.{_≡_}
 use mathlib.Core.Bool.{Bool, false, _&&_, cond}
 use mathlib.Core.List.{List}
@@ -11,9 +11,7 @@ use Rattle.rules.specs.Book.{Row, Record, asRow}
 use Rattle.rules.specs.Question.{Question}
 use Rattle.rules.specs.Choice.{reaches}
 use Rattle.rules.proofs.ChoiceLaws as Choice
-use Rattle.question.specs.declared.Ask.{Ask}
 use Rattle.question.specs.declared.Terms.{Terms}
-use Rattle.question.specs.Parts.{NamesStand}
 use Rattle.grants.specs.Places.{nowhere, placeOf}
 use Rattle.grants.specs.Asks.{Asks}
 use Rattle.choice.specs.declared.hands.Hand.{Hand}
@@ -21,27 +19,6 @@ use Rattle.choice.specs.declared.hands.Seen.{Seen}
 use Rattle.choice.specs.declared.hands.Passing.{Passing}
 use Rattle.choice.specs.Slots.{noLevel, levelOf, inSlot, slotChosen}
 use Rattle.choice.specs.Hands.{SeenIs}
-
--- ---- the question, as far as its date plays no part
-
-pub record Asking (q : List ℕ) (ask : Ask) : Type 0 where
-  pub inside : ask .article .at + ask .article .size ≤ length q
-  pub few : ask .conditions ≤ 32
-  pub names : NamesStand q (ask .granted) (ask .conditions)
-
--- the same question on another day
-abbrev pub askOn : Ask → ℕ → Ask
-askOn ask d = record {
-  article = ask .article;
-  sort = ask .sort;
-  currency = ask .currency;
-  date = record { 0 = d };
-  quantity = ask .quantity;
-  granted = ask .granted;
-  conditions = ask .conditions;
-  properties = ask .properties;
-  count = ask .count;
-}
 
 -- ---- a record that goes by
 

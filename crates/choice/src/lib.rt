@@ -7,16 +7,12 @@ use crate::hands::Seen;
 use crate::hands::see;
 use crate::passing::passing;
 use book::record_stop;
-use grants::grants_of;
-use question::Ask;
 use question::Terms;
-use question::terms_of;
 ghost use Rattle.rules.specs.Book.{rows};
 ghost use Rattle.book.specs.Records.{recordsLeft};
 ghost use Rattle.book.specs.Ensures.{Between};
-ghost use Rattle.question.specs.Asked.{askIn};
 ghost use Rattle.grants.specs.Asks.{Tabled};
-ghost use Rattle.choice.specs.Walk.{Asking, SlotsHold, SlotsFor};
+ghost use Rattle.choice.specs.Walk.{SlotsFor};
 
 // The records of w from `from` on, each once. w is a book, or the front part of one. Slot 33 * level + place, for 3 levels of 33 places
 // each, and behind them one that nobody reads.
@@ -37,18 +33,4 @@ pub fn slots_for(w: &[u8], from: usize, article: &[u8], table: &[u8], terms: Ter
         at = end;
     }
     slots
-}
-
-// The same for the question that stands in q: its article, its terms, and the table of its granted names.
-pub fn walk(w: &[u8], from: usize, q: &[u8], ask: Ask) -> [Seen; 100]
-    requires { ⌜ Between (now w) from ⌝ }
-    requires { ⌜ Asking (now q) ask ⌝ }
-    ensures { λ r. ⌜ SlotsHold (now (w .entry)) (rows (recordsLeft (now (w .entry)) from)) (askIn (now (q .entry)) ask) r ⌝ }
-{
-    let table = grants_of(q, ask.granted, ask.conditions);
-    let terms = terms_of(ask);
-    let article = ask.article;
-    let start = article.at;
-    let end = start + article.size;
-    slots_for(w, from, &q[start..end], &table, terms)
 }

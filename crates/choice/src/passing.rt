@@ -8,9 +8,7 @@ use crate::slots::level_of;
 use days::Day;
 use grants::NOWHERE;
 use grants::place_of;
-use question::Ask;
 use question::Terms;
-use records::is_article;
 use records::is_row;
 use records::row_of;
 use rules::Currency;
@@ -25,11 +23,10 @@ ghost use Rattle.rules.specs.Question.{askedOf};
 ghost use Rattle.rules.specs.Choice.{isPercent};
 ghost use Rattle.layout.specs.Ensures.{Says, Number};
 ghost use Rattle.records.specs.Asks.{Accepted};
-ghost use Rattle.records.specs.Tests.{articleOf};
 ghost use Rattle.records.specs.Ensures.{rowIn, RowIs};
-ghost use Rattle.question.specs.Asked.{askIn, lettersOf};
+ghost use Rattle.question.specs.Asked.{lettersOf};
 ghost use Rattle.grants.specs.Asks.{Tabled};
-ghost use Rattle.choice.specs.Walk.{Asking, slotAt, inAsked, SlotIs, RowPasses, Passes};
+ghost use Rattle.choice.specs.Walk.{slotAt, inAsked, SlotIs, RowPasses, Passes};
 
 fn slot_at(level: usize, place: usize) -> usize
     ensures { λ r. ⌜ Number (slotAt level place) 100 r ⌝ }
@@ -145,16 +142,4 @@ pub fn passing(
     } else {
         Passing::UNCOUNTED
     }
-}
-
-// Whether t is the record of the asked article.
-pub fn is_asked_article(t: &[u8], q: &[u8], ask: Ask) -> bool
-    requires { ⌜ Accepted (now t) ⌝ }
-    requires { ⌜ Asking (now q) ask ⌝ }
-    ensures { λ r. ⌜ Says (articleOf (askIn (now (q .entry)) ask .article) (whole kinded (now (t .entry)))) r ⌝ }
-{
-    let article = ask.article;
-    let from = article.at;
-    let to = from + article.size;
-    is_article(t, &q[from..to])
 }

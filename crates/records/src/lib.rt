@@ -14,7 +14,6 @@ pub use fields::starts_with;
 pub use packagings::Packing;
 pub use packagings::packaging_of;
 pub use prices::is_row;
-pub use prices::is_row_of;
 pub use prices::row_of;
 pub use roundings::is_rounding;
 pub use roundings::rounding_number;

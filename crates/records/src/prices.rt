@@ -18,7 +18,7 @@ ghost use Rattle.rules.specs.BookLayout.{kinded};
 ghost use Rattle.layout.specs.Ensures.{Says};
 ghost use Rattle.kinds.specs.Fields.{rowAt};
 ghost use Rattle.records.specs.Asks.{Accepted, OfKind, TwoNames};
-ghost use Rattle.records.specs.Tests.{rowOf, isRow};
+ghost use Rattle.records.specs.Tests.{isRow};
 ghost use Rattle.records.specs.Ensures.{ValueIs, RowIs};
 
 // The value behind the names of a price: a flag, and four bytes with a sign.
@@ -73,14 +73,6 @@ pub fn row_of(t: &[u8]) -> PriceRow
     let condition = name_stop(t, 1);
     let terms = name_stop(t, condition);
     row_from(t, condition, terms)
-}
-
-// Whether t is a price record of the article.
-pub fn is_row_of(t: &[u8], number: &[u8]) -> bool
-    requires { ⌜ Accepted (now t) ⌝ }
-    ensures { λ r. ⌜ Says (rowOf (now (number .entry)) (whole kinded (now (t .entry)))) r ⌝ }
-{
-    starts_with(t, 2, number)
 }
 
 // Whether t is a price record of the article and sort. Of its terms the byte of the sort alone is read.

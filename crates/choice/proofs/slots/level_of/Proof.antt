@@ -1,6 +1,6 @@
 -- `choice::slots::level_of` meets its contract: a law for each letter.
 use borrow.Author.Needs.{needs}
-use Rattle.choice.proofs.PlaceLaws.{level-base, level-surcharge, level-discount, level-none}
+use Rattle.choice.proofs.LevelLaws.{level-base, level-surcharge, level-discount, level-none}
 use Rattle.choice.proofs.slots.level_of.Statement.{statement}
 use Rattle.choice.proofs.slots.level_of.Tie as tie
 
