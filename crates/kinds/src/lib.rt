@@ -2,13 +2,12 @@
 mod bodies;
 mod packaging;
 
-pub use bodies::given_or;
-
 use crate::bodies::article_ok;
 use crate::bodies::price_ok;
 use crate::bodies::rounding_ok;
 use crate::bodies::scheme_ok;
 use crate::packaging::packaging_ok;
+pub use bodies::given_or;
 ghost use Rattle.rules.specs.Layout.{whole};
 ghost use Rattle.rules.specs.BookLayout.{kinded};
 ghost use Rattle.layout.specs.Ensures.{Accepts};

@@ -11,10 +11,13 @@ stretches-of-requires : tie.Need-stretches-of-requires
 stretches-of-requires c κs =
     let terms = c .before .before .before .before .before .before in
     let s = terms .before .before .before .before .before in
-    let made = terms .before .grants-of .ensures in
-    (listing-asked (s .pre .0) (terms .terms-of .ensures) made (search needs),
-    (listing-window (s .pre .0) (terms .terms-of .ensures) made (s .pre .1 .0),
-    listing-marked (s .pre .0) (terms .terms-of .ensures) made (s .pre .1 .0) (s .pre .1 .1 .0) (s .pre .1 .1 .1) (c .before .marks-of .ensures)))
+    let made = terms .before .grants-of .ensures in (
+      listing-asked (s .pre .0) (terms .terms-of .ensures) made (search needs),
+      (
+        listing-window (s .pre .0) (terms .terms-of .ensures) made (s .pre .1 .0),
+        listing-marked (s .pre .0) (terms .terms-of .ensures) made (s .pre .1 .0) (s .pre .1 .1 .0) (s .pre .1 .1 .1) (c .before .marks-of .ensures),
+      ),
+    )
 
 returns : tie.Need-returns
 returns c =
