@@ -53,7 +53,11 @@ module _ (r : Rounding) (x : Fraction) (ok : Roundable r x) where
   parts-in = omega (arith, mul-le-mul (ok .high) (ok .sound .step-high))
 
   pub in-steps : InSteps (x .top +ℤ extra) (x .bottom * r .step)
-  in-steps = record { some = omega (arith, mul-le-mul (ok .low) (ok .sound .step-low)); few = parts-in; z-in = raised-in }
+  in-steps = record {
+    some = omega (arith, mul-le-mul (ok .low) (ok .sound .step-low));
+    few = parts-in;
+    z-in = raised-in;
+  }
 
   -- the multiple of the step
   abbrev pub multiple : ℤ

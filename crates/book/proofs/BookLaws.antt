@@ -35,7 +35,13 @@ module _ (b : List ℕ) (at : ℕ) where
   nothing-in = let e : 0 - (at + 2) ≡ 0 = omega arith in rw e
 
   no-record : oneRecord (drop at b) ≡ none → RecordEnd b at 0
-  no-record e = record { is = e ∙ rw nothing-in; ok = rw nothing-in; low = λ h. absurd (omega arith); stop = λ h. absurd (omega arith); fits = omega arith }
+  no-record e = record {
+    is = e ∙ rw nothing-in;
+    ok = rw nothing-in;
+    low = λ h. absurd (omega arith);
+    stop = λ h. absurd (omega arith);
+    fits = omega arith;
+  }
 
   pub record-short : at ≤ length b → length b - at < 2 → RecordEnd b at 0
   record-short g h = no-record (then-broken _ _ (number-cut b at 2 g (omega arith)) refl)
@@ -53,7 +59,13 @@ module _ (b : List ℕ) (at : ℕ) where
 
       pub record-good : r ≡ true → RecordEnd b at (at + 2 + n)
       unfolding recordIn
-      record-good e = record { is = one; ok = p .is ∙ (e ∙ sym (lt-ltb 0 (at + 2 + n) (omega arith))); low = λ i. omega arith; stop = λ i. omega (arith, size .is); fits = omega arith }
+      record-good e = record {
+        is = one;
+        ok = p .is ∙ (e ∙ sym (lt-ltb 0 (at + 2 + n) (omega arith)));
+        low = λ i. omega arith;
+        stop = λ i. omega (arith, size .is);
+        fits = omega arith;
+      }
 
       pub record-bad : r ≡ false → RecordEnd b at 0
       unfolding recordIn

@@ -94,10 +94,26 @@ finish size {room} {o} {l} {r} {k} w e f =
         → r ≡ cond x (cond y (cond z 0 7) 10) (l .number) → Finished size room o l r
     go false y z a b is num =
         let n : l .number ≡ 0 → ⊥ = eqb-false (l .number) 0 a in
-        record { refuses = λ h. is ∙ ap refused (sym num); answers = λ h. absurd (n (sym num ∙ h)); fits = λ h. absurd (n (sym num ∙ h)) }
-    go true false z a b is num = record { refuses = λ h. is ∙ ap refused (sym num); answers = λ h. absurd (omega arith); fits = λ h. absurd (omega arith) }
-    go true true false a b is num = record { refuses = λ h. is ∙ ap refused (sym num); answers = λ h. absurd (omega arith); fits = λ h. absurd (omega arith) }
-    go true true true a b is num = record { refuses = λ h. absurd (h num); answers = λ h. is; fits = λ h. leb-true (size (stretchesIn (l .stretches))) room b }
+        record {
+          refuses = λ h. is ∙ ap refused (sym num);
+          answers = λ h. absurd (n (sym num ∙ h));
+          fits = λ h. absurd (n (sym num ∙ h));
+        }
+    go true false z a b is num = record {
+      refuses = λ h. is ∙ ap refused (sym num);
+      answers = λ h. absurd (omega arith);
+      fits = λ h. absurd (omega arith);
+    }
+    go true true false a b is num = record {
+      refuses = λ h. is ∙ ap refused (sym num);
+      answers = λ h. absurd (omega arith);
+      fits = λ h. absurd (omega arith);
+    }
+    go true true true a b is num = record {
+      refuses = λ h. absurd (h num);
+      answers = λ h. is;
+      fits = λ h. leb-true (size (stretchesIn (l .stretches))) room b;
+    }
 
 -- ---- as bytes
 

@@ -118,7 +118,13 @@ module _ {s : List ℕ} {ask : Ask} (a : AskIs s ask) where
 -- ---- refusals
 
 pub refused-is : {number : ℕ} → 0 < number → Refused number (record { stretches = record { list = replicate 1096 noStretch; n = 0 }; number = number })
-refused-is {number} h = record { long = length-replicate 1096 noStretch; few = omega arith; behind = λ i l. all-same 1096 i noStretch; empty = λ z. refl; is = rw (ne-eqb number 0 (λ e. omega arith)) }
+refused-is {number} h = record {
+  long = length-replicate 1096 noStretch;
+  few = omega arith;
+  behind = λ i l. all-same 1096 i noStretch;
+  empty = λ z. refl;
+  is = rw (ne-eqb number 0 (λ e. omega arith));
+}
 
 -- ---- an accepted book and question
 
@@ -140,7 +146,13 @@ module _ (b s : List ℕ) (ask : Ask) {end : ℕ} {p : Period} (h : PeriodIs (as
 
   pub within-9 : {r : Listing} → p .n ≡ 0 → Refused 9 r → ListingIs listed-within r
   unfolding within
-  within-9 z r = record { long = r .long; few = r .few; behind = r .behind; empty = r .empty; is = rw (h .none-is z) (sym (r .is)) }
+  within-9 z r = record {
+    long = r .long;
+    few = r .few;
+    behind = r .behind;
+    empty = r .empty;
+    is = rw (h .none-is z) (sym (r .is));
+  }
 
   module _ (n : p .n ≡ 0 → ⊥) where
     is-period : periodTo (ask .date .0) end ≡ some days
@@ -148,12 +160,24 @@ module _ (b s : List ℕ) (ask : Ask) {end : ℕ} {p : Period} (h : PeriodIs (as
 
     pub within-3 : {k : Found} → FoundIs b (askIn s ask .article) (ask .sort) k → k .article ≡ false → {r : Listing} → Refused 3 r → ListingIs listed-within r
     unfolding within
-    within-3 k f w = record { long = w .long; few = w .few; behind = w .behind; empty = w .empty; is = rw is-period (article-3 (articleOf (recordsLeft b 5) (askIn s ask .article)) (stretches (outcome (recordsLeft b 5) (askIn s ask)) days) (k .there) f ∙ sym (w .is)) }
+    within-3 k f w = record {
+      long = w .long;
+      few = w .few;
+      behind = w .behind;
+      empty = w .empty;
+      is = rw is-period (article-3 (articleOf (recordsLeft b 5) (askIn s ask .article)) (stretches (outcome (recordsLeft b 5) (askIn s ask)) days) (k .there) f ∙ sym (w .is));
+    }
 
     pub within-done : {k : Found} → FoundIs b (askIn s ask .article) (ask .sort) k → k .article ≡ true → {r : Stretches} → Lists (stretches (outcome (recordsLeft b 5) (askIn s ask)) days) r
         → ListingIs listed-within (record { stretches = r; number = 0 })
     unfolding within
-    within-done k f w = record { long = w .long; few = w .few; behind = w .behind; empty = λ z. absurd (z refl); is = rw is-period (article-there (articleOf (recordsLeft b 5) (askIn s ask .article)) (stretches (outcome (recordsLeft b 5) (askIn s ask)) days) (k .there) f ∙ ap done (sym (w .is))) }
+    within-done k f w = record {
+      long = w .long;
+      few = w .few;
+      behind = w .behind;
+      empty = λ z. absurd (z refl);
+      is = rw is-period (article-there (articleOf (recordsLeft b 5) (askIn s ask .article)) (stretches (outcome (recordsLeft b 5) (askIn s ask)) days) (k .there) f ∙ ap done (sym (w .is)));
+    }
 
 module _ {start end : ℕ} {p : Period} (h : PeriodIs start end p) where
   pub days-size : p .n ≡ length (take (p .n) (p .dates))

@@ -20,7 +20,11 @@ pub record Readable (s : Stretch) : Type 0 where
 
 -- a stretch with other letters
 abbrev pub lettered : Stretch → List ℕ → Stretch
-lettered s c = record { first = s .first; last = s .last; outcome = record { refusal = s .outcome .refusal; currency = c; unit = s .outcome .unit } }
+lettered s c = record {
+  first = s .first;
+  last = s .last;
+  outcome = record { refusal = s .outcome .refusal; currency = c; unit = s .outcome .unit };
+}
 
 module _ (s : Stretch) (rest : List ℕ) (w : Readable s) where
   stretch-back : (c : List ℕ) → length c ≡ 3 → (stretchIn (stretchBytes (lettered s c) ++ rest) ≡ lettered s c) × (drop 20 (stretchBytes (lettered s c) ++ rest) ≡ rest)
@@ -32,7 +36,11 @@ module _ (s : Stretch) (rest : List ℕ) (w : Readable s) where
         record {
           first = number-back 4 (s .first) (w .first) i;
           last = number-back 4 (s .last) (w .last) i;
-          outcome = record { refusal = s .outcome .refusal; currency = x ∷ y ∷ z ∷ []; unit = bytes-back 8 (omega arith) (s .outcome .unit) (fits-near 8 (s .outcome .unit) (omega (arith, w .unit))) i };
+          outcome = record {
+            refusal = s .outcome .refusal;
+            currency = x ∷ y ∷ z ∷ [];
+            unit = bytes-back 8 (omega arith) (s .outcome .unit) (fits-near 8 (s .outcome .unit) (omega (arith, w .unit))) i;
+          };
         },
     refl,
   )

@@ -48,7 +48,13 @@ module _ (new old : Hand) where
 pub seen-is : (s : Seen) (p : Passing) {asked other : Hand} → HandAfter (p .stands && p .asked && p .reaches) (s .asked) (p .hand) asked → HandAfter (p .stands && p .reaches) (s .other) (p .hand) other
     → SeenAfter s p (record { met = s .met || (p .stands && p .asked); asked = asked; other = other })
 unfolding seenAfter
-seen-is s p a o = record { is = λ i. record { met = s .met || (p .stands && p .asked); asked = a .is i; other = o .is i } }
+seen-is s p a o = record {
+  is = λ i. record {
+    met = s .met || (p .stands && p .asked);
+    asked = a .is i;
+    other = o .is i;
+  };
+}
 
 module _ (s : Seen) where
   pub taken-asked : s .met ≡ true → TakenIs s (s .asked)

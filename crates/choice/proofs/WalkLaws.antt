@@ -190,7 +190,11 @@ module _ (w : List ℕ) (from : ℕ) (article table : List ℕ) (terms : Terms) 
     sees = λ q a level place l p.
         let k : level * 33 + place < 100 = omega arith in
         rw (getD-replicate 100 (level * 33 + place) unseen unseen k)
-        (record { state = Choice.start; is = record { met = refl; asked = NoRow refl; other = NoRow refl }; rest = refl });
+        (record {
+          state = Choice.start;
+          is = record { met = refl; asked = NoRow refl; other = NoRow refl };
+          rest = refl;
+        });
   }
 
   module _ {slots : List Seen} {at : ℕ} (inv : Walking w from article table terms slots at) where
@@ -206,7 +210,12 @@ module _ (w : List ℕ) (from : ℕ) (article table : List ℕ) (terms : Terms) 
           between = pass-next (inv .between) h stop;
           long = length-set slots (p .slot) new ∙ inv .long;
           sees = λ q a level place l m.
-              sees-turn (pass .of q a) (λ r e. record { low = omega arith; order = omega (arith, stop .low); fits = stop .fits; is = e }) slots (inv .long) after (recordsLeft w end) l m
+              sees-turn (pass .of q a) (λ r e. record {
+                low = omega arith;
+                order = omega (arith, stop .low);
+                fits = stop .fits;
+                is = e;
+              }) slots (inv .long) after (recordsLeft w end) l m
               (subst (λ (rs : List Record). Sees w q level place (getD slots (level * 33 + place) unseen) (rows rs) (rows (recordsLeft w from))) step (inv .sees q a level place l m));
         }
 

@@ -70,7 +70,13 @@ module _ (old : List ℕ) (base : ℕ) (q : List ℕ) (t : List ℕ) (scheme : S
   s = schemeIn t scheme
 
   pub put-start : PropertiesStand q from count → base + most * count ≤ length old → Putting old base q (schemeIn t scheme) from count old base from count
-  put-start p h = record { low = omega arith; room = h; long = refl; standing = p; rest = λ w. rw (eq-eqb base base refl) at w }
+  put-start p h = record {
+    low = omega arith;
+    room = h;
+    long = refl;
+    standing = p;
+    rest = λ w. rw (eq-eqb base base refl) at w;
+  }
 
   module _ {out : List ℕ} {at p left : ℕ} (inv : Putting old base q (schemeIn t scheme) from count out at p left) where
     pub put-here : 0 < left → Stands property propertyAt propertyStop q p

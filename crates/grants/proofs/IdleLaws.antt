@@ -124,7 +124,11 @@ pub record Idling (t : List ℕ) (flags : List Bool) (set passed : ℕ) : Type 0
 
 module _ {t : List ℕ} {flags : List Bool} where
   pub idle-start : Idling t flags 0 0
-  idle-start = record { few = omega arith; below = omega arith; left = λ names g places b. (grants names, left-start names places (g .few)) }
+  idle-start = record {
+    few = omega arith;
+    below = omega arith;
+    left = λ names g places b. (grants names, left-start names places (g .few));
+  }
 
   module _ {set k : ℕ} (inv : Idling t flags set k) where
     pub idle-end : 32 ≤ k → IdleIs t flags set

@@ -52,7 +52,11 @@ few-members zero set = omega arith
 few-members (suc n) set = omega (arith, one-more n set, few-members n set)
 
 pub counts : (set : ℕ) → set < 2 ^ 32 → Counts set (ones set)
-counts set h = record { is = refl; places = ones-members 32 set h; few = omega (arith, ones-members 32 set h, few-members 32 set) }
+counts set h = record {
+  is = refl;
+  places = ones-members 32 set h;
+  few = omega (arith, ones-members 32 set h, few-members 32 set);
+}
 
 -- ---- one place more
 

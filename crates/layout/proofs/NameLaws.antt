@@ -62,7 +62,11 @@ module _ (lo hi : ℕ) (s : List ℕ) (at : ℕ) where
         pub name-good : (leb lo n && leb n hi && r) ≡ true → NameEnd lo hi s at (at + 1 + n)
         name-good t =
             let e : at + 1 + n - (at + 1) ≡ n = omega arith in
-            record { reads = rw (e, lt-ltb 0 (at + 1 + n) (omega arith), ← t, ← test) (name-of (omega arith)); low = λ h. omega arith; fits = omega arith }
+            record {
+              reads = rw (e, lt-ltb 0 (at + 1 + n) (omega arith), ← t, ← test) (name-of (omega arith));
+              low = λ h. omega arith;
+              fits = omega arith;
+            }
 
         pub name-bad : (leb lo n && leb n hi && r) ≡ false → NameEnd lo hi s at 0
         name-bad t = none-at (name-of (omega arith) .is ∙ rw (test ∙ t))

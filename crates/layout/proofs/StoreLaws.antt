@@ -40,7 +40,11 @@ sets-sets [] ws l i = ap (λ (k : ℕ). sets l k ws) (add-zero i)
 sets-sets (v ∷ vs) ws l i = ap (λ (k : ℕ). sets (sets (set l i v) (suc i) vs) k ws) (add-suc i (length vs) ∙ sym (suc-add i (length vs))) ∙ sets-sets vs ws (set l i v) (suc i)
 
 pub puts-of : {old : List ℕ} {at : ℕ} {bs new : List ℕ} → at + length bs ≤ length old → new ≡ sets old at bs → Puts old at bs new
-puts-of {old} {at} {bs} h e = record { is = e ∙ (sets-eq bs old at h ∙ append-assoc (take at old) bs (drop (at + length bs) old)); room = h; long = ap length e ∙ length-sets old at bs }
+puts-of {old} {at} {bs} h e = record {
+  is = e ∙ (sets-eq bs old at h ∙ append-assoc (take at old) bs (drop (at + length bs) old));
+  room = h;
+  long = ap length e ∙ length-sets old at bs;
+}
 
 pub sets-of : {old : List ℕ} {at : ℕ} {bs new : List ℕ} → Puts old at bs new → new ≡ sets old at bs
 sets-of {old} {at} {bs} p = p .is ∙ sym (sets-eq bs old at (p .room) ∙ append-assoc (take at old) bs (drop (at + length bs) old))

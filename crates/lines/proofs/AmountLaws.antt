@@ -172,7 +172,11 @@ module _ (picks : List Pick) (n : ℕ) where
       next = next-view picks n i h (inv .long)
 
       pub list-line : LineOn here base total
-      list-line = record { sound = subst (All Sound) next (inv .sound) .0; base-in = inv .base-in; total-in = inv .total-in }
+      list-line = record {
+        sound = subst (All Sound) next (inv .sound) .0;
+        base-in = inv .base-in;
+        total-in = inv .total-in;
+      }
 
       module _ (r : Cents) (a : LineAmount here base total r) where
         amounts-are : amountsFrom base total (drop i (viewsIn picks n)) ≡ r .0 ∷ amountsFrom (cond (isBase here) (base +ℤ r .0) base) (total +ℤ r .0) behind

@@ -68,7 +68,11 @@ module _ (rs : List Row) (q : Question) where
       (λ s e. subst (λ (k : ℕ). Holds (λ c. c .row .level ≡ k) (chosenAt rs q s)) e (chosen-holds (λ r. r .level ≡ s .level) s (level-at rs q s)))
       (slotsAt gs level) (refl, of-level gs)
     where
-      of-level : (gs : List Grant) → All (λ (s : Slot). s .level ≡ level) (map (λ g. record { level = level; place = g .place; condition = g .name }) gs)
+      of-level : (gs : List Grant) → All (λ (s : Slot). s .level ≡ level) (map (λ g. record {
+        level = level;
+        place = g .place;
+        condition = g .name;
+      }) gs)
       of-level [] = tt
       of-level (g ∷ gs) = (refl, of-level gs)
 
@@ -79,7 +83,12 @@ unfolding roundingFor
 rounding-sound rs hs n = go (first (λ r. eqb (r .number) n) rs) (first-holds SoundRounding (λ r. eqb (r .number) n) rs hs)
   where
     go : (o : Option Rounding) → Holds SoundRounding o → SoundRounding (ifSome o plain (λ r. r))
-    go none h = record { step-low = omega arith; step-high = omega arith; before-in = omega arith; after-in = omega arith }
+    go none h = record {
+      step-low = omega arith;
+      step-high = omega arith;
+      before-in = omega arith;
+      after-in = omega arith;
+    }
     go (some r) h = h
 
 -- Of rows and roundings in bounds, the chosen rows are sound.

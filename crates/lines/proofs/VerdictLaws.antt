@@ -81,7 +81,14 @@ module _ {picks : List Pick} {n base : ℕ} (b : FirstBase picks n base) where
       out-of-range o e = refused-by (λ y. omega arith) (judged-by picks n base b h one c (so one t) OutOfRange (sym o ∙ is .total)) (λ book q s. price-6 book q picks n s base b h one c (so one t) l is o) e
 
       pub has-price : {unit : Cents} → l .total ≡ InRange unit
-          → VerdictIs picks n (record { outcome = record { unit = unit; refusal = 0; currency = getD picks base noPick .currency }; amounts = l .amounts })
+          → VerdictIs picks n (record {
+            outcome = record {
+              unit = unit;
+              refusal = 0;
+              currency = getD picks base noPick .currency;
+            };
+            amounts = l .amounts;
+          })
       has-price {unit} u =
           record {
             each-in = is .each-in;

@@ -82,7 +82,11 @@ module _ (picks : List Pick) (n : ℕ) where
       seek-found e = record { is = here ∙ rw (eq-eqb (getD picks i noPick .level) 66 e, lt-ltb i n h); within = omega arith }
 
       pub seek-again : (getD picks i noPick .level ≡ 66 → ⊥) → Seeking picks n (i + 1)
-      seek-again e = record { place = omega arith; long = inv .long; rest = sym (here ∙ rw (ne-eqb (getD picks i noPick .level) 66 e)) }
+      seek-again e = record {
+        place = omega arith;
+        long = inv .long;
+        rest = sym (here ∙ rw (ne-eqb (getD picks i noPick .level) 66 e));
+      }
 
 -- ---- one currency
 

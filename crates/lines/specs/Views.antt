@@ -67,7 +67,13 @@ noPick =
       text = 0;
       value = Fixed (record { 0 = pos 0 });
       currency = record { 0 = 0; 1 = 0; 2 = 0 };
-      rounding = record { number = 0; way = Down; step = 0; before = record { 0 = pos 0 }; after = record { 0 = pos 0 } };
+      rounding = record {
+        number = 0;
+        way = Down;
+        step = 0;
+        before = record { 0 = pos 0 };
+        after = record { 0 = pos 0 };
+      };
     }
 
 -- ---- base and currency

@@ -184,7 +184,11 @@ module _ {b : List ℕ} {from : ℕ} (o : Open) where
   pub next-none : Between b from → not (o .any) ≡ true → NextOpen b from o (length b)
   next-none w t = record {
     onward = w .fits;
-    between = record { low = omega (arith, w .low, w .fits); fits = omega arith; ok = ap isSome (from-end b (length b) (omega arith)) };
+    between = record {
+      low = omega (arith, w .low, w .fits);
+      fits = omega arith;
+      ok = ap isSome (from-end b (length b) (omega arith));
+    };
     here = λ l. absurd (omega arith);
     rest = λ k a. absurd (false≢true (sym (not-true (o .any) t) ∙ a .any));
   }
@@ -194,7 +198,12 @@ module _ {b : List ℕ} {from : ℕ} (o : Open) where
 
   module _ {at : ℕ} (inv : Passing b from (o .low) at) where
     pub next-end : length b ≤ at → NextOpen b from o at
-    next-end h = record { onward = inv .onward; between = inv .between; here = λ l. absurd (omega arith); rest = λ k a. inv .rest k (a .some) (a .low) }
+    next-end h = record {
+      onward = inv .onward;
+      between = inv .between;
+      here = λ l. absurd (omega arith);
+      rest = λ k a. inv .rest k (a .some) (a .low);
+    }
 
     module _ (h : at < length b) where
       pub next-here : RecordHere b at
@@ -217,7 +226,11 @@ module _ {b : List ℕ} {from : ℕ} (o : Open) where
           }
 
           pub next-again : (not (eqb x 0) && getD (o .low) (x % 256) false) ≡ false → Passing b from (o .low) e
-          next-again t = record { onward = omega (arith, inv .onward, s .low); between = pass-next (inv .between) h s; rest = λ k n l. left-passed (inv .between) h s k (λ d. other k n l (is .is ∙ d)) ∙ inv .rest k n l }
+          next-again t = record {
+            onward = omega (arith, inv .onward, s .low);
+            between = pass-next (inv .between) h s;
+            rest = λ k n l. left-passed (inv .between) h s k (λ d. other k n l (is .is ∙ d)) ∙ inv .rest k n l;
+          }
             where
               other : (k : ℕ) → (k ≡ 0 → ⊥) → getD (o .low) (k % 256) false ≡ true → x ≡ k → ⊥
               other k n l d =
@@ -365,7 +378,12 @@ module _ {b : List ℕ} {from : ℕ} {numbers : List ℕ} {n : ℕ} where
 -- ---- the rounding at a place
 
 plain-sound : SoundRounding plain
-plain-sound = record { step-low = omega arith; step-high = omega arith; before-in = omega arith; after-in = omega arith }
+plain-sound = record {
+  step-low = omega arith;
+  step-high = omega arith;
+  before-in = omega arith;
+  after-in = omega arith;
+}
 
 module _ {b : List ℕ} {place : ℕ} where
   pub plain-at : place ≡ 0 → {r : Rounding} → r ≡ plain → RoundingAt b place r

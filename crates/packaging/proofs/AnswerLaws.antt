@@ -30,7 +30,13 @@ use Rattle.packaging.specs.Sums.{lettersIn, SumsAre, SumsFrom, mostSum, 
 use Rattle.packaging.proofs.ValueLaws.{kept, kept-is}
 use Rattle.packaging.proofs.SumLaws.{empty-there, full-there}
 
-pub refusal-is : (n : ℕ) → _≡_ {A = PackagingAnswer} (record { gross = pos 0; values = replicate 8 (pos 0); number = n; present = 0; units = replicate 9 0 }) (shown (refused n))
+pub refusal-is : (n : ℕ) → _≡_ {A = PackagingAnswer} (record {
+  gross = pos 0;
+  values = replicate 8 (pos 0);
+  number = n;
+  present = 0;
+  units = replicate 9 0;
+}) (shown (refused n))
 refusal-is n = sym (refused-packaging n)
 
 module _ (s : Sums) where
@@ -103,11 +109,23 @@ module _ {us : List Pack} {s : Sums} (are : SumsAre us s) where
       has-is = set-has (presentIn us)
 
   given : {g : ℤ} → GrossIs s g → (s .agree && noneBelow (s .values)) ≡ true
-      → _≡_ {A = PackagingAnswer} (record { gross = g; values = s .values; number = 0; present = s .present; units = join (lettersIn (s .units)) }) (shown (summed us))
+      → _≡_ {A = PackagingAnswer} (record {
+        gross = g;
+        values = s .values;
+        number = 0;
+        present = s .present;
+        units = join (lettersIn (s .units));
+      }) (shown (summed us))
   unfolding summed shown packedOf
   given {g} h e =
       let t : (all (unitsAgree us) three && all (λ i. nonNeg (valueIn us i)) eight) ≡ true = sym (λ i. are .agree i && below-is i) ∙ e in
-      (λ i. record { gross = gross-is h i; values = are .values i; number = 0; present = are .present i; units = join (are .units i) })
+      (λ i. record {
+        gross = gross-is h i;
+        values = are .values i;
+        number = 0;
+        present = are .present i;
+        units = join (are .units i);
+      })
       ∙ sym (ap (λ (b : Bool). shown (refuseUnless 11 b >>= λ _. done (packedOf us))) t)
 
   refused-11 : (s .agree && noneBelow (s .values)) ≡ false → refused 11 ≡ summed us
@@ -116,7 +134,13 @@ module _ {us : List Pack} {s : Sums} (are : SumsAre us s) where
 
 module _ (s : Sums) {b : Bool} (t : Says (noneBelow (s .values)) b) where
   pub answer-given : {g : ℤ} → GrossIs s g → (s .agree && b) ≡ true
-      → Answers s (record { gross = g; values = s .values; number = 0; present = s .present; units = join (lettersIn (s .units)) })
+      → Answers s (record {
+        gross = g;
+        values = s .values;
+        number = 0;
+        present = s .present;
+        units = join (lettersIn (s .units));
+      })
   answer-given h e = record { is = λ us are. given are h (ap (λ (x : Bool). s .agree && x) (t .is) ∙ e) }
 
   pub answer-refused : {r : PackagingAnswer} → (s .agree && b) ≡ false → r ≡ shown (refused 11) → Answers s r

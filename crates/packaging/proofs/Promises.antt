@@ -48,7 +48,13 @@ abbrev pub Refusal : ℕ → Type 0
 Refusal n = (n ≡ 1) ⊎ ((n ≡ 2) ⊎ ((n ≡ 3) ⊎ ((n ≡ 8) ⊎ (n ≡ 11))))
 
 abbrev pub Zeros : PackagingAnswer → Type 0
-Zeros a = (a .number ≡ 0 → ⊥) → Refusal (a .number) × (a ≡ record { gross = pos 0; values = replicate 8 (pos 0); number = a .number; present = 0; units = replicate 9 0 })
+Zeros a = (a .number ≡ 0 → ⊥) → Refusal (a .number) × (a ≡ record {
+  gross = pos 0;
+  values = replicate 8 (pos 0);
+  number = a .number;
+  present = 0;
+  units = replicate 9 0;
+})
 
 -- ---- of what some records come to
 

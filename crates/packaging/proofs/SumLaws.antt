@@ -169,7 +169,13 @@ pub record Adding (b : List ℕ) (own any : List Spot) (s : Sums) (i : ℕ) : Ty
 
 module _ (b : List ℕ) (own any : List Spot) where
   pub add-start : Adding b own any nothing 0
-  add-start = record { most = omega arith; before = []; sums = record { present = refl; values = refl; units = refl; agree = refl }; rest = refl; near = zero-near }
+  add-start = record {
+    most = omega arith;
+    before = [];
+    sums = record { present = refl; values = refl; units = refl; agree = refl };
+    rest = refl;
+    near = zero-near;
+  }
     where
       zero-near : (k : ℕ) → natAbs (getD (replicate 8 (pos 0)) k (pos 0)) ≤ 0 * 10_000_000
       zero-near k = go (decLt k 8)

@@ -41,7 +41,11 @@ module _ (held new : List ℤ) (a : AddableValues held new) where
 
   module _ {sums : List ℤ} {i : ℕ} (inv : Summing held new sums i) where
     pub sum-again : i < 8 → Summing held new (set sums i (kept (kept (getD held i (pos 0)) +ℤ kept (getD new i (pos 0))))) (i + 1)
-    sum-again l = record { most = omega arith; long = length-set sums i z ∙ inv .long; each = λ k h. go k h (ℕ-discrete k i) }
+    sum-again l = record {
+      most = omega arith;
+      long = length-set sums i z ∙ inv .long;
+      each = λ k h. go k h (ℕ-discrete k i);
+    }
       where
         z : ℤ
         z = kept (kept (getD held i (pos 0)) +ℤ kept (getD new i (pos 0)))

@@ -119,7 +119,12 @@ pub record Walking (b article table : List ℕ) (n : ℕ) (own any : List Spot) 
 
 module _ (b article table : List ℕ) (n : ℕ) where
   pub walk-start : Between b 5 → Walking b article table n (replicate 34 noSpot) (replicate 34 noSpot) false 5
-  walk-start w = record { between = w; of-own = λ names g c. keep-start; of-any = λ names g c. keep-start; found = refl }
+  walk-start w = record {
+    between = w;
+    of-own = λ names g c. keep-start;
+    of-any = λ names g c. keep-start;
+    found = refl;
+  }
 
   module _ {own any : List Spot} {known : Bool} {at : ℕ} (inv : Walking b article table n own any known at) where
     pub walk-here : at < length b → RecordHere b at

@@ -75,7 +75,11 @@ abbrev pub nothing : Sums
 nothing = record {
   present = 0;
   values = replicate 8 (pos 0);
-  units = record { length = record { 0 = 0; 1 = 0; 2 = 0 }; volume = record { 0 = 0; 1 = 0; 2 = 0 }; weight = record { 0 = 0; 1 = 0; 2 = 0 } };
+  units = record {
+    length = record { 0 = 0; 1 = 0; 2 = 0 };
+    volume = record { 0 = 0; 1 = 0; 2 = 0 };
+    weight = record { 0 = 0; 1 = 0; 2 = 0 };
+  };
   agree = true;
 }
 

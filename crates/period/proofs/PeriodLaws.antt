@@ -38,7 +38,13 @@ behind-also xs d (some ys) = ap some (sym (append-assoc xs (d ∷ []) ys))
 
 module _ {start end : ℕ} where
   refused : periodTo start end ≡ none → PeriodIs start end (record { dates = replicate 1096 0; n = 0 })
-  refused e = record { long = length-replicate {A = ℕ} 1096 0; few = omega arith; none-is = λ z. e; some-is = λ l. absurd (omega arith); behind = λ i l. all-same 1096 i 0 }
+  refused e = record {
+    long = length-replicate {A = ℕ} 1096 0;
+    few = omega arith;
+    none-is = λ z. e;
+    some-is = λ l. absurd (omega arith);
+    behind = λ i l. all-same 1096 i 0;
+  }
 
   pub no-end : {r : _} → r ≡ isDay end → r ≡ false → PeriodIs start end (record { dates = replicate 1096 0; n = 0 })
   no-end e f = refused (unfold periodTo in rw (sym e ∙ f))
@@ -50,7 +56,16 @@ module _ {start end : ℕ} where
 
 pub count-start : {start end : ℕ} {r : _} → isDay start ≡ true → r ≡ isDay end → r ≡ true → start ≤ end → Counting start end (replicate 1096 0) start 0
 count-start {start} {end} e f g l =
-    record { end-day = sym f ∙ g; order = l; is-day = e; low = l; most = omega arith; long = length-replicate {A = ℕ} 1096 0; empty = λ i z. all-same 1096 i 0; is = behind-none (daysTo mostDays start end) }
+    record {
+      end-day = sym f ∙ g;
+      order = l;
+      is-day = e;
+      low = l;
+      most = omega arith;
+      long = length-replicate {A = ℕ} 1096 0;
+      empty = λ i z. all-same 1096 i 0;
+      is = behind-none (daysTo mostDays start end);
+    }
 
 module _ {start end : ℕ} {dates : List ℕ} {d n : ℕ} (w : Counting start end dates d n) where
   period-is : periodTo start end ≡ daysTo mostDays start end

@@ -28,7 +28,14 @@ record At (from to : ℕ) (ds : List ℕ) : Type 0 where
 
 at-all : {from to : ℕ} {ds : List ℕ} → isDay from ≡ true → isDay to ≡ true → Days from to ds → At from to ds
 at-all e g (end {d = d}) =
-    record { first = refl; head = λ i l. one i l; follow = λ i l. absurd (omega arith); days = λ i l. subst (λ (x : ℕ). isDay x ≡ true) (sym (is i l)) e; order = λ i j l h. absurd (omega arith); reach = omega arith }
+    record {
+      first = refl;
+      head = λ i l. one i l;
+      follow = λ i l. absurd (omega arith);
+      days = λ i l. subst (λ (x : ℕ). isDay x ≡ true) (sym (is i l)) e;
+      order = λ i j l h. absurd (omega arith);
+      reach = omega arith;
+    }
   where
     is : (i : ℕ) → i < 1 → getD (d ∷ []) i 0 ≡ d
     is zero l = refl
@@ -46,7 +53,14 @@ at-all e g (day {d = d} {to = to} {ds = ds} h) = go (at-all (next-day h) g h)
         order-of (day {d = x} y) = omega (arith, next-above x, order-of y)
 
     go : At (next d) to ds → At d to (d ∷ ds)
-    go a = record { first = refl; head = least; follow = next-one; days = each; order = below; reach = omega (arith, next-above d, a .reach) }
+    go a = record {
+      first = refl;
+      head = least;
+      follow = next-one;
+      days = each;
+      order = below;
+      reach = omega (arith, next-above d, a .reach);
+    }
       where
         least : (i : ℕ) → i < length (d ∷ ds) → d ≤ getD (d ∷ ds) i 0
         least zero l = omega arith
@@ -70,12 +84,23 @@ at-all e g (day {d = d} {to = to} {ds = ds} h) = go (at-all (next-day h) g h)
 
 -- what a walk over the days of a period asks of them
 pub period-dates : {from to : ℕ} {ds : List ℕ} → isDay from ≡ true → isDay to ≡ true → Days from to ds → length ds ≤ mostDays → Dates ds
-period-dates e g h l = let a = at-all e g h in record { few = l; each-day = a .days; follow = a .follow; ascending = a .order }
+period-dates e g h l = let a = at-all e g h in record {
+  few = l;
+  each-day = a .days;
+  follow = a .follow;
+  ascending = a .order;
+}
 
 -- ---- halving
 
 pub narrow-start : {dates : List ℕ} {d : ℕ} → Dates dates → Narrowing dates d (record { low = 0; high = length dates })
-narrow-start h = record { dates-are = h; order = omega arith; fits = omega arith; below = λ i l. absurd (omega arith); above = λ i l k. absurd (omega arith) }
+narrow-start h = record {
+  dates-are = h;
+  order = omega arith;
+  fits = omega arith;
+  below = λ i l. absurd (omega arith);
+  above = λ i l k. absurd (omega arith);
+}
 
 module _ {dates : List ℕ} {d : ℕ} {b : Bounds} (w : Narrowing dates d b) where
   -- a date is at least one before it
@@ -124,7 +149,11 @@ module _ {dates : List ℕ} {d : ℕ} {b : Bounds} (w : Narrowing dates d b) whe
 
   module _ (z : b .high ≤ b .low) where
     pub position-found : b .low < length dates → getD dates (b .low) 0 ≡ d → PositionIn dates d (b .low)
-    position-found l e = record { most = omega (arith, w .dates-are .few); inside = λ n. l; is = λ i h. go i h (decLt i (b .low)) (decLt (b .low) i) }
+    position-found l e = record {
+      most = omega (arith, w .dates-are .few);
+      inside = λ n. l;
+      is = λ i h. go i h (decLt i (b .low)) (decLt (b .low) i);
+    }
       where
         go : (i : ℕ) → i < length dates → Dec (i < b .low) → Dec (b .low < i) → eqb i (b .low) ≡ eqb (getD dates i 0) d
         go i h (yes k) f = ne-eqb i (b .low) (λ x. omega arith) ∙ sym (ne-eqb (getD dates i 0) d (λ x. omega (arith, w .below i k)))

@@ -33,7 +33,15 @@ use Rattle.price.proofs.TextNumberLaws.{Bytes, text-below}
 
 -- zeros beside a number
 abbrev zeros : ℕ → PriceAnswer
-zeros n = record { unit = pos 0; total = pos 0; lines = 0; unused = 0; «unused_count» = 0; number = n; currency = noCurrency }
+zeros n = record {
+  unit = pos 0;
+  total = pos 0;
+  lines = 0;
+  unused = 0;
+  «unused_count» = 0;
+  number = n;
+  currency = noCurrency;
+}
 
 -- ---- what an answer rests on
 
@@ -70,8 +78,15 @@ answered-total b s room a e {q} g =
 -- of a book of bytes, what is read of a line is what its row has
 lines-shown : (b : List ℕ) {book : List Record} (q : Question) → Bytes b → records b ≡ some book → (ls : List Line) → All (λ l. RowFor book q (l .place) (l .row)) ls → All (LineOf book q) (map writtenLine ls)
 lines-shown b q w e [] h = tt
-lines-shown b q w e (l ∷ ls) h =
-    (record { row = l .row; stands = h .0; text = mod-eq-of-lt (text-below b w e (h .0 .in-book)); level = refl }, lines-shown b q w e ls (h .1))
+lines-shown b q w e (l ∷ ls) h = (
+  record {
+    row = l .row;
+    stands = h .0;
+    text = mod-eq-of-lt (text-below b w e (h .0 .in-book));
+    level = refl;
+  },
+  lines-shown b q w e ls (h .1),
+)
 
 module _ (b s lent : List ℕ) {r : PriceAnswer} {after : List ℕ} (is : PriceIs b s lent r after) where
   -- The amounts read back from the written lines sum to the unit total.
@@ -168,7 +183,15 @@ module _ (b s lent : List ℕ) {r : PriceAnswer} {after : List ℕ} (is : PriceI
 
 -- an answer on K: three lines, no refusal, euro
 abbrev answerK : ℤ → ℤ → ℕ → ℕ → PriceAnswer
-answerK unit total unused count = record { unit = unit; total = total; lines = 3; unused = unused; «unused_count» = count; number = 0; currency = EUR }
+answerK unit total unused count = record {
+  unit = unit;
+  total = total;
+  lines = 3;
+  unused = unused;
+  «unused_count» = count;
+  number = 0;
+  currency = EUR;
+}
 
 -- its lines: a base row of this text, the oak at place 1, the discount
 abbrev linesK : ℕ → ℤ → ℤ → ℤ → List WrittenLine

@@ -25,7 +25,12 @@ lines-back [] rest h = refl
 lines-back (l ∷ ls) rest h =
     let z : ℤ = l .amount in
     λ i.
-    record { text = text-back (l .row .text) i; level = l .row .level; place = l .place; amount = bytes-back 8 (omega arith) z (fits-near 8 z (omega (arith, h .0))) i }
+    record {
+      text = text-back (l .row .text) i;
+      level = l .row .level;
+      place = l .place;
+      amount = bytes-back 8 (omega arith) z (fits-near 8 z (omega (arith, h .0))) i;
+    }
     ∷ lines-back ls rest (h .1) i
 
 amounts-read : (ls : List Line) → map (λ w. w .amount) (map writtenLine ls) ≡ amounts ls

@@ -18,7 +18,12 @@ pub record WrittenLine : Type 0 where
 
 -- the line in front: text number 4 bytes, level 1, place 1, amount 8
 abbrev pub lineIn : List ℕ → WrittenLine
-lineIn bytes = record { text = big (take 4 bytes); level = getD bytes 4 0; place = getD bytes 5 0; amount = signedOf 8 (big (take 8 (drop 6 bytes))) }
+lineIn bytes = record {
+  text = big (take 4 bytes);
+  level = getD bytes 4 0;
+  place = getD bytes 5 0;
+  amount = signedOf 8 (big (take 8 (drop 6 bytes)));
+}
 
 -- the first n lines
 abbrev pub linesIn : ℕ → List ℕ → List WrittenLine

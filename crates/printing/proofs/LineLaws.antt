@@ -31,7 +31,11 @@ module _ {out : List ℕ} {at : ℕ} (n : ℕ) (h : at + 21 ≤ length out) {fro
 pub word-kept : (c : Currency) (refusal : ℕ) → refusal ≡ 0 → lettersOf c ≡ currencyText refusal (lettersOf c)
 word-kept c refusal e = ap (λ (k : ℕ). currencyText k (lettersOf c)) (sym e)
 
-pub word-struck : (c : Currency) (refusal : ℕ) → (refusal ≡ 0 → ⊥) → lettersOf (record { 0 = 45; 1 = 45; 2 = 45 }) ≡ currencyText refusal (lettersOf c)
+pub word-struck : (c : Currency) (refusal : ℕ) → (refusal ≡ 0 → ⊥) → lettersOf (record {
+  0 = 45;
+  1 = 45;
+  2 = 45;
+}) ≡ currencyText refusal (lettersOf c)
 word-struck c zero z = absurd (z refl)
 word-struck c (suc k) z = refl
 

@@ -41,7 +41,12 @@ map-append f (x ∷ xs) y = ap (λ zs. f x ∷ zs) (map-append f xs y)
 
 module _ {old : List ℕ} {r : Stretches} where
   pub print-start : Printable old r → Printing old r old 0 0
-  print-start p = record { place = omega arith; printable = p; short = omega arith; so-far = prints-none old 0 (omega arith) }
+  print-start p = record {
+    place = omega arith;
+    printable = p;
+    short = omega arith;
+    so-far = prints-none old 0 (omega arith);
+  }
 
   module _ {out : List ℕ} {at i : ℕ} (w : Printing old r out at i) where
     within : r .n ≤ length (r .list)
@@ -139,7 +144,13 @@ front-size {s} {r} f = sym (length-take-le r s (f .fits))
 module _ (input : List ℕ) where
   pub too-long : mostInput < length input → {l : Listing} → Refused 1 l → ListingIs (asked input) l
   unfolding asked
-  too-long h r = let e : leb (length input) mostInput ≡ false = lt-leb (length input) mostInput h in record { long = r .long; few = r .few; behind = r .behind; empty = r .empty; is = rw e (sym (r .is)) }
+  too-long h r = let e : leb (length input) mostInput ≡ false = lt-leb (length input) mostInput h in record {
+    long = r .long;
+    few = r .few;
+    behind = r .behind;
+    empty = r .empty;
+    is = rw e (sym (r .is));
+  }
 
   module _ (h : length input ≤ mostInput) {b : ℕ} (f : FrontIs input b) {q : ℕ} (g : FrontIs (rest input b) q) {end : ℕ} (e : end ≡ endOf (rest (rest input b) q)) where
     pub asks-listing : {l : Listing} → ListingIs (listing (take b input) (take q (rest input b)) end) l → ListingIs (asked input) l
@@ -165,7 +176,11 @@ pub output-is : (input : List ℕ) {l : Listing} → ListingIs (asked input) l �
 unfolding output
 output-is input {l} i {new} {n} p =
     let e : n ≡ length (listedText l) = p .end ∙ omega arith in
-    record { all = puts-front (p .puts) ∙ ap (λ (bs : List ℕ). over bs (replicate 97544 0)) (ap printed (sym (i .is))); is = ap (take n) (puts-front (p .puts)) ∙ take-at (listedText l) _ n (sym e) ∙ ap printed (sym (i .is)); within = omega (arith, p .end, p .puts .room, p .puts .long) }
+    record {
+      all = puts-front (p .puts) ∙ ap (λ (bs : List ℕ). over bs (replicate 97544 0)) (ap printed (sym (i .is)));
+      is = ap (take n) (puts-front (p .puts)) ∙ take-at (listedText l) _ n (sym e) ∙ ap printed (sym (i .is));
+      within = omega (arith, p .end, p .puts .room, p .puts .long);
+    }
 
 -- so many bytes there are to write
 pub printed-size : {input : List ℕ} {r : Printed} → OutputIs input r → r .n ≡ length (take (r .n) (r .bytes))

@@ -41,7 +41,12 @@ counted-reads {A} {B} m f {s} {at} {next} {end} {ok} {ok′} {vs} {w} p q = reco
 
 module _ {A : Type 0} {m : Layout A} {value : List ℕ → ℕ → A} {stop : List ℕ → ℕ → ℕ} {s : List ℕ} {at : ℕ} where
   pub ends-none : m (drop at s) ≡ none → Ends m value stop s at 0
-  ends-none e = record { reads = record { is = e }; stops = λ h. absurd (not-suc-le-zero h); low = λ h. absurd (not-suc-le-zero h); fits = omega arith }
+  ends-none e = record {
+    reads = record { is = e };
+    stops = λ h. absurd (not-suc-le-zero h);
+    low = λ h. absurd (not-suc-le-zero h);
+    fits = omega arith;
+  }
 
 -- a value that must pass a test
 module _ {A : Type 0} {m : Layout A} {value : List ℕ → ℕ → A} {stop : List ℕ → ℕ → ℕ} {s : List ℕ} {at r : ℕ} (t : A → Bool) (p : Ends m value stop s at r) where
@@ -49,7 +54,12 @@ module _ {A : Type 0} {m : Layout A} {value : List ℕ → ℕ → A} {stop : Li
   such-is e = reads-as (such-reads m t (p .reads)) (ap (λ b. ltb 0 r && b) e) refl
 
   pub such-good : t (value s at) ≡ true → Ends (m such t) value stop s at r
-  such-good e = record { reads = reads-as (such-is e) (and-true (ltb 0 r)) refl; stops = p .stops; low = p .low; fits = p .fits }
+  such-good e = record {
+    reads = reads-as (such-is e) (and-true (ltb 0 r)) refl;
+    stops = p .stops;
+    low = p .low;
+    fits = p .fits;
+  }
 
   pub such-bad : t (value s at) ≡ false → Ends (m such t) value stop s at 0
   such-bad e = ends-none (reads-as (such-is e) (and-false (ltb 0 r)) refl .is)
@@ -113,7 +123,11 @@ module _ {A : Type 0} {m : Layout A} {value : List ℕ → ℕ → A} {stop : Li
           record { is = p .reads .is ∙ rw e }
 
   pub ends-stands : 0 < r → Stands m value stop s at
-  ends-stands h = record { reads = reads-as (p .reads) (lt-ltb 0 r h) refl; low = omega (arith, p .low h, p .stops h); fits = omega (arith, p .fits, p .stops h) }
+  ends-stands h = record {
+    reads = reads-as (p .reads) (lt-ltb 0 r h) refl;
+    low = omega (arith, p .low h, p .stops h);
+    fits = omega (arith, p .fits, p .stops h);
+  }
 
 module _ {A : Type 0} (m : Layout A) (value : List ℕ → ℕ → A) (stop : List ℕ → ℕ → ℕ) (s : List ℕ) (at : ℕ) where
   -- a value's end, or 0

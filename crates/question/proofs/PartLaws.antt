@@ -62,7 +62,12 @@ name-ends {lo} {hi} {s} {at} {r} p = go (decLt 0 r)
         by (inr q) = same-stop here (reads-as (q .reads) (lt-ltb 0 (nameStop s at) (omega arith)) refl) (p .fits) (q .fits)
 
     go : Dec (0 < r) → Ends (name lo hi) nameAt nameStop s at r
-    go (yes h) = record { reads = subst (λ (q : ℕ). Reads (name lo hi) s at (ltb 0 r) (part s (at + 1) q) q) (stops h) (p .reads); stops = stops; low = p .low; fits = p .fits }
+    go (yes h) = record {
+      reads = subst (λ (q : ℕ). Reads (name lo hi) s at (ltb 0 r) (part s (at + 1) q) q) (stops h) (p .reads);
+      stops = stops;
+      low = p .low;
+      fits = p .fits;
+    }
     go (no h) =
         let e : r ≡ 0 = omega arith in
         rw e (ends-none (rw e at (p .reads .is)))
@@ -135,7 +140,12 @@ module _ (s : List ℕ) (at : ℕ) where
         (rw (← size .is, q .is) (simp (and-assoc, and-true))) refl
 
     pub property-good : (leb 1 width && leb width 30 && t) ≡ true → Ends property propertyAt propertyStop s at end
-    property-good e = record { reads = reads-as property-reads (ap (λ b. b && ltb 0 end) e) refl; stops = p .stops; low = λ g. omega (arith, p .low g); fits = p .fits }
+    property-good e = record {
+      reads = reads-as property-reads (ap (λ b. b && ltb 0 end) e) refl;
+      stops = p .stops;
+      low = λ g. omega (arith, p .low g);
+      fits = p .fits;
+    }
 
     pub property-bad : (leb 1 width && leb width 30 && t) ≡ false → Ends property propertyAt propertyStop s at 0
     property-bad e = ends-none (reads-as property-reads (ap (λ b. b && ltb 0 end) e) refl .is)

@@ -42,14 +42,24 @@ module _ {A : Type 0} where
         let y = such-back (p (x .0 .0)) (x .0 .0) v (x .0 .1) t (x .2) in
         let f : Read m P s v t = l .reads s v t (x .1 ∙ ap some (y .1)) in
         let z : p v ≡ true = ap (λ w. p (w .0)) (sym (y .1)) ∙ y .0 in
-        record { taken = f .taken; splits = f .splits; size = f .size; again = λ u. ap (λ o. andThen o (λ a. giveIf (p a) a)) (f .again u) ∙ ap (λ (b : Bool). giveIf b v u) z };
+        record {
+          taken = f .taken;
+          splits = f .splits;
+          size = f .size;
+          again = λ u. ap (λ o. andThen o (λ a. giveIf (p a) a)) (f .again u) ∙ ap (λ (b : Bool). giveIf b v u) z;
+        };
   }
 
   reading-give : (a : A) (P : A → ℕ → Type 0) → P a 0 → Reading (give a) P
   reading-give a P z = record {
     reads = λ s v t e.
         let p = Option·some-injective (a, s) (v, t) e in
-        record { taken = []; splits = ap (λ x. x .1) p; size = subst (λ (x : A). P x 0) (ap (λ x. x .0) p) z; again = λ u i. some (p i .0, u) };
+        record {
+          taken = [];
+          splits = ap (λ x. x .1) p;
+          size = subst (λ (x : A). P x 0) (ap (λ x. x .0) p) z;
+          again = λ u i. some (p i .0, u);
+        };
   }
 
 module _ {A B : Type 0} where
@@ -90,7 +100,12 @@ reading-bytes : (n : ℕ) → Reading (bytes n) (λ v k. (length v ≡ n) × (k 
 reading-bytes n = record {
   reads = λ s v t e.
       let x = bytes-split n s v t e in
-      record { taken = v; splits = x .0; size = (x .1, x .1); again = λ u. subst (λ (k : ℕ). bytes k (v ++ u) ≡ some (v, u)) (x .1) (bytes-front v u) };
+      record {
+        taken = v;
+        splits = x .0;
+        size = (x .1, x .1);
+        again = λ u. subst (λ (k : ℕ). bytes k (v ++ u) ≡ some (v, u)) (x .1) (bytes-front v u);
+      };
 }
 
 pub such-bytes : (n : ℕ) (p : List ℕ → Bool) → Reading (bytes n such p) (λ v k. (length v ≡ n) × (k ≡ n))
@@ -190,7 +205,15 @@ redates-date {f = f} d P day k = record {
       let x = andThen-some ((number 4 such isDay) s) f e in
       let r = reading-such (reading-number 4) isDay .reads s (x .0 .0) (x .0 .1) (x .1) in
       let y = k (x .0 .0) .gives (x .0 .1) v t (x .2) in
-      record { ahead = []; date = r .taken; rest = x .0 .1; splits = r .splits; place = y .1; four = r .size; again = ap (λ o. andThen o f) (day-read d (x .0 .1) day) ∙ y .0 };
+      record {
+        ahead = [];
+        date = r .taken;
+        rest = x .0 .1;
+        splits = r .splits;
+        place = y .1;
+        four = r .size;
+        again = ap (λ o. andThen o f) (day-read d (x .0 .1) day) ∙ y .0;
+      };
 }
 
 -- ---- a question
@@ -204,9 +227,25 @@ module _ (d : ℕ) where
   alike-question : (article : List ℕ) (sort : ℕ) (currency : List ℕ) (date : ℕ)
       → Alike
       (number 4 such between 1 100_000 >>= λ quantity. byte such between 0 32 >>= λ conditions. times conditions (name 1 20) >>= λ granted. byte such between 0 32 >>= λ count. times count property >>= λ properties.
-      give (record { article = article; sort = sort; currency = askedOf currency; date = date; quantity = quantity; granted = granted; properties = properties }))
+      give (record {
+        article = article;
+        sort = sort;
+        currency = askedOf currency;
+        date = date;
+        quantity = quantity;
+        granted = granted;
+        properties = properties;
+      }))
       (number 4 such between 1 100_000 >>= λ quantity. byte such between 0 32 >>= λ conditions. times conditions (name 1 20) >>= λ granted. byte such between 0 32 >>= λ count. times count property >>= λ properties.
-      give (record { article = article; sort = sort; currency = askedOf currency; date = d; quantity = quantity; granted = granted; properties = properties }))
+      give (record {
+        article = article;
+        sort = sort;
+        currency = askedOf currency;
+        date = d;
+        quantity = quantity;
+        granted = granted;
+        properties = properties;
+      }))
       (λ q. on q d) (λ q. Begun article q 0)
   unfolding on
   alike-question article sort currency date =
@@ -215,8 +254,24 @@ module _ (d : ℕ) where
       alike-then (times conditions (name 1 20)) (λ granted.
       alike-then (byte such between 0 32) (λ count.
       alike-then (times count property) (λ properties.
-      alike-give (record { article = article; sort = sort; currency = askedOf currency; date = date; quantity = quantity; granted = granted; properties = properties })
-      (record { article = article; sort = sort; currency = askedOf currency; date = d; quantity = quantity; granted = granted; properties = properties }) (λ q. on q d) (λ q. Begun article q 0) refl (refl, refl))))))
+      alike-give (record {
+        article = article;
+        sort = sort;
+        currency = askedOf currency;
+        date = date;
+        quantity = quantity;
+        granted = granted;
+        properties = properties;
+      })
+      (record {
+        article = article;
+        sort = sort;
+        currency = askedOf currency;
+        date = d;
+        quantity = quantity;
+        granted = granted;
+        properties = properties;
+      }) (λ q. on q d) (λ q. Begun article q 0) refl (refl, refl))))))
 
   redates-question : isDay d ≡ true → (lent : ℕ) → Redates (questionLayout lent) (λ q k. k ≡ dateAt q) d (λ q. on q d)
   redates-question day lent =

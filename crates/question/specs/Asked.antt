@@ -83,11 +83,23 @@ pub record AskIs (s : List ℕ) (r : Ask) : Type 0 where
 
 -- what is asked beside the article
 abbrev pub termsIn : Ask → Terms
-termsIn ask = record { sort = ask .sort; currency = ask .currency; date = ask .date; quantity = ask .quantity; names = ask .conditions }
+termsIn ask = record {
+  sort = ask .sort;
+  currency = ask .currency;
+  date = ask .date;
+  quantity = ask .quantity;
+  names = ask .conditions;
+}
 
 pub record TermsAre (ask : Ask) (r : Terms) : Type 0 where
   pub is : r ≡ termsIn ask
 
 -- the same on another day
 abbrev pub termsOn : Terms → ℕ → Terms
-termsOn t d = record { sort = t .sort; currency = t .currency; date = record { 0 = d }; quantity = t .quantity; names = t .names }
+termsOn t d = record {
+  sort = t .sort;
+  currency = t .currency;
+  date = record { 0 = d };
+  quantity = t .quantity;
+  names = t .names;
+}

@@ -30,7 +30,13 @@ filled-next slots i {h} t {c} d =
 
 pub numbering-start : (slots : List Seen) → Numbering slots (replicate 99 0) 0 0
 unfolding filledBefore
-numbering-start slots = record { few = omega arith; most = omega arith; long = length-replicate {A = ℕ} 99 0; count = refl; each = λ j l. absurd (omega arith) }
+numbering-start slots = record {
+  few = omega arith;
+  most = omega arith;
+  long = length-replicate {A = ℕ} 99 0;
+  count = refl;
+  each = λ j l. absurd (omega arith);
+}
 
 module _ {slots : List Seen} {numbers : List ℕ} {n i : ℕ} (inv : Numbering slots numbers n i) where
   pub numbering-end : 99 ≤ i → NumbersIn slots (record { of = numbers; n = n })

@@ -27,7 +27,11 @@ module _ {b : List ℕ} {q : Question} {picks : List Pick} {n : ℕ} (picked : P
       go true e =
           let z = eqb-true (v .outcome .refusal) 0 e in
           let x = j .answered z (recordsLeft b 5) q (stand picked) in
-          (λ i. record { refusal = z i; currency = lettersOf (v .outcome .currency); unit = sym (x .unit) i }) ∙ ap outcomeOf (sym (x .is))
+          (λ i. record {
+            refusal = z i;
+            currency = lettersOf (v .outcome .currency);
+            unit = sym (x .unit) i;
+          }) ∙ ap outcomeOf (sym (x .is))
       go false e =
           let x = j .refuses (eqb-false (v .outcome .refusal) 0 e) (recordsLeft b 5) q (stand picked) in
           ap (λ (y : Verdict). asOutcome (y .outcome)) (x .zeros) ∙ ap outcomeOf (sym (x .is))
@@ -37,5 +41,16 @@ module _ {b number table : List ℕ} {terms : Terms} {picks : Picks} (picked : P
   outcome-for = record { of = λ q a. record { is = said (picked .of q a) j } }
 
   pub quote-is : {set : ℕ} → UnusedFor table (map (λ v. v .place) (viewsIn (picks .rows) (picks .n))) set
-      → QuoteIs b number table terms (record { rows = picks .rows; n = picks .n; verdict = v; unused = record { 0 = set } })
-  quote-is u = record { of = λ q a. record { picked = picked .of q a; judged = j; idle = u .of (q .granted) (a .granted) } }
+      → QuoteIs b number table terms (record {
+        rows = picks .rows;
+        n = picks .n;
+        verdict = v;
+        unused = record { 0 = set };
+      })
+  quote-is u = record {
+    of = λ q a. record {
+      picked = picked .of q a;
+      judged = j;
+      idle = u .of (q .granted) (a .granted);
+    };
+  }

@@ -61,7 +61,15 @@ module _ {b : List ℕ} {w : Window} {at end found : ℕ} (held : Held b at end)
   found-held = row-found .is (held .row) (held .there) .held
 
   pub row-picked : RoundingsIn b w → {row : PriceRow} → RowIs (take (end - at) (drop at b)) row → {rounding : Rounding} → RoundingAt (take (w .to) b) found rounding
-      → (place : ℕ) → RowPicked b at end place (record { place = place; level = row .level; rule = row .rule; text = row .text; value = row .value; currency = row .currency; rounding = rounding })
+      → (place : ℕ) → RowPicked b at end place (record {
+        place = place;
+        level = row .level;
+        rule = row .rule;
+        text = row .text;
+        value = row .value;
+        currency = row .currency;
+        rounding = rounding;
+      })
   unfolding rowIn
   row-picked told {row} is {rounding} stands place =
       record {
@@ -69,9 +77,25 @@ module _ {b : List ℕ} {w : Window} {at end found : ℕ} (held : Held b at end)
             let e : rowIn (take (end - at) (drop at b)) row ≡ r = there-row there row is in
             let used : rounding ≡ roundingFor (row .rounding) (roundings (recordsLeft b 5)) =
             rounding-used told (found-used (row-found .is r there) stands) ∙ ap (λ (x : Row). roundingFor (x .rounding) (roundings (recordsLeft b 5))) (sym e) in
-            subst (λ (x : Row). _≡_ {A = View} (record { place = place; level = row .level; rule = row .rule; text = row .text; value = row .value; currency = row .currency .0 ∷ row .currency .1 ∷ row .currency .2 ∷ []; rounding = rounding })
+            subst (λ (x : Row). _≡_ {A = View} (record {
+              place = place;
+              level = row .level;
+              rule = row .rule;
+              text = row .text;
+              value = row .value;
+              currency = row .currency .0 ∷ row .currency .1 ∷ row .currency .2 ∷ [];
+              rounding = rounding;
+            })
             (viewOf (roundings (recordsLeft b 5)) (record { place = place; row = x }))) e
-            (λ i. record { place = place; level = row .level; rule = row .rule; text = row .text; value = row .value; currency = row .currency .0 ∷ row .currency .1 ∷ row .currency .2 ∷ []; rounding = used i });
+            (λ i. record {
+              place = place;
+              level = row .level;
+              rule = row .rule;
+              text = row .text;
+              value = row .value;
+              currency = row .currency .0 ∷ row .currency .1 ∷ row .currency .2 ∷ [];
+              rounding = used i;
+            });
         sound = record { value-in = is .value-in; rounding-in = stands .sound };
       }
 
@@ -182,12 +206,22 @@ pick-end {w} {q} {table} g {picks} {n} {i} p h =
 
 pub so-far-start : (b : List ℕ) (slots : List Seen) (picks : List Pick) → length picks ≡ 99 → PicksSoFar b slots picks 0 0
 unfolding filledBefore
-so-far-start b slots picks l = record { few = omega arith; count = refl; long = l; each = λ q h. pick-start (recordsLeft b 5) q picks l }
+so-far-start b slots picks l = record {
+  few = omega arith;
+  count = refl;
+  long = l;
+  each = λ q h. pick-start (recordsLeft b 5) q picks l;
+}
 
 pub so-far-turn : {b : List ℕ} {slots : List Seen} {picks : List Pick} {n i : ℕ} → PicksSoFar b slots picks n i → i < 99 → {hand : Hand} → TakenIs (getD slots i unseen) hand
     → {pick : Pick} → HandPicked b hand (i % 33) pick → {c : ℕ} → Counted hand c → PicksSoFar b slots (set picks n pick) (n + c) (i + 1)
 so-far-turn {b} {slots} {picks} {n} {i} w l t {pick} h {c} d =
-    record { few = omega (arith, w .few, d .most); count = ap (λ (k : ℕ). k + c) (w .count) ∙ sym (filled-next slots i t d); long = length-set picks n pick ∙ w .long; each = λ q holds. pick-turn holds (w .each q holds) l t h d }
+    record {
+      few = omega (arith, w .few, d .most);
+      count = ap (λ (k : ℕ). k + c) (w .count) ∙ sym (filled-next slots i t d);
+      long = length-set picks n pick ∙ w .long;
+      each = λ q holds. pick-turn holds (w .each q holds) l t h d;
+    }
 
 pub so-far-end : {b : List ℕ} {slots : List Seen} {picks : List Pick} {n i : ℕ} → PicksSoFar b slots picks n i → 99 ≤ i → PicksFrom b slots (record { rows = picks; n = n })
 so-far-end s h = record { each = λ q holds g. pick-end g (s .each q holds) h }

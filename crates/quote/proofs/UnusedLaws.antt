@@ -38,11 +38,19 @@ pub record Flagging (picks : List Pick) (n : ℕ) (flags : List Bool) (i : ℕ) 
 
 module _ (picks : List Pick) (n : ℕ) where
   pub flag-start : length picks ≡ 99 → n ≤ 99 → Flagging picks n (replicate 256 false) 0
-  flag-start k l = record { lines = omega arith; long = length-replicate 256 false; rest = λ p l. rw (getD-replicate 256 p false false l) }
+  flag-start k l = record {
+    lines = omega arith;
+    long = length-replicate 256 false;
+    rest = λ p l. rw (getD-replicate 256 p false false l);
+  }
 
   module _ {flags : List Bool} {i : ℕ} (inv : Flagging picks n flags i) where
     pub flag-again : i < n → getD picks i noPick .place < 256 → Flagging picks n (set flags (getD picks i noPick .place) true) (i + 1)
-    flag-again h l = record { lines = inv .lines; long = length-set flags place true ∙ inv .long; rest = λ p m. go p (eqb place p) refl ∙ step p m }
+    flag-again h l = record {
+      lines = inv .lines;
+      long = length-set flags place true ∙ inv .long;
+      rest = λ p m. go p (eqb place p) refl ∙ step p m;
+    }
       where
         place : ℕ
         place = getD picks i noPick .place

@@ -32,11 +32,21 @@ module _ {w : List ℕ} {n : ℕ} (fits : n ≤ length w) where
   there-whole : {at end : ℕ} {r : Row} → RowThere (take n w) at end r → RowThere w at end r
   there-whole {at} {end} p =
       let k : end ≤ n = omega (arith, p .fits, length-take-le n w fits) in
-      record { low = p .low; order = p .order; fits = omega arith; is = sym (ap (whole kinded) (front (end - at) at n w (omega (arith, p .order)))) ∙ p .is }
+      record {
+        low = p .low;
+        order = p .order;
+        fits = omega arith;
+        is = sym (ap (whole kinded) (front (end - at) at n w (omega (arith, p .order)))) ∙ p .is;
+      }
 
   hand-whole : {h : Hand} {o : Option Row} → HandIs (take n w) h o → HandIs w h o
   hand-whole (NoRow z) = NoRow z
-  hand-whole (OneRow r x) = OneRow r (record { there = there-whole (x .there); upto = x .upto; from = x .from; rounding = x .rounding })
+  hand-whole (OneRow r x) = OneRow r (record {
+    there = there-whole (x .there);
+    upto = x .upto;
+    from = x .from;
+    rounding = x .rounding;
+  })
 
   seen-whole : {s : Seen} {state : Choice.Seen} → SeenIs (take n w) s state → SeenIs w s state
   seen-whole p = record { met = p .met; asked = hand-whole (p .asked); other = hand-whole (p .other) }

@@ -91,7 +91,11 @@ gives-packaging =
     gives-field (unitFor (has 3 present) volumeUnits) _ (gives-unit (has 3 present) volumeUnits) λ volumeUnit l₂.
     gives-field (unitFor (has 4 present || has 5 present) weightUnits) _ (gives-unit (has 4 present || has 5 present) weightUnits) λ weightUnit l₃.
     gives-field _ _ (gives-if (λ (u : Unit {0}). not (same article star && eqb (length condition) 0)) tt) λ u _.
-    gives-value _ (record { values-in = h counts (subst ValuesIn (append-nil counts) (k [] nothing-in)); absent = z; letters = (l₁, (l₂, (l₃, tt))) })
+    gives-value _ (record {
+      values-in = h counts (subst ValuesIn (append-nil counts) (k [] nothing-in));
+      absent = z;
+      letters = (l₁, (l₂, (l₃, tt)));
+    })
 
 gives-scheme : Gives schemeBody Bounded
 gives-scheme =

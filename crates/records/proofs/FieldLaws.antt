@@ -75,17 +75,37 @@ unfolding articleAt rowAt packAt schemeAt
 starts t zero b p = absurd (false≢true (body-ok t 0 (p .ok) (p .kind)))
 starts t (suc zero) b p =
     let s = article-parts t 1 (body-ok t 1 (p .ok) (p .kind)) in
-    record { r = ArticleRecord (articleAt t 1 (nameStop t 1) (secondStop t 1)); is = record-is t 1 (p .ok) (p .kind) ∙ s .is; name = refl; fits = omega (arith, s .long) }
+    record {
+      r = ArticleRecord (articleAt t 1 (nameStop t 1) (secondStop t 1));
+      is = record-is t 1 (p .ok) (p .kind) ∙ s .is;
+      name = refl;
+      fits = omega (arith, s .long);
+    }
 starts t (suc (suc zero)) b p =
     let s = price-parts t 1 (body-ok t 2 (p .ok) (p .kind)) in
-    record { r = PriceRecord (rowAt t 1 (nameStop t 1) (secondStop t 1)); is = record-is t 2 (p .ok) (p .kind) ∙ s .is; name = refl; fits = omega (arith, s .long) }
+    record {
+      r = PriceRecord (rowAt t 1 (nameStop t 1) (secondStop t 1));
+      is = record-is t 2 (p .ok) (p .kind) ∙ s .is;
+      name = refl;
+      fits = omega (arith, s .long);
+    }
 starts t (suc (suc (suc zero))) b p = absurd b
 starts t (suc (suc (suc (suc zero)))) b p =
     let s = packaging-parts t 1 (body-ok t 4 (p .ok) (p .kind)) in
-    record { r = PackagingRecord (packAt t 1 (nameStop t 1) (secondStop t 1)); is = record-is t 4 (p .ok) (p .kind) ∙ s .is; name = refl; fits = omega (arith, s .long) }
+    record {
+      r = PackagingRecord (packAt t 1 (nameStop t 1) (secondStop t 1));
+      is = record-is t 4 (p .ok) (p .kind) ∙ s .is;
+      name = refl;
+      fits = omega (arith, s .long);
+    }
 starts t (suc (suc (suc (suc (suc zero))))) b p =
     let s = scheme-parts t 1 (body-ok t 5 (p .ok) (p .kind)) in
-    record { r = SchemeRecord (schemeAt t 1 (nameStop t 1) (secondStop t 1) (thirdStop t 1)); is = record-is t 5 (p .ok) (p .kind) ∙ s .is; name = refl; fits = omega (arith, s .long) }
+    record {
+      r = SchemeRecord (schemeAt t 1 (nameStop t 1) (secondStop t 1) (thirdStop t 1));
+      is = record-is t 5 (p .ok) (p .kind) ∙ s .is;
+      name = refl;
+      fits = omega (arith, s .long);
+    }
 starts t (suc (suc (suc (suc (suc (suc k)))))) b p = absurd (false≢true (body-ok t (suc (suc (suc (suc (suc (suc k)))))) (p .ok) (p .kind)))
 
 pub starts-not : (t : List ℕ) (k : ℕ) (name : List ℕ) → Accepted t → (getD t 0 0 ≡ k → ⊥) → Says (startsWith k name (whole kinded t)) false

@@ -56,7 +56,13 @@ module _ {t : List ℕ} (p : OfKind 4 t) where
 -- ---- the packaging
 module _ (t : List ℕ) (a p : ℕ) (here : TwoNames t a p 42 (PackagingRecord (packAt t 1 a p))) where
   pub packaging-is : {values : List ℤ} {units : List ℕ} → ValuesAre t p values → UnitsAre t p units
-      → PackIs t (record { article = record { at = 2; size = a - 2 }; condition = record { at = a + 1; size = p - (a + 1) }; present = getD t p 0; values = values; units = units })
+      → PackIs t (record {
+        article = record { at = 2; size = a - 2 };
+        condition = record { at = a + 1; size = p - (a + 1) };
+        present = getD t p 0;
+        values = values;
+        units = units;
+      })
   unfolding packAt packIn
   packaging-is v u = record {
     is = here .is ∙ rw (v .is, u .is);

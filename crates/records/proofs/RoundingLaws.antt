@@ -51,7 +51,13 @@ module _ {t : List ℕ} (p : OfKind 3 t) where
   pub rounding-is : {number step : ℕ} {before after : ℤ} {way : Way} → WayIs (getD t 3 0) way
       → SignedNumber (signedAt t 8) 2147483648 before → SignedNumber (signedAt t 12) 2147483648 after
       → Number (numberAt 2 t 1) 65536 number → Number (numberAt 4 t 4) 4294967296 step
-      → RoundingIs t (record { number = number; way = way; step = step; before = record { 0 = toZ w64 (ofZ w64 before) }; after = record { 0 = toZ w64 (ofZ w64 after) } })
+      → RoundingIs t (record {
+        number = number;
+        way = way;
+        step = step;
+        before = record { 0 = toZ w64 (ofZ w64 before) };
+        after = record { 0 = toZ w64 (ofZ w64 after) };
+      })
   unfolding roundingAt
   rounding-is w b a n s =
       rw (kept-is b, kept-is a, w .is, n .is, s .is) (record { is = rounding-at; bounds = in-bounds t (RoundingRecord (roundingAt t 1)) rounding-at })

@@ -72,7 +72,11 @@ module _ (ra rb : List Rounding) where
   lines-alike before (c ∷ cs) h =
       let e : lineAfter ra before c ≡ lineAfter rb before c =
       unfold lineAfter in
-      λ i. record { place = c .place; row = c .row; amount = rounded (h .0 i) (exact (c .row .value) (percentOf (c .row .rule) before)) } in
+      λ i. record {
+        place = c .place;
+        row = c .row;
+        amount = rounded (h .0 i) (exact (c .row .value) (percentOf (c .row .rule) before));
+      } in
       lines-alike (before ++ (lineAfter ra before c ∷ [])) cs (h .1) ∙ ap (λ (l : Line). linesAfter rb (before ++ (l ∷ [])) cs) e
 
 anything : (ss : List Slot) → All (λ s. Unit {0}) ss

@@ -36,7 +36,20 @@ EUR = text "EUR"
 -- a sale row of A1 in euro, in that year or a half of it, with no limit and no rounding of its own
 abbrev row : List ℕ → ℕ → ℕ → ℕ → Value → ℕ → ℕ → Row
 row condition level rule number value from to =
-    record { article = text "A1"; condition = condition; sort = sale; level = level; rule = rule; text = number; value = value; currency = EUR; from = from; to = to; upTo = 0; rounding = 0 }
+    record {
+      article = text "A1";
+      condition = condition;
+      sort = sale;
+      level = level;
+      rule = rule;
+      text = number;
+      value = value;
+      currency = EUR;
+      from = from;
+      to = to;
+      upTo = 0;
+      rounding = 0;
+    }
 
 abbrev firstHalf : Row
 firstHalf = row [] base 1 1 (Fixed (record { 0 = pos 10000 })) 20240101 20240630
@@ -79,10 +92,22 @@ abbrev pub P2 : List ℕ
 P2 = asks 20240701 1 (text "oak" ∷ [])
 
 abbrev pub answer1 : Answer
-answer1 = record { unit = pos 10875; total = pos 10875; currency = EUR; lines = linesOn firstHalf (pos 10000) (pos 1250) (negℤ (pos 375)); unused = [] }
+answer1 = record {
+  unit = pos 10875;
+  total = pos 10875;
+  currency = EUR;
+  lines = linesOn firstHalf (pos 10000) (pos 1250) (negℤ (pos 375));
+  unused = [];
+}
 
 abbrev pub answer2 : Answer
-answer2 = record { unit = pos 11420; total = pos 11420; currency = EUR; lines = linesOn secondHalf (pos 10500) (pos 1313) (negℤ (pos 393)); unused = [] }
+answer2 = record {
+  unit = pos 11420;
+  total = pos 11420;
+  currency = EUR;
+  lines = linesOn secondHalf (pos 10500) (pos 1313) (negℤ (pos 393));
+  unused = [];
+}
 
 just-1 : price bookK P1 42 ≡ done answer1
 unfolding computed
@@ -97,7 +122,13 @@ abbrev pub elmAsked : List ℕ
 elmAsked = asks 20240630 2 (text "oak" ∷ text "OAK" ∷ text "elm" ∷ [])
 
 abbrev pub elmAnswer : Answer
-elmAnswer = record { unit = pos 10875; total = pos 21750; currency = EUR; lines = answer1 .lines; unused = record { place = 3; name = text "ELM" } ∷ [] }
+elmAnswer = record {
+  unit = pos 10875;
+  total = pos 21750;
+  currency = EUR;
+  lines = answer1 .lines;
+  unused = record { place = 3; name = text "ELM" } ∷ [];
+}
 
 just-elm : price bookK elmAsked 42 ≡ done elmAnswer
 unfolding computed
@@ -125,7 +156,11 @@ abbrev pub stretchesK : List Stretch
 stretchesK =
     record { first = 20240629; last = 20240630; outcome = record { refusal = 0; currency = EUR; unit = pos 10875 } }
     ∷ record { first = 20240701; last = 20241231; outcome = record { refusal = 0; currency = EUR; unit = pos 11420 } }
-    ∷ record { first = 20250101; last = 20250102; outcome = record { refusal = 4; currency = noCurrency; unit = pos 0 } }
+    ∷ record {
+      first = 20250101;
+      last = 20250102;
+      outcome = record { refusal = 4; currency = noCurrency; unit = pos 0 };
+    }
     ∷ []
 
 just-bytes : calendar bookK calendarAsked calendarEnd 60 ≡ done stretchesK

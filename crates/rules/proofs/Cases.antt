@@ -101,7 +101,20 @@ USD = text "USD"
 -- a sale row of A1: condition, level, rule, value, currency, from, to, up to, rounding
 abbrev pub row : List ℕ → ℕ → ℕ → Value → List ℕ → ℕ → ℕ → ℕ → ℕ → Row
 row condition level rule value currency from to upTo rounding =
-    record { article = A1; condition = condition; sort = sale; level = level; rule = rule; text = 0; value = value; currency = currency; from = from; to = to; upTo = upTo; rounding = rounding }
+    record {
+      article = A1;
+      condition = condition;
+      sort = sale;
+      level = level;
+      rule = rule;
+      text = 0;
+      value = value;
+      currency = currency;
+      from = from;
+      to = to;
+      upTo = upTo;
+      rounding = rounding;
+    }
 
 -- one with no condition, all of 2024
 abbrev pub in2024 : ℕ → ℕ → Value → List ℕ → ℕ → ℕ → Row

@@ -34,7 +34,20 @@ spoilt s changes = map (λ c. set s (c .0) (c .1)) changes
 abbrev rowOf : List ℕ → List ℕ → Value → List ℕ
 rowOf article condition value =
     rowBytes
-    (record { article = article; condition = condition; sort = sale; level = base; rule = 1; text = 0; value = value; currency = EUR; from = 0; to = 0; upTo = 0; rounding = 0 })
+    (record {
+      article = article;
+      condition = condition;
+      sort = sale;
+      level = base;
+      rule = 1;
+      text = 0;
+      value = value;
+      currency = EUR;
+      from = 0;
+      to = 0;
+      upTo = 0;
+      rounding = 0;
+    })
 
 -- its kind is byte 2, its sort 7, its level 8, its rule 9, its flag 14, its currency from 19 on
 abbrev anyRow : List ℕ

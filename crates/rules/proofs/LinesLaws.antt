@@ -50,7 +50,11 @@ base-snoc ls l =
 
 abbrev pub lineWith : List Rounding → ℤ → ℤ → Chosen → Line
 lineWith rs base running c =
-    record { place = c .place; row = c .row; amount = rounded (roundingFor (c .row .rounding) rs) (exact (c .row .value) (cond (eqb (c .row .rule) 1) base running)) }
+    record {
+      place = c .place;
+      row = c .row;
+      amount = rounded (roundingFor (c .row .rounding) rs) (exact (c .row .value) (cond (eqb (c .row .rule) 1) base running));
+    }
 
 abbrev pub run : List Rounding → ℤ → ℤ → List Chosen → List Line
 run rs base running [] = []

@@ -95,13 +95,25 @@ share false b e = refl
 
 -- the slots of a level have that level
 of-level : (p : Slot → Bool) (gs : List Grant) (level : ℕ) → any (λ s. p s && eqb (s .level) base) (slotsAt gs level) ≡ (any p (slotsAt gs level) && eqb level base)
-of-level p gs level = ap (λ b. (p (record { level = level; place = 0; condition = [] }) && eqb level base) || b) (rest gs) ∙ share (p (record { level = level; place = 0; condition = [] })) (any p (map (λ g. record { level = level; place = g .place; condition = g .name }) gs)) (eqb level base)
+of-level p gs level = ap (λ b. (p (record {
+  level = level;
+  place = 0;
+  condition = [];
+}) && eqb level base) || b) (rest gs) ∙ share (p (record { level = level; place = 0; condition = [] })) (any p (map (λ g. record { level = level; place = g .place; condition = g .name }) gs)) (eqb level base)
   where
-    rest : (gs : List Grant) → any (λ s. p s && eqb (s .level) base) (map (λ g. record { level = level; place = g .place; condition = g .name }) gs) ≡ (any p (map (λ g. record { level = level; place = g .place; condition = g .name }) gs) && eqb level base)
+    rest : (gs : List Grant) → any (λ s. p s && eqb (s .level) base) (map (λ g. record {
+      level = level;
+      place = g .place;
+      condition = g .name;
+    }) gs) ≡ (any p (map (λ g. record { level = level; place = g .place; condition = g .name }) gs) && eqb level base)
     rest [] = refl
     rest (g ∷ gs) =
         ap (λ b. (p (record { level = level; place = g .place; condition = g .name }) && eqb level base) || b) (rest gs)
-        ∙ share (p (record { level = level; place = g .place; condition = g .name })) (any p (map (λ g. record { level = level; place = g .place; condition = g .name }) gs)) (eqb level base)
+        ∙ share (p (record {
+          level = level;
+          place = g .place;
+          condition = g .name;
+        })) (any p (map (λ g. record { level = level; place = g .place; condition = g .name }) gs)) (eqb level base)
 
 -- only the base level has base lines
 base-slots : (p : Slot → Bool) (gs : List Grant) → any (λ s. p s && eqb (s .level) base) (slots gs) ≡ any p (slotsAt gs base)

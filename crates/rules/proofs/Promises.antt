@@ -171,7 +171,15 @@ days-counted-once from to ds es = Period.days-one
 
 -- Beside a refusal's number stand zeros, and no lent byte changes: for the price,
 pub refused-price : (n : ℕ) (lent : List ℕ)
-    → (Price.shown (refused n) ≡ record { unit = pos 0; total = pos 0; lines = 0; unused = 0; «unused_count» = 0; number = n; currency = noCurrency }) × (Price.lentAfterPrice (refused n) lent ≡ lent)
+    → (Price.shown (refused n) ≡ record {
+      unit = pos 0;
+      total = pos 0;
+      lines = 0;
+      unused = 0;
+      «unused_count» = 0;
+      number = n;
+      currency = noCurrency;
+    }) × (Price.lentAfterPrice (refused n) lent ≡ lent)
 unfolding Price.shown lentAfter
 refused-price n lent = (refl, refl)
 
@@ -189,12 +197,23 @@ refused-number n lent = (refl, refl)
 
 -- for the packaging data,
 pub refused-packaging : (n : ℕ)
-    → Packaging.shown (refused n) ≡ record { gross = pos 0; values = replicate 8 (pos 0); number = n; present = 0; units = replicate 9 0 }
+    → Packaging.shown (refused n) ≡ record {
+      gross = pos 0;
+      values = replicate 8 (pos 0);
+      number = n;
+      present = 0;
+      units = replicate 9 0;
+    }
 unfolding Packaging.shown
 refused-packaging n = refl
 
 -- and for a line's text, whose part is then empty.
-pub refused-text : (n : ℕ) → (Text.shown (refused n) ≡ record { place = 0; length = 0; number = n; book = 0 }) × (Text.part (refused n) ≡ [])
+pub refused-text : (n : ℕ) → (Text.shown (refused n) ≡ record {
+  place = 0;
+  length = 0;
+  number = n;
+  book = 0;
+}) × (Text.part (refused n) ≡ [])
 unfolding Text.shown Text.part
 refused-text n = (refl, refl)
 

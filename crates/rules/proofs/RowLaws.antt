@@ -102,7 +102,11 @@ placed-all : (k : ℕ) (names : List (List ℕ)) → All (Placed k names) (place
 placed-all k [] = tt
 placed-all k (c ∷ cs) =
     let e : suc k - suc k ≡ 0 = omega arith in (
-      record { above = omega arith; within = omega arith; name = sym (ap (λ (i : ℕ). map raise (getD (c ∷ cs) i [])) e) },
+      record {
+        above = omega arith;
+        within = omega arith;
+        name = sym (ap (λ (i : ℕ). map raise (getD (c ∷ cs) i [])) e);
+      },
       all-imply (placed-later k c cs) (placed (suc (suc k)) cs) (placed-all (suc k) cs),
     )
 
@@ -124,7 +128,11 @@ module _ (q : Question) where
   slots-at : (gs : List Grant) → All (λ g. Under q (g .place) (g .name)) gs → (level : ℕ) → All SlotFor (slotsAt gs level)
   slots-at gs hs level = (refl, each gs hs)
     where
-      each : (gs : List Grant) → All (λ g. Under q (g .place) (g .name)) gs → All SlotFor (map (λ g. record { level = level; place = g .place; condition = g .name }) gs)
+      each : (gs : List Grant) → All (λ g. Under q (g .place) (g .name)) gs → All SlotFor (map (λ g. record {
+        level = level;
+        place = g .place;
+        condition = g .name;
+      }) gs)
       each [] hs = tt
       each (g ∷ gs) hs = (hs .0, each gs (hs .1))
 

@@ -28,7 +28,11 @@ pub record FirstBytes (n : ℕ) (s v t : List ℕ) : Type 0 where
 pub bytes-first : (n : ℕ) (s v t : List ℕ) → bytes n s ≡ some (v, t) → FirstBytes n s v t
 bytes-first zero s v t e =
     let i = Option·some-injective ([], s) (v, t) e in
-    record { many = omega arith; are = sym (ap (λ (x : List ℕ × List ℕ). x .0) i); rest = sym (ap (λ (x : List ℕ × List ℕ). x .1) i) }
+    record {
+      many = omega arith;
+      are = sym (ap (λ (x : List ℕ × List ℕ). x .0) i);
+      rest = sym (ap (λ (x : List ℕ × List ℕ). x .1) i);
+    }
 bytes-first (suc n) [] v t e = absurd (Option·none-ne-some (v, t) e)
 bytes-first (suc n) (b ∷ s) v t e = go (bytes n s) (bytes-first n s) e
   where

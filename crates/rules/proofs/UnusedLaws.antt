@@ -163,7 +163,11 @@ module _ {n whole set k : ℕ} {g : Grant} {gs : List Grant} (w : Building n who
   pub building-with : Building n whole (2 ^ (g .place - 1) + set) (g .place) gs
   building-with =
       let h : k < g .place = w .rising .0 in
-      record { is = omega (arith, w .is); below = omega (arith, half k (g .place) h, building-room .1 .1); rising = w .rising .1 }
+      record {
+        is = omega (arith, w .is);
+        below = omega (arith, half k (g .place) h, building-room .1 .1);
+        rising = w .rising .1;
+      }
 
 -- of the grants that are left, those that pass a test: the first does, or it does not
 module _ (p : Grant → Bool) (g : Grant) (gs : List Grant) {n whole set k : ℕ} (w : Building n whole set k (keep p (g ∷ gs))) where

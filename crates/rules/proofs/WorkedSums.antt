@@ -154,7 +154,20 @@ more =
 -- a row of 2024 whose text has a number of four different bytes
 abbrev rowOf : List ℕ → ℕ → ℕ → Row
 rowOf article sort cents =
-    record { article = article; condition = []; sort = sort; level = base; rule = 1; text = 16_909_060; value = fixed (pos cents); currency = EUR; from = 20240101; to = 20241231; upTo = 0; rounding = 0 }
+    record {
+      article = article;
+      condition = [];
+      sort = sort;
+      level = base;
+      rule = 1;
+      text = 16_909_060;
+      value = fixed (pos cents);
+      currency = EUR;
+      from = 20240101;
+      to = 20241231;
+      upTo = 0;
+      rounding = 0;
+    }
 
 -- ten times a base, and a discount
 abbrev greatest : ℤ → ℤ → List ℕ

@@ -56,7 +56,20 @@ priceBody = do
   rounding ← number 2
   give
       (PriceRecord
-      (record { article = article; condition = condition; sort = sort; level = level; rule = rule; text = textNumber; value = value; currency = currency; from = from; to = to; upTo = upTo; rounding = rounding }))
+      (record {
+        article = article;
+        condition = condition;
+        sort = sort;
+        level = level;
+        rule = rule;
+        text = textNumber;
+        value = value;
+        currency = currency;
+        from = from;
+        to = to;
+        upTo = upTo;
+        rounding = rounding;
+      }))
 
 -- ---- kind 3: a rounding
 
@@ -72,7 +85,13 @@ roundingBody = do
   step ← number 4 such between 1 1_000_000
   before ← signed 4 such eitherSide 1_000_000
   after ← signed 4 such eitherSide 1_000_000
-  give (RoundingRecord (record { number = n; way = wayOf way; step = step; before = record { 0 = before }; after = record { 0 = after } }))
+  give (RoundingRecord (record {
+    number = n;
+    way = wayOf way;
+    step = step;
+    before = record { 0 = before };
+    after = record { 0 = after };
+  }))
 
 -- ---- kind 4: packaging
 
@@ -119,7 +138,13 @@ packagingBody = do
   volumeUnit ← unitFor (has 3 present) volumeUnits
   weightUnit ← unitFor (has 4 present || has 5 present) weightUnits
   _ ← must (not (same article star && eqb (length condition) 0))
-  give (PackagingRecord (record { article = article; condition = condition; present = present; values = values; units = lengthUnit ∷ volumeUnit ∷ weightUnit ∷ [] }))
+  give (PackagingRecord (record {
+    article = article;
+    condition = condition;
+    present = present;
+    values = values;
+    units = lengthUnit ∷ volumeUnit ∷ weightUnit ∷ [];
+  }))
 
 -- ---- kind 5: a scheme
 
@@ -149,7 +174,15 @@ schemeBody = do
   _ ← must (eqb trim 0 || keepsApart valueSeparator hidden unselected)
   give
       (SchemeRecord
-      (record { id = id; numberSeparator = numberSeparator; valueSeparator = valueSeparator; visibility = visibility; hidden = hidden; unselected = unselected; trim = trim }))
+      (record {
+        id = id;
+        numberSeparator = numberSeparator;
+        valueSeparator = valueSeparator;
+        visibility = visibility;
+        hidden = hidden;
+        unselected = unselected;
+        trim = trim;
+      }))
 
 -- ---- a record, and a book
 

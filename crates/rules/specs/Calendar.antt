@@ -36,7 +36,11 @@ pub record OutcomeIs (o : Outcome) (r : Declared.Outcome) : Type 0 where
   pub is : asOutcome r ≡ o
 
 unfoldable pub outcomeOf : Result Priced → Outcome
-outcomeOf r = record { refusal = numberOf r; currency = orZero noCurrency (λ p. p .currency) r; unit = orZero (pos 0) (λ p. total (p .lines)) r }
+outcomeOf r = record {
+  refusal = numberOf r;
+  currency = orZero noCurrency (λ p. p .currency) r;
+  unit = orZero (pos 0) (λ p. total (p .lines)) r;
+}
 
 -- each day is priced alone
 unfoldable pub outcome : List Record → Question → ℕ → Outcome

@@ -25,7 +25,8 @@ pub record Slot : Type 0 where
 
 -- at a level, first the unconditioned component, then that of each granted name
 abbrev pub slotsAt : List Grant → ℕ → List Slot
-slotsAt gs level = record { level = level; place = 0; condition = [] } ∷ map (λ g. record { level = level; place = g .place; condition = g .name }) gs
+slotsAt gs level =
+    record { level = level; place = 0; condition = [] } ∷ map (λ g. record { level = level; place = g .place; condition = g .name }) gs
 
 -- base, then surcharges, then discounts
 unfoldable pub slots : List Grant → List Slot
@@ -79,7 +80,11 @@ percentOf rule before = cond (eqb rule 1) (baseSum before) (total before)
 -- the line that a chosen row brings behind those before it
 unfoldable pub lineAfter : List Rounding → List Line → Chosen → Line
 lineAfter rs before c =
-    record { place = c .place; row = c .row; amount = rounded (roundingFor (c .row .rounding) rs) (exact (c .row .value) (percentOf (c .row .rule) before)) }
+    record {
+      place = c .place;
+      row = c .row;
+      amount = rounded (roundingFor (c .row .rounding) rs) (exact (c .row .value) (percentOf (c .row .rule) before));
+    }
 
 unfoldable pub linesAfter : List Rounding → List Line → List Chosen → List Line
 unfolding lineAfter

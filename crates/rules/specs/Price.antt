@@ -62,7 +62,13 @@ pub record Answer : Type 0 where
 
 unfoldable pub answerOf : Question → Priced → Answer
 answerOf q p =
-    record { unit = total (p .lines); total = pos (q .quantity) *ℤ total (p .lines); currency = p .currency; lines = p .lines; unused = unusedOf q (p .lines) }
+    record {
+      unit = total (p .lines);
+      total = pos (q .quantity) *ℤ total (p .lines);
+      currency = p .currency;
+      lines = p .lines;
+      unused = unusedOf q (p .lines);
+    }
 
 -- what goes to the front of the lent output
 abbrev pub written : Answer → List ℕ

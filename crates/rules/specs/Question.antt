@@ -72,7 +72,15 @@ questionLayout lent = do
   granted ← times conditions (name 1 20)
   count ← byte such between 0 32
   properties ← times count property
-  give (record { article = article; sort = sort; currency = askedOf currency; date = date; quantity = quantity; granted = granted; properties = properties })
+  give (record {
+    article = article;
+    sort = sort;
+    currency = askedOf currency;
+    date = date;
+    quantity = quantity;
+    granted = granted;
+    properties = properties;
+  })
 
 unfoldable pub questionOf : List ℕ → Option Question
 questionOf s = whole (questionLayout (length s)) s
@@ -80,7 +88,15 @@ questionOf s = whole (questionLayout (length s)) s
 -- ---- the same question on another day
 
 unfoldable pub on : Question → ℕ → Question
-on q d = record { article = q .article; sort = q .sort; currency = q .currency; date = d; quantity = q .quantity; granted = q .granted; properties = q .properties }
+on q d = record {
+  article = q .article;
+  sort = q .sort;
+  currency = q .currency;
+  date = d;
+  quantity = q .quantity;
+  granted = q .granted;
+  properties = q .properties;
+}
 
 -- and its bytes: the date stands behind length, version, article, sort and currency
 abbrev pub dateAt : Question → ℕ

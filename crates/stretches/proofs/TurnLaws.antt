@@ -80,7 +80,11 @@ module _ {f : ℕ → Outcome} {hand : Declared.Stretch} {d : ℕ} where
   unfolding Walk.turned
   grown l e =
       let s : sameOutcome (asOutcome (hand .outcome)) (f d) ≡ true = same-outcome (asOutcome (hand .outcome)) (f d) e in
-      record { most = omega arith; fresh = rw s; is = rw s (l .is ∙ (λ i. record { first = hand .first .0; last = d; outcome = e i })) }
+      record {
+        most = omega arith;
+        fresh = rw s;
+        is = rw s (l .is ∙ (λ i. record { first = hand .first .0; last = d; outcome = e i }));
+      }
 
   turned-quiet : {due : Bool} {r : Declared.Stretch} → Steady f hand d due → due ≡ false → Longer hand d r → Turned f hand d (record { stretch = r; fresh = 0 })
   turned-quiet s e l = grown l (s .stays e)

@@ -26,7 +26,11 @@ recordOf s =
     record {
       first = record { 0 = s .first };
       last = record { 0 = s .last };
-      outcome = record { unit = record { 0 = s .outcome .unit }; refusal = s .outcome .refusal; currency = currencyOf (s .outcome .currency) };
+      outcome = record {
+        unit = record { 0 = s .outcome .unit };
+        refusal = s .outcome .refusal;
+        currency = currencyOf (s .outcome .currency);
+      };
     }
 
 abbrev pub noStretch : Declared.Stretch

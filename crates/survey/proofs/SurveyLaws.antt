@@ -118,7 +118,11 @@ module _ (b article : List ℕ) (sort : ℕ) where
     pub survey-end : length b ≤ at → SurveyIs b article sort (record { ok = true; found = found })
     survey-end h =
         let ok : true ≡ isSome (records b) = Book.walk-end (inv .decides) h in
-        record { ok = ok; found = λ t. find-end b article sort (inv .passed (sym ok)) h; empty = λ t. absurd (false≢true (sym t)) }
+        record {
+          ok = ok;
+          found = λ t. find-end b article sort (inv .passed (sym ok)) h;
+          empty = λ t. absurd (false≢true (sym t));
+        }
 
     module _ (h : at < length b) {end : ℕ} (e : RecordEnd b at end) where
       pub survey-bad : end < 1 → SurveyIs b article sort (record { ok = false; found = nothing })

@@ -88,7 +88,11 @@ module _ {w : List ℕ} {b : ℕ} (fits : b ≤ length w) where
       from-record (take b w) a k (front-record s h) ∙ (λ i. inFront (first i) (run-records x i))
 
   run-between : {a : ℕ} {rs : List Record} → 5 ≤ a → Run w b a rs → Between (take b w) a
-  run-between l x = record { low = l; fits = omega (arith, length-take-le b w fits, run-le x); ok = ap isSome (run-records x) }
+  run-between l x = record {
+    low = l;
+    fits = omega (arith, length-take-le b w fits, run-le x);
+    ok = ap isSome (run-records x);
+  }
 
 -- ---- records that count
 

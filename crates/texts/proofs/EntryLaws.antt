@@ -61,14 +61,22 @@ module _ (s : List ℕ) (at : ℕ) where
         m : ℕ
         m = big (take 2 (drop (at + 4) s))
 
-        is : Reads (entry (length s)) s at true (record { number = big (take 4 (drop at s)); start = length s - (length s - (at + 6)); text = take m (drop (at + 6) s) }) (at + 6 + m)
+        is : Reads (entry (length s)) s at true (record {
+          number = big (take 4 (drop at s));
+          start = length s - (length s - (at + 6));
+          text = take m (drop (at + 6) s);
+        }) (at + 6 + m)
         is =
             then-reads _ _ (number-at s at 4 (omega arith))
             (then-reads _ _ (number-reads s at 2 4 (omega arith))
             (then-reads left (behind (length s) (big (take 4 (drop at s))) m) (left-reads s (at + 6) (omega arith))
             (then-reads _ _ (bytes-at s (at + 6) m (omega (arith, size .is))) give-reads)))
 
-        same : record { number = big (take 4 (drop at s)); start = length s - (length s - (at + 6)); text = take m (drop (at + 6) s) } ≡ entryAt s at (at + 6 + n)
+        same : record {
+          number = big (take 4 (drop at s));
+          start = length s - (length s - (at + 6));
+          text = take m (drop (at + 6) s);
+        } ≡ entryAt s at (at + 6 + n)
         same =
             let start : length s - (length s - (at + 6)) ≡ at + 6 = omega arith in
             let long : m ≡ at + 6 + n - (at + 6) = omega (arith, size .is) in

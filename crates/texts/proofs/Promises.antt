@@ -20,7 +20,12 @@ abbrev InOne : TextAnswer → Type 0
 InOne a = a .number ≡ 0 → (a .book ≡ 1) ⊎ (a .book ≡ 2)
 
 abbrev Zeros : TextAnswer → Type 0
-Zeros a = (a .number ≡ 0 → ⊥) → ((a .number ≡ 1) ⊎ (a .number ≡ 12)) × (a ≡ record { place = 0; length = 0; number = a .number; book = 0 })
+Zeros a = (a .number ≡ 0 → ⊥) → ((a .number ≡ 1) ⊎ (a .number ≡ 12)) × (a ≡ record {
+  place = 0;
+  length = 0;
+  number = a .number;
+  book = 0;
+})
 
 in-one : (x : Result Found) → OneOfTwo x → InOne (shown x)
 unfolding shown
@@ -48,7 +53,12 @@ module _ (s t : List ℕ) (n : ℕ) {a : TextAnswer} (e : a ≡ shown (text s t 
   found-in-one = subst InOne (sym e) (in-one (text s t n) (text-refused s t n))
 
   -- Any other number is 1 or 12, and the answer beside it is all zeros.
-  pub refused-with-zeros : (a .number ≡ 0 → ⊥) → ((a .number ≡ 1) ⊎ (a .number ≡ 12)) × (a ≡ record { place = 0; length = 0; number = a .number; book = 0 })
+  pub refused-with-zeros : (a .number ≡ 0 → ⊥) → ((a .number ≡ 1) ⊎ (a .number ≡ 12)) × (a ≡ record {
+    place = 0;
+    length = 0;
+    number = a .number;
+    book = 0;
+  })
   refused-with-zeros = subst Zeros (sym e) (zeros (text s t n) (text-refused s t n))
 
   -- There is one answer: two that the contract allows are the same.
