@@ -1,8 +1,9 @@
-//! Makes cases: a book, a question, a period, text books, and how much room is lent.
+//! Makes cases: a book, a question, a period, text books, a basket of questions, and how much room is lent.
 //!
 //! Values come from small pools, so that rows, names and dates meet each other all the time, and
 //! the pools hold what lies at a bound and next to it. A part of the cases is damaged.
 
+use crate::basket::ANSWER_LENGTH;
 use crate::days::{day_before, is_day, next_day, period};
 use crate::make::{self, latin1, Article, Packaging, Price, Property, Question, Record, Rounding, Scheme, TextRecord};
 use crate::random::Random;
@@ -16,6 +17,7 @@ pub struct Case {
     pub asked: Vec<TextRecord>,
     pub fallback: Vec<TextRecord>,
     pub text_number: u32,
+    pub basket: Vec<Question>,
     /// Done to the finished bytes, in this order.
     pub damages: Vec<(Target, Damage)>,
     pub rooms: Rooms,
@@ -28,6 +30,7 @@ pub struct Rooms {
     pub calendar: Room,
     pub list: Room,
     pub number: Room,
+    pub basket: Room,
 }
 
 #[derive(Debug, Clone, Copy)]
@@ -47,6 +50,9 @@ pub enum Target {
     Asked,
     Fallback,
     Program,
+    /// One question of the basket, by its place.
+    InBasket(usize),
+    Basket,
 }
 
 /// Places are taken modulo the length, so that a case can shrink under its damage.
@@ -82,6 +88,7 @@ pub struct Inputs {
     pub fallback: Vec<u8>,
     pub text_number: u32,
     pub program: Vec<u8>,
+    pub basket: Vec<u8>,
 }
 
 impl Room {
@@ -156,7 +163,7 @@ impl Case {
     pub fn inputs(&self) -> Inputs {
         let damaged = |target: Target, mut bytes: Vec<u8>| {
             for (at, damage) in &self.damages {
-                if *at == target {
+                if self.meant(*at) == target {
                     damage.apply(&mut bytes);
                 }
             }
@@ -165,6 +172,8 @@ impl Case {
         let book = damaged(Target::Book, make::book(&self.book));
         let question = damaged(Target::Question, make::question(&self.question));
         let program = [&book[..], &question[..], &self.end.to_be_bytes()[..]].concat();
+        let in_basket = |(place, question)| damaged(Target::InBasket(place), make::question(question));
+        let basket = self.basket.iter().enumerate().flat_map(in_basket).collect();
         Inputs {
             program: damaged(Target::Program, program),
             book,
@@ -173,6 +182,15 @@ impl Case {
             asked: damaged(Target::Asked, make::text_book(&self.asked)),
             fallback: damaged(Target::Fallback, make::text_book(&self.fallback)),
             text_number: self.text_number,
+            basket: damaged(Target::Basket, basket),
+        }
+    }
+
+    /// What is damaged once the basket has shrunk.
+    fn meant(&self, target: Target) -> Target {
+        match target {
+            Target::InBasket(place) if !self.basket.is_empty() => Target::InBasket(place % self.basket.len()),
+            _ => target,
         }
     }
 }
@@ -197,8 +215,15 @@ pub fn plain_case() -> Case {
         asked: vec![TextRecord::new(1, b"one"), TextRecord::new(2, b"two")],
         fallback: vec![TextRecord::new(3, b""), TextRecord::new(1, b"uno")],
         text_number: 1,
+        basket: vec![Question::new("A1", 20240229).granted(&["elm"]).hidden(1), Question::new("A2", 20240229)],
         damages: Vec::new(),
-        rooms: Rooms { price: Room::Longer(30), calendar: Room::Longer(40), list: Room::Longer(2), number: Room::Longer(9) },
+        rooms: Rooms {
+            price: Room::Longer(30),
+            calendar: Room::Longer(40),
+            list: Room::Longer(2),
+            number: Room::Longer(9),
+            basket: Room::Longer(20),
+        },
     }
 }
 
@@ -323,7 +348,7 @@ impl Scene {
         let mut question = Question {
             article: self.article.clone(),
             sort: self.sort,
-            currency: self.random.weighted(&[(60, *b"EUR"), (20, *b"USD"), (20, [0; 3])]),
+            currency: self.asked_currency(),
             date: self.date,
             quantity: self.quantity,
             granted,
@@ -338,16 +363,14 @@ impl Scene {
                 self.damage(&mut book, &mut question, &mut damages);
             }
         }
-        Case {
-            book,
-            question,
-            end: self.end,
-            asked,
-            fallback,
-            text_number: self.random.pick(&TEXT_NUMBERS),
-            damages,
-            rooms: Rooms { price: self.room(14 * 40), calendar: self.room(20 * 40), list: self.room(40), number: self.room(200) },
+        let text_number = self.random.pick(&TEXT_NUMBERS);
+        let (price, calendar, list, number) = (self.room(14 * 40), self.room(20 * 40), self.room(40), self.room(200));
+        let mut basket = self.basket();
+        if self.random.percent(14) {
+            self.damage_basket(&mut basket, &mut damages);
         }
+        let rooms = Rooms { price, calendar, list, number, basket: self.basket_room(basket.len()) };
+        Case { book, question, end: self.end, asked, fallback, text_number, basket, damages, rooms }
     }
 
     fn room(&mut self, greatest: usize) -> Room {
@@ -732,6 +755,10 @@ impl Scene {
         Property { width, state, value }
     }
 
+    fn asked_currency(&mut self) -> [u8; 3] {
+        self.random.weighted(&[(60, *b"EUR"), (20, *b"USD"), (20, [0; 3])])
+    }
+
     fn texts(&mut self) -> Vec<TextRecord> {
         (0..self.random.below(6))
             .map(|_| {
@@ -741,7 +768,74 @@ impl Scene {
             .collect()
     }
 
+    // The basket.
+
+    /// A few questions, now and then about as many as there may be, or so many that a byte cannot count them.
+    fn basket(&mut self) -> Vec<Question> {
+        if self.random.percent(1) {
+            let count = self.random.pick(&[199, 200, 200, 201, 201, 256, 257]);
+            return (0..count).map(|_| self.short_question()).collect();
+        }
+        let count = self.random.weighted(&[(8, 0), (17, 1), (25, 2), (25, 3), (15, 4), (10, 6)]);
+        (0..count).map(|_| self.basket_question()).collect()
+    }
+
+    fn basket_question(&mut self) -> Question {
+        let granted = self.granted();
+        let properties = if self.random.percent(20) { self.properties() } else { Vec::new() };
+        Question { granted, properties, ..self.short_question() }
+    }
+
+    /// A question about the case's rows, or next to them, that grants one name at most.
+    fn short_question(&mut self) -> Question {
+        let sort = if self.random.percent(95) { self.sort } else { self.random.pick(b"SP") };
+        let date = if self.random.percent(50) { self.date } else { self.random.pick(&self.days) };
+        let quantity = if self.random.percent(60) { self.quantity } else { self.random.pick(&[1, 2, 9, 10, 11, 99_999, 100_000]) };
+        Question {
+            article: self.row_article(),
+            sort,
+            currency: self.asked_currency(),
+            date,
+            quantity,
+            granted: (0..self.random.below(2)).map(|_| self.granted_name()).collect(),
+            properties: Vec::new(),
+        }
+    }
+
+    /// Sometimes the answers would have room, but the lines would not.
+    fn basket_room(&mut self, questions: usize) -> Room {
+        if self.random.percent(8) {
+            return Room::Any(questions * ANSWER_LENGTH);
+        }
+        self.room(6 * ANSWER_LENGTH + 14 * 40)
+    }
+
     // Damage.
+
+    /// Spoils a question of the basket, or the finished bytes of one or of all.
+    fn damage_basket(&mut self, basket: &mut [Question], damages: &mut Vec<(Target, Damage)>) {
+        let place = self.random.below(basket.len());
+        let one = Target::InBasket(place);
+        match self.random.below(6) {
+            0 | 1 if !basket.is_empty() => self.spoil_question(&mut basket[place]),
+            2 if !basket.is_empty() => damages.push((one, self.wrong_length(&basket[place..]))),
+            3 | 4 if !basket.is_empty() => {
+                damages.push((one, self.byte_damage()));
+                if self.random.percent(50) {
+                    damages.push((one, Damage::MendLength));
+                }
+            }
+            _ => damages.push((Target::Basket, self.byte_damage())),
+        }
+    }
+
+    /// A length in front of the first of some questions that is next to the right one, or leads over those behind it, to their
+    /// end or beyond it.
+    fn wrong_length(&mut self, questions: &[Question]) -> Damage {
+        let own = make::question(&questions[0]).len() as u32;
+        let all = make::basket(questions).len() as u32;
+        Damage::SetLength(self.random.pick(&[4, 20, own - 1, own + 1, all, all + 1]))
+    }
 
     fn damage(&mut self, book: &mut Vec<Record>, question: &mut Question, damages: &mut Vec<(Target, Damage)>) {
         let target = self.random.weighted(&[

@@ -5,6 +5,7 @@
 //! another one, so the only thing that counts is that each rule can be recognised in the code.
 
 pub mod answers;
+pub mod basket;
 pub mod book;
 pub mod calendar;
 pub mod calls;
@@ -26,6 +27,7 @@ pub mod shrink;
 pub mod texts;
 
 pub use answers::{CalendarAnswer, PackagingAnswer, PriceAnswer, Stretch, TextAnswer, Written};
+pub use basket::basket;
 pub use book::book_ok;
 pub use calendar::{calendar, calendar_list};
 pub use number::final_number;

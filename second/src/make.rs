@@ -136,6 +136,11 @@ pub fn question(question: &Question) -> Vec<u8> {
     whole(&content)
 }
 
+/// Questions laid end to end.
+pub fn basket(questions: &[Question]) -> Vec<u8> {
+    questions.iter().flat_map(question).collect()
+}
+
 pub fn text_book(records: &[TextRecord]) -> Vec<u8> {
     let mut content = Vec::new();
     for record in records {

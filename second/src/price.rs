@@ -45,14 +45,19 @@ pub fn price(book: &[u8], question: &[u8], out: &mut [u8]) -> PriceAnswer {
 fn try_price(book: &[u8], question: &[u8], out: &mut [u8]) -> Result<PriceAnswer, u8> {
     let book = Book::read(book).ok_or(BAD_BOOK)?;
     let question = Question::read(question).ok_or(BAD_QUESTION)?;
-    book.article(&question.article).ok_or(NO_ARTICLE)?;
-    let priced = price_on(&book, &question, question.date)?;
-
-    let written: Vec<u8> = priced.lines.iter().flat_map(|line| line.bytes()).collect();
-    if out.len() < written.len() {
+    let (answer, lines) = answered(&book, &question)?;
+    if out.len() < lines.len() {
         return Err(TOO_LITTLE_ROOM);
     }
-    out[..written.len()].copy_from_slice(&written);
+    out[..lines.len()].copy_from_slice(&lines);
+    Ok(answer)
+}
+
+/// The answer to a question and the bytes of its lines, or one of the refusals 3 to 6.
+pub fn answered(book: &Book, question: &Question) -> Result<(PriceAnswer, Vec<u8>), u8> {
+    book.article(&question.article).ok_or(NO_ARTICLE)?;
+    let priced = price_on(book, question, question.date)?;
+    let lines = priced.lines.iter().flat_map(|line| line.bytes()).collect();
 
     let mut unused = 0;
     let mut unused_count = 0;
@@ -62,7 +67,7 @@ fn try_price(book: &[u8], question: &[u8], out: &mut [u8]) -> Result<PriceAnswer
             unused_count += 1;
         }
     }
-    Ok(PriceAnswer {
+    let answer = PriceAnswer {
         unit: priced.unit,
         total: priced.unit * i64::from(question.quantity),
         lines: priced.lines.len() as u64,
@@ -70,7 +75,8 @@ fn try_price(book: &[u8], question: &[u8], out: &mut [u8]) -> Result<PriceAnswer
         unused_count,
         number: DONE,
         currency: priced.currency,
-    })
+    };
+    Ok((answer, lines))
 }
 
 impl Line {

@@ -3,6 +3,7 @@
 use crate::book::book_ok;
 use crate::calendar::stretches;
 use crate::question::question_ok;
+use crate::reader::split_off;
 use crate::refusal::{BAD_BOOK, BAD_PERIOD, BAD_QUESTION};
 
 const LONGEST_INPUT: usize = 65_536;
@@ -38,11 +39,4 @@ fn print_stretches(input: &[u8]) -> Result<Vec<u8>, u8> {
         printed.extend(line.into_bytes());
     }
     Ok(printed)
-}
-
-/// Splits off the front part that begins with its own length; `None` if it is cut.
-fn split_off(bytes: &[u8]) -> Option<(&[u8], &[u8])> {
-    let field: [u8; 4] = bytes.get(..4)?.try_into().ok()?;
-    let length = usize::try_from(u32::from_be_bytes(field)).ok()?;
-    (length <= bytes.len()).then(|| bytes.split_at(length))
 }

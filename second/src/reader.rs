@@ -86,3 +86,10 @@ pub fn opened(bytes: &[u8]) -> Option<Reader<'_>> {
     let version = reader.byte()?;
     (u64::from(length) == bytes.len() as u64 && version == 1).then_some(reader)
 }
+
+/// Splits off the front part that begins with its own length; `None` if it is cut.
+pub fn split_off(bytes: &[u8]) -> Option<(&[u8], &[u8])> {
+    let field: [u8; 4] = bytes.get(..4)?.try_into().ok()?;
+    let length = usize::try_from(u32::from_be_bytes(field)).ok()?;
+    (length <= bytes.len()).then(|| bytes.split_at(length))
+}

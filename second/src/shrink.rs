@@ -7,7 +7,7 @@ use crate::cases::Case;
 /// Very big cases take long to try; what is reached after this time is small enough.
 const LONGEST: Duration = Duration::from_secs(10);
 
-/// Leaves out records, names, properties, texts and damages while `still` holds.
+/// Leaves out records, names, properties, texts, questions of the basket and damages while `still` holds.
 pub fn shrunk(case: &Case, still: &dyn Fn(&Case) -> bool) -> Case {
     let started = Instant::now();
     let late = || started.elapsed() >= LONGEST;
@@ -20,6 +20,11 @@ pub fn shrunk(case: &Case, still: &dyn Fn(&Case) -> bool) -> Case {
         smaller |= drop_parts(&mut best, |case| &mut case.question.properties, still, &late);
         smaller |= drop_parts(&mut best, |case| &mut case.asked, still, &late);
         smaller |= drop_parts(&mut best, |case| &mut case.fallback, still, &late);
+        smaller |= drop_parts(&mut best, |case| &mut case.basket, still, &late);
+        for place in 0..best.basket.len() {
+            smaller |= drop_parts(&mut best, |case| &mut case.basket[place].granted, still, &late);
+            smaller |= drop_parts(&mut best, |case| &mut case.basket[place].properties, still, &late);
+        }
         if best.end != best.question.date {
             let mut one_day = best.clone();
             one_day.end = one_day.question.date;

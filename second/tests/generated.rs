@@ -4,6 +4,7 @@
 mod broken;
 
 use broken::Broken;
+use second::basket::parts;
 use second::calls::Second;
 use second::cases::{plain_case, Case};
 use second::compare::{compare, run, Call, Plan, ALL_CALLS};
@@ -54,6 +55,31 @@ fn every_number_comes_up() {
 }
 
 #[test]
+fn every_number_of_a_basket_comes_up() {
+    let mut seen = [0u32; 13];
+    let mut seen_of_questions = [0u32; 13];
+    let mut counts = Vec::new();
+    for index in 0..1_500 {
+        let case = Case::generate_small(3, index);
+        let inputs = case.inputs();
+        let parts = parts(&inputs.book, &inputs.basket).unwrap_or_default();
+        let needed = parts.iter().map(|part| 33 + part.lines.len()).sum();
+        let mut out = vec![0; case.rooms.basket.size(needed)];
+        let written = second::basket(&inputs.book, &inputs.basket, &mut out);
+        seen[usize::from(written.number)] += 1;
+        for part in &parts {
+            seen_of_questions[usize::from(part.answer.number)] += 1;
+        }
+        counts.push(parts.len());
+    }
+    for number in 0..13 {
+        assert_eq!([0, 1, 2, 7].contains(&number), seen[number] >= 15, "{number}: {seen:?}");
+        assert_eq!([0, 3, 4, 5, 6].contains(&number), seen_of_questions[number] >= 15, "{number}: {seen_of_questions:?}");
+    }
+    assert!([0, 1, 2, 3, 4, 6, 200].iter().all(|count| counts.contains(count)));
+}
+
+#[test]
 fn shrinking_keeps_only_what_matters() {
     let case = plain_case();
     let base_price = |case: &Case| {
@@ -65,7 +91,25 @@ fn shrinking_keeps_only_what_matters() {
     assert_eq!(small.book.len(), 2);
     assert!(small.question.granted.is_empty() && small.question.properties.is_empty());
     assert!(small.asked.is_empty() && small.fallback.is_empty());
+    assert!(small.basket.is_empty());
     assert_eq!(small.end, small.question.date);
+}
+
+#[test]
+fn shrinking_keeps_the_question_of_a_basket_that_matters() {
+    let mut case = plain_case();
+    case.basket = vec![case.question.clone(); 200];
+    case.basket[150].quantity = 9;
+    let of_nine = |case: &Case| {
+        let inputs = case.inputs();
+        let parts = parts(&inputs.book, &inputs.basket).unwrap_or_default();
+        parts.iter().any(|part| part.answer.total > part.answer.unit)
+    };
+    let small = shrunk(&case, &of_nine);
+    assert_eq!(small.basket.len(), 1);
+    assert_eq!(small.basket[0].quantity, 9);
+    assert!(small.basket[0].granted.is_empty() && small.basket[0].properties.is_empty());
+    assert_eq!(small.book.len(), 2);
 }
 
 /// The first of many cases on which a broken price call is noticed, made small.
