@@ -20,7 +20,7 @@ use Rattle.layout.specs.Ensures.{Accepts, Number, Says}
 use Rattle.layout.proofs.LayoutLaws.{andThen-some, then-rest, then-broken, then-when, if-reads, bytes-cut, number-at, number-cut, sized-number}
 use Rattle.layout.proofs.FromLaws.{head-reads, head-cut}
 use Rattle.layout.proofs.SequenceLaws.{repeated-step, repeated-broken, framed-at, framed-left}
-use Rattle.book.specs.Records.{recordIn, recordsFrom}
+use Rattle.layout.specs.Records.{recordIn, recordsFrom}
 use Rattle.book.specs.Ensures.{RecordEnd, Decides, headerOk}
 
 -- ---- a record at a place

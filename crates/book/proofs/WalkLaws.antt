@@ -18,8 +18,8 @@ use Rattle.rules.specs.BookLayout.{kinded, records, mostBytes}
 use Rattle.rules.proofs.TestLaws.{and-left, and-right}
 use Rattle.layout.specs.Reads.{when, part}
 use Rattle.layout.specs.Ensures.{Number}
-use Rattle.book.specs.Records.{recordIn, recordsFrom, recordStop, listed, recordsOf, recordsLeft}
-use Rattle.book.specs.Ensures.{RecordEnd, RecordHere, StopIs, Between, headerOk}
+use Rattle.layout.specs.Records.{recordIn, recordsFrom, recordStop, listed, recordsOf, recordsLeft, RecordHere, StopIs, Between}
+use Rattle.book.specs.Ensures.{RecordEnd, headerOk}
 use Rattle.book.proofs.BookLaws.{record-short, record-cut, record-good, record-bad, nothing-in, inFront, front-some, from-end, from-record, header-short, records-are}
 
 -- ---- a record's end

@@ -2,15 +2,14 @@
 use Prim.Native.Nat.{ℕ, _+_, _≤_, _<_}
 use mathlib.Core.Path.{_≡_}
 use mathlib.Core.List.{List}
-use mathlib.Core.Bool.{Bool, true, _&&_}
+use mathlib.Core.Bool.{Bool, _&&_}
 use lib.Dec.{eqb, leb, ltb}
 use lib.ListN.{length, take, drop, getD}
 use Rattle.rules.specs.Lists.{isSome}
-use Rattle.rules.specs.Layout.{back, whole}
+use Rattle.rules.specs.Layout.{back}
 use Rattle.rules.specs.Bytes.{big}
-use Rattle.rules.specs.BookLayout.{kinded, oneRecord, records, mostBytes}
-use Rattle.layout.specs.Reads.{part}
-use Rattle.book.specs.Records.{recordIn, recordsFrom, recordStop}
+use Rattle.rules.specs.BookLayout.{oneRecord, records, mostBytes}
+use Rattle.layout.specs.Records.{recordIn, recordsFrom, recordStop}
 
 -- ---- the header
 
@@ -28,27 +27,9 @@ pub record RecordEnd (b : List ℕ) (at r : ℕ) : Type 0 where
   pub stop : 0 < r → r ≡ recordStop b at
   pub fits : r ≤ length b
 
--- an accepted record stands at `at`
-pub record RecordHere (b : List ℕ) (at : ℕ) : Type 0 where
-  pub fits : recordStop b at ≤ length b
-  pub ok : isSome (whole kinded (part b (at + 2) (recordStop b at))) ≡ true
-
--- `r` is where it ends
-pub record StopIs (b : List ℕ) (at r : ℕ) : Type 0 where
-  pub is : r ≡ recordStop b at
-  pub low : at + 2 < r
-  pub fits : r ≤ length b
-  pub ok : isSome (whole kinded (part b (at + 2) r)) ≡ true
-
 -- ---- a pass over the records
 
 -- the records from `at` on decide about the whole book
 pub record Decides (b : List ℕ) (at : ℕ) : Type 0 where
   pub fits : at ≤ length b
   pub rest : isSome (recordsFrom b at) ≡ isSome (records b)
-
--- a pass over an accepted book stands at `at`, between two records or at an end
-pub record Between (b : List ℕ) (at : ℕ) : Type 0 where
-  pub low : 5 ≤ at
-  pub fits : at ≤ length b
-  pub ok : isSome (recordsFrom b at) ≡ true

@@ -8,7 +8,8 @@ ghost use lib.ListN.{length};
 ghost use Rattle.rules.specs.Lists.{isSome};
 ghost use Rattle.rules.specs.BookLayout.{records};
 ghost use Rattle.layout.specs.Ensures.{Says};
-ghost use Rattle.book.specs.Ensures.{RecordEnd, RecordHere, StopIs, headerOk};
+ghost use Rattle.layout.specs.Records.{RecordHere, StopIs};
+ghost use Rattle.book.specs.Ensures.{RecordEnd, headerOk};
 
 pub fn header_ok(b: &[u8]) -> bool
     ensures { λ r. ⌜ Says (headerOk (now (b .entry))) r ⌝ }

@@ -20,8 +20,7 @@ use Rattle.rules.proofs.AlikeLaws.{same-changes}
 use Rattle.rules.proofs.StaysLaws.{stays-next}
 use Rattle.rules.proofs.CalendarLaws.{period-days, period-end, period-count}
 use Rattle.layout.proofs.StoreLaws.{all-same}
-use Rattle.book.specs.Records.{recordsLeft}
-use Rattle.book.specs.Ensures.{Between}
+use Rattle.layout.specs.Records.{recordsLeft, Between}
 use Rattle.question.specs.declared.Ask.{Ask}
 use Rattle.question.specs.declared.Terms.{Terms}
 use Rattle.question.specs.Parts.{namesAt, NamesStand}

@@ -25,7 +25,7 @@ use Rattle.rules.proofs.GivesLaws.{Gives, gives-field, gives-any, gives-if, giv
 use Rattle.rules.proofs.CallLaws.{priced-range}
 use Rattle.rules.proofs.LinesLaws.{line-rows}
 use Rattle.amounts.proofs.TotalLaws.{total-in-range, total-is-sum}
-use Rattle.book.specs.Records.{recordsLeft, listed}
+use Rattle.layout.specs.Records.{recordsLeft, listed}
 use Rattle.kinds.proofs.PartsLaws.{record-is}
 use Rattle.book.proofs.WalkLaws.{all-left}
 use Rattle.records.proofs.FieldLaws.{kind-byte}

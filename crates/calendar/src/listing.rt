@@ -13,7 +13,7 @@ use survey::window::Window;
 ghost use Prim.Native.Nat.{_<_};
 ghost use lib.ListN.{length};
 ghost use Rattle.rules.specs.Calendar.{outcome, stretches};
-ghost use Rattle.book.specs.Records.{recordsLeft};
+ghost use Rattle.layout.specs.Records.{recordsLeft};
 ghost use Rattle.question.specs.Asked.{askIn, AskIs};
 ghost use Rattle.survey.specs.Window.{Windows};
 ghost use Rattle.survey.specs.Survey.{FoundIs};

@@ -19,8 +19,7 @@ use Rattle.rules.proofs.TestLaws.{or-false}
 use Rattle.rules.proofs.BestLaws.{inHand}
 use Rattle.rules.proofs.KindLaws.{rowKind, read-only}
 use Rattle.rules.proofs.ChoiceLaws as Choice
-use Rattle.book.specs.Records.{recordsLeft}
-use Rattle.book.specs.Ensures.{Between, RecordHere, StopIs}
+use Rattle.layout.specs.Records.{recordsLeft, Between, RecordHere, StopIs}
 use Rattle.book.proofs.WalkLaws.{pass-here, pass-next, pass-record, pass-end}
 use Rattle.records.specs.Tests as Tests
 use Rattle.question.specs.declared.Terms.{Terms}

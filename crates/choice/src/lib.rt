@@ -9,8 +9,7 @@ use crate::passing::passing;
 use book::record_stop;
 use question::Terms;
 ghost use Rattle.rules.specs.Book.{rows};
-ghost use Rattle.book.specs.Records.{recordsLeft};
-ghost use Rattle.book.specs.Ensures.{Between};
+ghost use Rattle.layout.specs.Records.{recordsLeft, Between};
 ghost use Rattle.grants.specs.Asks.{Tabled};
 ghost use Rattle.choice.specs.Walk.{SlotsFor};
 

@@ -10,7 +10,7 @@ use Rattle.rules.specs.Question.{Question}
 use Rattle.rules.specs.FinalNumber.{finalNumber, numberBy, shown, lentAfterNumber}
 use Rattle.rules.specs.declared.Part.{Part}
 use Rattle.rules.specs.declared.Written.{Written}
-use Rattle.book.specs.Records.{recordsOf}
+use Rattle.layout.specs.Records.{recordsOf}
 use Rattle.records.specs.Asks.{OfKind}
 use Rattle.records.specs.Ensures.{bytesIn}
 use Rattle.lookup.specs.Ensures.{articleHeld, schemeHeld}

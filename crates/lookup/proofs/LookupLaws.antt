@@ -22,8 +22,7 @@ use Rattle.rules.proofs.KindLaws.{roundingKind, list-all}
 use Rattle.rules.proofs.GivesLaws.{Gives, gives-field, gives-any, gives-value, whole-gives}
 use Rattle.layout.specs.Reads.{part}
 use Rattle.layout.specs.Ensures.{Number}
-use Rattle.book.specs.Records.{recordsFrom, recordStop, listed, recordsLeft}
-use Rattle.book.specs.Ensures.{Between, RecordHere, StopIs}
+use Rattle.layout.specs.Records.{recordsFrom, recordStop, listed, recordsLeft, Between, RecordHere, StopIs}
 use Rattle.book.proofs.BookLaws.{from-end}
 use Rattle.book.proofs.WalkLaws.{pass-end, pass-here, pass-less, pass-next, pass-record}
 use Rattle.records.specs.Asks.{Accepted, OfKind}

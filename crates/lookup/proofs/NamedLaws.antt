@@ -15,8 +15,7 @@ use Rattle.rules.proofs.ListLaws.{All}
 use Rattle.rules.proofs.KindLaws.{Kind, listOf, articleKind, schemeKind, read-only}
 use Rattle.layout.specs.Reads.{part}
 use Rattle.layout.specs.Ensures.{Says}
-use Rattle.book.specs.Records.{listed, recordsOf, recordsLeft}
-use Rattle.book.specs.Ensures.{RecordHere, StopIs}
+use Rattle.layout.specs.Records.{listed, recordsOf, recordsLeft, RecordHere, StopIs}
 use Rattle.book.proofs.WalkLaws.{book-records, all-left, pass-start, pass-end, pass-here, pass-less, pass-next, pass-record}
 use Rattle.records.specs.Asks.{Accepted}
 use Rattle.records.specs.Ensures.{Bounded, bytesIn}

@@ -10,8 +10,7 @@ use Rattle.rules.specs.Layout.{whole}
 use Rattle.rules.specs.Book.{Record, Article, Scheme, asArticle, asScheme}
 use Rattle.rules.specs.BookLayout.{kinded}
 use Rattle.rules.specs.declared.Part.{Part}
-use Rattle.book.specs.Records.{recordsOf, recordsLeft}
-use Rattle.book.specs.Ensures.{Between}
+use Rattle.layout.specs.Records.{recordsOf, recordsLeft, Between}
 use Rattle.records.specs.Asks.{OfKind}
 use Rattle.records.specs.Ensures.{bytesIn}
 use Rattle.records.specs.Tests.{startsWith}

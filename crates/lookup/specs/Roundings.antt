@@ -13,8 +13,7 @@ use Rattle.rules.specs.BookLayout.{kinded}
 use Rattle.rules.specs.Amounts.{SoundRounding}
 use Rattle.rules.specs.declared.Rounding.{Rounding}
 use Rattle.layout.specs.Reads.{part}
-use Rattle.book.specs.Records.{recordStop, recordsLeft}
-use Rattle.book.specs.Ensures.{Between}
+use Rattle.layout.specs.Records.{recordStop, recordsLeft, Between}
 use Rattle.records.specs.Asks.{OfKind}
 use Rattle.lookup.specs.declared.roundings.Open.{Open}
 

@@ -8,7 +8,7 @@ use rules::Way;
 ghost use Prim.Native.Nat.{_≤_};
 ghost use mathlib.Core.Path.{_≡_};
 ghost use Rattle.rules.specs.Book.{plain};
-ghost use Rattle.book.specs.Ensures.{Between};
+ghost use Rattle.layout.specs.Records.{Between};
 ghost use Rattle.lookup.specs.Roundings.{PlaceAfter, PlacesAfter, OpenAre, NextOpen, PlacesFound, PlaceHeld, RoundingAt};
 
 // What is still looked for: the low bytes of those numbers, and whether there are any.

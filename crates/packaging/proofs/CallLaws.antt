@@ -16,8 +16,7 @@ use Rattle.rules.specs.Packaging.{orElse, packFor, used, Packed, packaging, sho
 use Rattle.rules.specs.declared.PackagingAnswer.{PackagingAnswer}
 use Rattle.rules.proofs.TestLaws.{and-false}
 use Rattle.layout.specs.Reads.{part}
-use Rattle.book.specs.Records.{recordsLeft, listed}
-use Rattle.book.specs.Ensures.{Between}
+use Rattle.layout.specs.Records.{recordsLeft, listed, Between}
 use Rattle.book.proofs.WalkLaws.{book-records, all-left, pass-start}
 use Rattle.question.specs.declared.Ask.{Ask}
 use Rattle.question.specs.Asked.{askIn, AskIs}

@@ -16,8 +16,7 @@ use Rattle.rules.specs.BookLayout.{kinded, star}
 use Rattle.rules.proofs.TestLaws.{or-false, or-assoc}
 use Rattle.layout.specs.Reads.{part}
 use Rattle.layout.specs.Ensures.{Says}
-use Rattle.book.specs.Records.{recordsLeft}
-use Rattle.book.specs.Ensures.{Between, RecordHere, StopIs}
+use Rattle.layout.specs.Records.{recordsLeft, Between, RecordHere, StopIs}
 use Rattle.book.proofs.WalkLaws.{pass-here, pass-next, pass-record, pass-end}
 use Rattle.records.specs.Tests as Tests
 use Rattle.records.proofs.TestLaws.{article-turn}

@@ -12,7 +12,7 @@ use Rattle.rules.specs.Book.{Record, PackagingRecord, Pack, asPack, packagings,
 use Rattle.rules.specs.BookLayout.{kinded, star}
 use Rattle.rules.specs.Packaging.{orElse}
 use Rattle.layout.specs.Reads.{part}
-use Rattle.book.specs.Records.{recordsLeft}
+use Rattle.layout.specs.Records.{recordsLeft}
 use Rattle.grants.specs.Table.{GrantsAre}
 use Rattle.grants.specs.Places.{nowhere, placeOf, upFrom}
 use Rattle.packaging.specs.declared.spots.Spot.{Spot}

@@ -11,7 +11,7 @@ ghost use lib.ListN.{length};
 ghost use Rattle.rules.specs.Layout.{whole};
 ghost use Rattle.rules.specs.BookLayout.{kinded};
 ghost use Rattle.layout.specs.Ensures.{Says};
-ghost use Rattle.book.specs.Ensures.{Between};
+ghost use Rattle.layout.specs.Records.{Between};
 ghost use Rattle.records.specs.Asks.{Accepted};
 ghost use Rattle.grants.specs.Table.{tableSize};
 ghost use Rattle.packaging.specs.Spots.{isEmpty, PlaceFor, SpotAfter, FoundIs};

@@ -21,8 +21,7 @@ use Rattle.rules.proofs.TestLaws.{or-assoc, or-false, and-right}
 use Rattle.rules.proofs.DayLaws.{day-least}
 use Rattle.layout.specs.Ensures.{Says}
 use Rattle.layout.proofs.StoreLaws.{all-same}
-use Rattle.book.specs.Records.{recordsLeft}
-use Rattle.book.specs.Ensures.{Between, RecordHere, StopIs}
+use Rattle.layout.specs.Records.{recordsLeft, Between, RecordHere, StopIs}
 use Rattle.book.proofs.WalkLaws.{pass-here, pass-less, pass-next, pass-record, pass-end}
 use Rattle.records.specs.Tests.{isRow}
 use Rattle.records.specs.Ensures.{RowIs, rowIn}

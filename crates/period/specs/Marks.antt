@@ -11,8 +11,7 @@ use Rattle.rules.specs.Days.{isDay, next}
 use Rattle.rules.specs.Book.{Record}
 use Rattle.rules.specs.Calendar.{mostDays}
 use Rattle.rules.specs.Changes.{isChange}
-use Rattle.book.specs.Records.{recordsLeft}
-use Rattle.book.specs.Ensures.{Between}
+use Rattle.layout.specs.Records.{recordsLeft, Between}
 use Rattle.period.specs.declared.marks.Change.{Change}
 use Rattle.period.specs.Positions.{Dates}
 

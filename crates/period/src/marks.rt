@@ -6,7 +6,7 @@ use records::is_row;
 use records::row_of;
 ghost use Rattle.rules.specs.Layout.{whole};
 ghost use Rattle.rules.specs.BookLayout.{kinded};
-ghost use Rattle.book.specs.Ensures.{Between};
+ghost use Rattle.layout.specs.Records.{Between};
 ghost use Rattle.records.specs.Asks.{Accepted};
 ghost use Rattle.period.specs.Positions.{Dates};
 ghost use Rattle.period.specs.Marks.{DatesChange, RecordChanges, MarksAre};

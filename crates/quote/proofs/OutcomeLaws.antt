@@ -7,7 +7,7 @@ use lib.Dec.{eqb}
 use borrow.Author.Tests.{eqb-true, eqb-false}
 use Rattle.rules.specs.Question.{Question, on, lettersOf}
 use Rattle.rules.specs.Calendar.{asOutcome, outcomeOf, outcome}
-use Rattle.book.specs.Records.{recordsLeft}
+use Rattle.layout.specs.Records.{recordsLeft}
 use Rattle.lines.specs.declared.Pick.{Pick}
 use Rattle.lines.specs.declared.verdict.Verdict.{Verdict}
 use Rattle.lines.specs.Verdict.{VerdictIs}

@@ -14,8 +14,7 @@ use Rattle.rules.specs.Lines.{Chosen}
 use Rattle.rules.proofs.ListLaws.{All}
 use Rattle.rules.specs.declared.PriceRow.{PriceRow}
 use Rattle.rules.specs.declared.Rounding.{Rounding}
-use Rattle.book.specs.Records.{recordsLeft}
-use Rattle.book.specs.Ensures.{Between}
+use Rattle.layout.specs.Records.{recordsLeft, Between}
 use Rattle.records.specs.Asks.{OfKind}
 use Rattle.records.specs.Ensures.{RowIs, rowIn}
 use Rattle.lookup.specs.Roundings.{RoundingUsed, PlaceHeld, RoundingAt, Found, PlacesFound}

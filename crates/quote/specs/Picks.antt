@@ -9,7 +9,7 @@ use Rattle.rules.specs.Book.{Row, Record, rows, roundings}
 use Rattle.rules.specs.Question.{Question}
 use Rattle.rules.specs.Lines.{chosen}
 use Rattle.rules.proofs.ListLaws.{All}
-use Rattle.book.specs.Records.{recordsLeft}
+use Rattle.layout.specs.Records.{recordsLeft}
 use Rattle.lookup.specs.Roundings.{Found}
 use Rattle.question.specs.declared.Terms.{Terms}
 use Rattle.grants.specs.Table.{GrantsAre}

@@ -4,7 +4,7 @@ use mathlib.Core.List.{List, map}
 use Rattle.rules.specs.Question.{Question}
 use Rattle.rules.specs.Calendar.{OutcomeIs, outcome}
 use Rattle.rules.specs.declared.Outcome.{Outcome}
-use Rattle.book.specs.Records.{recordsLeft}
+use Rattle.layout.specs.Records.{recordsLeft}
 use Rattle.question.specs.declared.Terms.{Terms}
 use Rattle.grants.specs.Table.{GrantsAre}
 use Rattle.grants.specs.Asks.{Asks}

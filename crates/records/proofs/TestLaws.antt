@@ -7,7 +7,7 @@ use mathlib.Core.Option.{Option, some, none}
 use Rattle.rules.specs.Lists.{same, ifSome, isSome, consSome, first, pick}
 use Rattle.rules.specs.Book.{Record, ArticleRecord, PriceRecord, RoundingRecord, PackagingRecord, SchemeRecord, Article, asArticle, asRow, asPack, asScheme, articles, articleOf}
 use Rattle.layout.specs.Reads.{part}
-use Rattle.book.specs.Ensures.{StopIs}
+use Rattle.layout.specs.Records.{StopIs}
 use Rattle.records.specs.Asks.{Accepted}
 use Rattle.records.specs.Tests as Tests
 

@@ -8,7 +8,7 @@ use lib.ListN.{length, take, drop, getD}
 use Rattle.rules.specs.Calendar.{Outcome, asOutcome, Stretch, sameOutcome, stretches, outcome, mostDays}
 use Rattle.rules.specs.Question.{Question, currencyOf}
 use Rattle.rules.proofs.WalkLaws as Walk
-use Rattle.book.specs.Records.{recordsLeft}
+use Rattle.layout.specs.Records.{recordsLeft}
 use Rattle.question.specs.declared.Terms.{Terms}
 use Rattle.question.specs.Asked.{termsOn}
 use Rattle.grants.specs.Asks.{Asks}

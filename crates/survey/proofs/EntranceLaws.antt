@@ -13,7 +13,7 @@ use Rattle.rules.specs.Question.{Question, questionOf}
 use Rattle.rules.specs.Refusals.{Result, refused, _>>=_, orRefuse}
 use Rattle.rules.proofs.ListLaws.{absent}
 use Rattle.layout.proofs.LayoutLaws.{part-is}
-use Rattle.book.specs.Records.{recordsLeft}
+use Rattle.layout.specs.Records.{recordsLeft}
 use Rattle.book.proofs.WalkLaws.{book-left}
 use Rattle.question.specs.declared.Ask.{Ask}
 use Rattle.question.specs.Asked.{askIn, AskIs}

@@ -14,8 +14,8 @@ use Rattle.rules.specs.BookLayout.{kinded, records}
 use Rattle.rules.proofs.TestLaws.{or-false, or-assoc, so, not-so}
 use Rattle.layout.specs.Reads.{part}
 use Rattle.layout.specs.Ensures.{Says}
-use Rattle.book.specs.Records.{recordsLeft}
-use Rattle.book.specs.Ensures.{Between, Decides, RecordEnd, RecordHere, StopIs, headerOk}
+use Rattle.layout.specs.Records.{recordsLeft, Between, RecordHere, StopIs}
+use Rattle.book.specs.Ensures.{Decides, RecordEnd, headerOk}
 use Rattle.book.proofs.BookLaws.{book-not, book-start, walk-bad, walk-again}
 use Rattle.book.proofs.BookLaws as Book
 use Rattle.book.proofs.WalkLaws.{end-stops, pass-start, pass-here, pass-next, pass-record, pass-end}

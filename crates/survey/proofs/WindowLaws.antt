@@ -16,8 +16,8 @@ use Rattle.rules.specs.Book.{Row, Record, asRow, asRounding, rows, rowsOf, roun
 use Rattle.rules.specs.BookLayout.{kinded}
 use Rattle.rules.proofs.ListLaws.{keep-append, gather-append, absent}
 use Rattle.layout.specs.Reads.{part}
-use Rattle.book.specs.Records.{recordIn, recordsFrom, listed, recordsLeft}
-use Rattle.book.specs.Ensures.{Between, RecordEnd, StopIs}
+use Rattle.layout.specs.Records.{recordIn, recordsFrom, listed, recordsLeft, Between, StopIs}
+use Rattle.book.specs.Ensures.{RecordEnd}
 use Rattle.book.proofs.BookLaws.{inFront, record-good, from-end, from-record}
 use Rattle.records.specs.Tests.{isRow, isRounding}
 use Rattle.survey.specs.declared.window.Span.{Span}

@@ -7,7 +7,7 @@ use mathlib.Core.Option.{Option}
 use Rattle.rules.specs.Lists.{isSome}
 use Rattle.rules.specs.Book.{Record, articleOf}
 use Rattle.rules.specs.BookLayout.{records}
-use Rattle.book.specs.Records.{recordsLeft}
+use Rattle.layout.specs.Records.{recordsLeft}
 use Rattle.records.specs.Tests as Tests
 use Rattle.survey.specs.declared.Found.{Found}
 use Rattle.survey.specs.declared.Surveyed.{Surveyed}

@@ -6,8 +6,7 @@ use mathlib.Core.List.{List}
 use lib.Dec.{eqb}
 use lib.ListN.{length, take}
 use Rattle.rules.specs.Book.{rowsOf, roundings}
-use Rattle.book.specs.Records.{recordsLeft}
-use Rattle.book.specs.Ensures.{Between}
+use Rattle.layout.specs.Records.{recordsLeft, Between}
 use Rattle.survey.specs.declared.window.Span.{Span}
 use Rattle.survey.specs.declared.window.Window.{Window}
 

@@ -1,13 +1,16 @@
--- What stands at the places of a book: a record from its length on, and the records that are left.
-use Prim.Native.Nat.{ℕ, _+_}
+-- What stands at the places of a book: a record from its length on, the records that are left, and where a pass over them stands.
+use Prim.Native.Nat.{ℕ, _+_, _≤_, _<_}
+use mathlib.Core.Path.{_≡_}
+use mathlib.Core.Bool.{true}
 use mathlib.Core.List.{List, []}
 use mathlib.Core.Option.{Option, some, none}
-use lib.ListN.{take, drop}
+use lib.ListN.{length, take, drop}
+use Rattle.rules.specs.Lists.{isSome}
 use Rattle.rules.specs.Layout.{whole, repeated}
 use Rattle.rules.specs.Bytes.{big}
 use Rattle.rules.specs.Book.{Record}
 use Rattle.rules.specs.BookLayout.{kinded, oneRecord, records}
 use Rattle.layout.specs.Reads.{part}
 
 -- ---- records
 
@@ -33,3 +36,23 @@ recordsOf b = listed (records b)
 
 abbrev pub recordsLeft : List ℕ → ℕ → List Record
 recordsLeft b at = listed (recordsFrom b at)
+
+-- ---- of an accepted book
+
+-- an accepted record stands at `at`
+pub record RecordHere (b : List ℕ) (at : ℕ) : Type 0 where
+  pub fits : recordStop b at ≤ length b
+  pub ok : isSome (whole kinded (part b (at + 2) (recordStop b at))) ≡ true
+
+-- `r` is where it ends
+pub record StopIs (b : List ℕ) (at r : ℕ) : Type 0 where
+  pub is : r ≡ recordStop b at
+  pub low : at + 2 < r
+  pub fits : r ≤ length b
+  pub ok : isSome (whole kinded (part b (at + 2) r)) ≡ true
+
+-- a pass stands at `at`, between two records or at an end
+pub record Between (b : List ℕ) (at : ℕ) : Type 0 where
+  pub low : 5 ≤ at
+  pub fits : at ≤ length b
+  pub ok : isSome (recordsFrom b at) ≡ true
