@@ -28,7 +28,8 @@ use Rattle.grants.proofs.GatherLaws.{gather-same, none-is, places-gathered}
 use Rattle.packaging.specs.declared.spots.Spot.{Spot}
 use Rattle.packaging.specs.declared.spots.Found.{Found}
 use Rattle.packaging.specs.Spots.{firstAt, noSpot, packThere, SpotIs, AllMark, Keeps, FoundIs, usedFrom, usedIn}
-use Rattle.packaging.specs.Sums.{summed, fromSpots, AnswersFrom}
+use Rattle.packed.specs.Answer.{summed}
+use Rattle.packaging.specs.Sums.{fromSpots, AnswersFrom}
 use Rattle.packaging.proofs.SumLaws.{there-is}
 
 -- ---- the record of a place is that of a condition

@@ -1,7 +1,5 @@
 pub mod SpotLaws
 pub mod WalkLaws
-pub mod UnitLaws
-pub mod ValueLaws
 pub mod SumLaws
 pub mod AnswerLaws
 pub mod CallLaws

@@ -21,7 +21,7 @@ use Rattle.rules.proofs.TestLaws.{and-left, and-right}
 use Rattle.rules.proofs.ListLaws.{All, all-each, same-eq}
 use Rattle.rules.proofs.PackagingLaws.{Answered, packaging-answered, each-of-eight, set-has}
 use Rattle.records.specs.Ensures.{PackBounds, unitsIn}
-use Rattle.packaging.specs.Sums.{summed}
+use Rattle.packed.specs.Answer.{summed}
 use Rattle.packaging.proofs.CallLaws.{withBook, withQuestion, opened}
 use Rattle.packaging.proofs.AbsentLaws.{used-sound, all-lack, unit-three, three-units}
 

@@ -1,104 +1,23 @@
-// Packaging data of an article: which packaging records a question uses, what their values come to, and in which units.
+// Packaging data of an article: which packaging records a question uses, and what they come to.
 mod spots;
 mod sums;
 
 use crate::spots::SPOTS;
 use crate::spots::Spot;
 use crate::spots::walk;
-use crate::sums::Sums;
 use crate::sums::add_up;
 use grants::grants_of;
+use packed::answer::answer_of;
+use packed::answer::refusal;
 use rules::PackagingAnswer;
 ghost use mathlib.Core.Path.{_≡_};
 ghost use mathlib.Core.Bool.{true};
 ghost use Rattle.rules.specs.Lists.{isSome};
 ghost use Rattle.rules.specs.BookLayout.{records};
 ghost use Rattle.rules.specs.Question.{questionOf};
-ghost use Rattle.rules.specs.Refusals.{refused};
 ghost use Rattle.rules.specs.Packaging.{packaging, shown};
-ghost use Rattle.layout.specs.Ensures.{Says};
 ghost use Rattle.packaging.specs.Spots.{AllMark};
-ghost use Rattle.packaging.specs.Sums.{mostSum, Within, GrossIs, noneBelow, Answers, AnswersFrom};
-
-// Zeros beside the number of a refusal.
-fn refusal(number: u8) -> PackagingAnswer
-    ensures { λ r. ⌜ r ≡ shown (refused number) ⌝ }
-{
-    PackagingAnswer {
-        gross: 0,
-        values: [0; 8],
-        number,
-        present: 0,
-        units: [0; 9],
-    }
-}
-
-// Which of the values they are, and of the presence bits: 16, 32 and 64 are the bits of these three.
-const TARE: usize = 4;
-
-const NET: usize = 5;
-
-const ITEMS: usize = 6;
-
-// Tare, and net for each item; 0 where one of the three is not present.
-fn gross_of(s: Sums) -> i64
-    requires { ⌜ Within mostSum s ⌝ }
-    ensures { λ r. ⌜ GrossIs s r ⌝ }
-{
-    let present = s.present;
-    let values = s.values;
-    if (present / 16 % 2 == 1) & (present / 32 % 2 == 1) & (present / 64 % 2 == 1) {
-        return values[TARE] + values[NET] * values[ITEMS];
-    }
-    0
-}
-
-fn none_below_zero(s: Sums) -> bool
-    requires { ⌜ Within mostSum s ⌝ }
-    ensures { λ r. ⌜ Says (noneBelow (s .values)) r ⌝ }
-{
-    let v = s.values;
-    (v[0] >= 0)
-        & (v[1] >= 0)
-        & (v[2] >= 0)
-        & (v[3] >= 0)
-        & (v[4] >= 0)
-        & (v[5] >= 0)
-        & (v[6] >= 0)
-        & (v[7] >= 0)
-}
-
-// Signs are tested here, on what the records come to; on the way a value may be below zero.
-fn answer_of(s: Sums) -> PackagingAnswer
-    requires { ⌜ Within mostSum s ⌝ }
-    ensures { λ r. ⌜ Answers s r ⌝ }
-{
-    if s.agree & none_below_zero(s) {
-        let values = s.values;
-        let units = s.units;
-        let length = units.length;
-        let volume = units.volume;
-        let weight = units.weight;
-        return PackagingAnswer {
-            gross: gross_of(s),
-            values,
-            number: 0,
-            present: s.present,
-            units: [
-                length.0,
-                length.1,
-                length.2,
-                volume.0,
-                volume.1,
-                volume.2,
-                weight.0,
-                weight.1,
-                weight.2,
-            ],
-        };
-    }
-    refusal(11)
-}
+ghost use Rattle.packaging.specs.Sums.{AnswersFrom};
 
 // Of the spots that the walk found. An article without a record that has no condition is refused.
 fn from_spots(b: &[u8], own: [Spot; SPOTS], any: [Spot; SPOTS]) -> PackagingAnswer

@@ -1,6 +1,7 @@
 -- `packaging::sums::with_record` meets its contract: the record can be read, leaves room, and is added, by the laws named.
 use borrow.Author.Needs.{needs}
-use Rattle.packaging.proofs.SumLaws.{held-kind, room-left, record-added}
+use Rattle.packed.proofs.SumLaws.{room-left}
+use Rattle.packaging.proofs.SumLaws.{held-kind, record-added}
 use Rattle.packaging.proofs.sums.with_record.Statement.{statement}
 use Rattle.packaging.proofs.sums.with_record.Tie as tie
 

@@ -1,0 +1,4 @@
+pub mod UnitLaws
+pub mod ValueLaws
+pub mod SumLaws
+pub mod AnswerLaws
