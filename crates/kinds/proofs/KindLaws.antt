@@ -13,10 +13,12 @@ use Rattle.rules.specs.Layout.{bytes, byte, whole}
 use Rattle.rules.specs.Bytes.{number, signed, signedOf, capitals, eitherSide, nameByte}
 use Rattle.rules.specs.Book.{ArticleRecord, PriceRecord, RoundingRecord, SchemeRecord, sale, purchase, base, surcharge, discount}
 use Rattle.rules.specs.BookLayout.{articleBody, priceBody, roundingBody, schemeBody, valueOf, inBounds}
-use Rattle.layout.specs.Reads.{Reads, part}
+use Rattle.layout.specs.Reads.{Reads, part, nameStop}
 use Rattle.layout.specs.Ensures.{Accepts, Number, Says, NameEnd}
 use Rattle.layout.proofs.LayoutLaws.{then-reads, such-reads, give-reads, if-reads, number-at, one-of-at, byte-reads, bytes-reads, number-reads, signed-reads, one-of-reads, body-as, taken-are, not-sized, sized-then, sized-give, sized-if, sized-such, sized-byte, sized-bytes, sized-number, sized-signed, sized-one-of}
 use Rattle.layout.proofs.NameLaws.{name-rest}
+use Rattle.pairs.specs.Pairs.{Names}
+use Rattle.pairs.proofs.PairLaws.{no-names, first-name, second-name, stop-low}
 use Rattle.kinds.specs.Fields.{numberAt, signedAt, articleAt, rowAt, roundingAt, schemeAt}
 use Rattle.kinds.specs.Ensures.{trimOk}
 
@@ -63,6 +65,15 @@ module _ {s : List ℕ} {at a : ℕ} (p : NameEnd 1 40 s at a) (h : 1 ≤ a) {b 
         (then-reads _ _ (number-reads s b 4 15 (omega arith)) (then-reads _ _ (number-reads s b 4 19 (omega arith)) (then-reads _ _ (number-reads s b 4 23 (omega arith))
         (then-reads _ _ (number-reads s b 2 27 (omega arith)) give-reads)))))))))))))
 
+-- behind both names
+module _ {s : List ℕ} {at b : ℕ} (p : Names s at b) where
+  pub price-none : b < 1 → Accepts (whole priceBody (drop at s)) false
+  price-none h = no-names p _ h
+
+  pub price-size : 1 ≤ b → (length s - b ≡ 29 → ⊥) → Accepts (whole priceBody (drop at s)) false
+  price-size g = price-no (first-name p g) (stop-low s at) (second-name p g) g
+
+  module _ (g : 1 ≤ b) (n : length s - b ≡ 29) where
     pub price-is : {t₁ t₂ t₃ t₄ t₅ t₆ t₇ t₈ : Bool} {v : ℕ}
         → Says (any (eqb (getD s b 0)) (sale ∷ purchase ∷ [])) t₁
         → Says (any (eqb (getD s (b + 1) 0)) (base ∷ surcharge ∷ discount ∷ [])) t₂
@@ -73,7 +84,7 @@ module _ {s : List ℕ} {at a : ℕ} (p : NameEnd 1 40 s at a) (h : 1 ≤ a) {b 
         → Says (between 65 90 (getD s (b + 12) 0)) t₆ → Says (between 65 90 (getD s (b + 13) 0)) t₇ → Says (between 65 90 (getD s (b + 14) 0)) t₈
         → Accepts (whole priceBody (drop at s)) (t₁ && t₂ && t₃ && t₄ && t₅ && t₆ && t₇ && t₈)
     price-is {t₅} {t₆} {t₇} {t₈} e₁ e₂ e₃ e₄ e e₅ e₆ e₇ e₈ =
-        body-as priceBody price-reads (omega arith) (rw (lt-ltb 0 a h, lt-ltb 0 b g, e₁ .is, e₂ .is, e₃ .is, e₄ .is, value, caps) (simp (and-assoc, and-true)))
+        body-as priceBody (price-reads (first-name p g) (stop-low s at) (second-name p g) g n) (omega arith) (rw (lt-ltb 0 (nameStop s at) (stop-low s at), lt-ltb 0 b g, e₁ .is, e₂ .is, e₃ .is, e₄ .is, value, caps) (simp (and-assoc, and-true)))
       where
         caps : capitals (take 3 (drop (b + 12) s)) ≡ (t₆ && (t₇ && (t₈ && true)))
         caps = rw (taken-are s b 3 12 (omega arith), e₆ .is, e₇ .is, e₈ .is)

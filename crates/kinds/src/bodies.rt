@@ -8,6 +8,7 @@ use layout::numbers::is_either;
 use layout::numbers::is_of_three;
 use layout::numbers::near_zero;
 use layout::numbers::two_at;
+use pairs::names_end;
 ghost use Prim.Native.Nat.{_≤_, _<_};
 ghost use mathlib.Core.Bool.{_||_};
 ghost use mathlib.Core.List.{[], _∷_};
@@ -50,11 +51,7 @@ pub fn price_ok(s: &[u8], at: usize) -> bool
     requires { ⌜ at ≤ length (now s) ⌝ }
     ensures { λ r. ⌜ Accepts (whole priceBody (drop at (now (s .entry)))) r ⌝ }
 {
-    let condition = name_end(s, at, 1, 40);
-    if condition < 1 {
-        return false;
-    }
-    let terms = name_end(s, condition, 0, 20);
+    let terms = names_end(s, at);
     if terms < 1 {
         return false;
     }

@@ -1,21 +1,19 @@
 use borrow.Author.Needs.{needs}
-use Rattle.layout.proofs.NameLaws.{no-first, after-name}
-use Rattle.kinds.proofs.KindLaws.{price-no, price-is}
+use Rattle.pairs.proofs.PairLaws.{names-fit}
+use Rattle.kinds.proofs.KindLaws.{price-none, price-size, price-is}
 use Rattle.kinds.proofs.bodies.price_ok.Statement.{statement}
 use Rattle.kinds.proofs.bodies.price_ok.Tie as tie
 
-ruleset laws = (needs, price-no, price-is, no-first, after-name)
+ruleset laws = (needs, price-none, price-size, price-is, names-fit)
 
 pub price-ok-spec : {M : Type 1} → statement M
 price-ok-spec =
     tie.close
     (tie.spec
-    (λ c κs. search laws)  -- name-end-requires
+    (λ c κs. search needs)  -- names-end-requires
     (λ c. search laws)  -- returns
-    (λ c κs. search laws)  -- name-end-requires-2
+    (λ c. search laws)  -- sub-if2
     (λ c. search laws)  -- returns-2
-    (λ c. search needs)  -- sub-if3
-    (λ c. search laws)  -- returns-3
     (λ c. search needs)  -- shared-slice-read-is-either
     (λ c κs. search laws)  -- is-either-requires
     (λ c. search needs)  -- add-is-of-three
@@ -41,4 +39,4 @@ price-ok-spec =
     (λ c. search needs)  -- add-is-capital-3
     (λ c. search needs)  -- shared-slice-read-is-capital-3
     (λ c κs. search laws)  -- is-capital-requires-3
-    (λ c. search laws))  -- returns-4
+    (λ c. search laws))  -- returns-3
