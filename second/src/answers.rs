@@ -26,6 +26,16 @@ pub struct Written {
     pub number: u8,
 }
 
+/// What is written, or what is refused and where.
+#[repr(C)]
+#[derive(Debug, Default, PartialEq, Eq, Clone, Copy)]
+pub struct Placed {
+    pub length: u64,
+    /// A line of the file or a byte of the book, from 1; 0 where the number tells no place.
+    pub place: u64,
+    pub number: u8,
+}
+
 #[repr(C)]
 #[derive(Debug, Default, PartialEq, Eq, Clone, Copy)]
 pub struct Stretch {
@@ -70,6 +80,17 @@ impl CalendarAnswer {
 impl Written {
     pub fn refused(number: u8) -> Self {
         Written { length: 0, number }
+    }
+}
+
+impl Placed {
+    pub fn refused(number: u8) -> Self {
+        Placed::refused_at(number, 0)
+    }
+
+    /// A place is the one number beside a refusal that is not zero.
+    pub fn refused_at(number: u8, place: u64) -> Self {
+        Placed { length: 0, place, number }
     }
 }
 

@@ -13,3 +13,5 @@ pub const BAD_PERIOD: u8 = 9;
 pub const TOO_MANY_STRETCHES: u8 = 10;
 pub const BAD_PACKAGING: u8 = 11;
 pub const NO_TEXT: u8 = 12;
+/// A line of a price file that makes no record, or a price record that makes no line.
+pub const BAD_ROW: u8 = 13;
