@@ -1,6 +1,6 @@
 //! The calls as something that has several implementations.
 
-use crate::answers::{CalendarAnswer, PackagingAnswer, PriceAnswer, Stretch, TextAnswer, Written};
+use crate::answers::{CalendarAnswer, PackagingAnswer, Placed, PriceAnswer, Stretch, TextAnswer, Written};
 
 pub trait Calls {
     fn price(&self, book: &[u8], question: &[u8], out: &mut [u8]) -> PriceAnswer;
@@ -9,6 +9,12 @@ pub trait Calls {
     fn final_number(&self, book: &[u8], question: &[u8], out: &mut [u8]) -> Written;
     fn packaging(&self, book: &[u8], question: &[u8]) -> PackagingAnswer;
     fn text(&self, asked: &[u8], fallback: &[u8], number: u32) -> TextAnswer;
+}
+
+/// The two calls of the manufacturer's price file.
+pub trait FileCalls {
+    fn read_prices(&self, file: &[u8], out: &mut [u8]) -> Placed;
+    fn write_prices(&self, book: &[u8], out: &mut [u8]) -> Placed;
 }
 
 /// This library.
@@ -37,6 +43,16 @@ impl Calls for Second {
 
     fn text(&self, asked: &[u8], fallback: &[u8], number: u32) -> TextAnswer {
         crate::text(asked, fallback, number)
+    }
+}
+
+impl FileCalls for Second {
+    fn read_prices(&self, file: &[u8], out: &mut [u8]) -> Placed {
+        crate::read_prices(file, out)
+    }
+
+    fn write_prices(&self, book: &[u8], out: &mut [u8]) -> Placed {
+        crate::write_prices(book, out)
     }
 }
 

@@ -105,7 +105,7 @@ impl Room {
 }
 
 impl Damage {
-    fn apply(&self, bytes: &mut Vec<u8>) {
+    pub fn apply(&self, bytes: &mut Vec<u8>) {
         let length = bytes.len();
         match self {
             Damage::DropLast(count) => bytes.truncate(length.saturating_sub(*count)),
@@ -1118,7 +1118,7 @@ fn days_around(random: &mut Random, start: u32, end: u32) -> Vec<u32> {
 // Very big inputs.
 
 /// Article records that are never asked for, together exactly so many bytes long.
-fn filling(bytes: usize) -> Vec<Record> {
+pub(crate) fn filling(bytes: usize) -> Vec<Record> {
     // The shortest record takes 6 bytes, that of a number of 40 bytes takes 45.
     let mut records = Vec::new();
     let mut left = bytes;

@@ -1,9 +1,10 @@
 //! Runs one call of a case and keeps everything that can be seen of it.
 
-use crate::answers::{CalendarAnswer, PackagingAnswer, PriceAnswer, Stretch, TextAnswer, Written};
+use crate::answers::{CalendarAnswer, PackagingAnswer, Placed, PriceAnswer, Stretch, TextAnswer, Written};
 use crate::calendar::{stretches, STRETCH_LENGTH};
 use crate::calls::{Calls, Second};
 use crate::cases::{Case, Inputs};
+use crate::refusal::BAD_ROW;
 
 #[derive(Debug, Clone, Copy, PartialEq, Eq)]
 pub enum Call {
@@ -57,6 +58,7 @@ pub enum Answer {
     Price(PriceAnswer),
     Calendar(CalendarAnswer),
     Written(Written),
+    Placed(Placed),
     Packaging(PackagingAnswer),
     Text(TextAnswer),
 }
@@ -67,6 +69,7 @@ impl Answer {
             Answer::Price(answer) => answer.number,
             Answer::Calendar(answer) => answer.number,
             Answer::Written(answer) => answer.number,
+            Answer::Placed(answer) => answer.number,
             Answer::Packaging(answer) => answer.number,
             Answer::Text(answer) => answer.number,
         }
@@ -150,7 +153,7 @@ impl Plan {
 }
 
 /// So many bytes or records stand behind the lent memory; nobody may write there.
-const GUARD: usize = 40;
+pub(crate) const GUARD: usize = 40;
 
 /// Bytes in which a shifted or repeated piece would be seen.
 pub fn pattern(length: usize) -> Vec<u8> {
@@ -212,6 +215,7 @@ pub fn broken_promise(outcome: &Outcome) -> Option<&'static str> {
         Answer::Price(answer) => (answer == PriceAnswer::refused(number), answer.lines as usize * 14, 0),
         Answer::Calendar(answer) => (answer == CalendarAnswer::refused(number), answer.length as usize, answer.length as usize),
         Answer::Written(answer) => (answer == Written::refused(number), answer.length as usize, 0),
+        Answer::Placed(answer) => (answer == placed_beside(&answer), answer.length as usize, 0),
         Answer::Packaging(answer) => (answer == PackagingAnswer::refused(number), 0, 0),
         Answer::Text(answer) => (answer == TextAnswer::refused(number), 0, 0),
     };
@@ -228,6 +232,14 @@ pub fn broken_promise(outcome: &Outcome) -> Option<&'static str> {
     None
 }
 
+/// A refusal with nothing beside it but the place that 13 must have.
+fn placed_beside(answer: &Placed) -> Placed {
+    match answer.number {
+        BAD_ROW => Placed::refused_at(BAD_ROW, answer.place.max(1)),
+        number => Placed::refused(number),
+    }
+}
+
 /// Where two implementations part.
 #[derive(Debug, Clone)]
 pub struct Difference {
@@ -241,14 +253,19 @@ pub fn compare(call: Call, theirs: &dyn Calls, inputs: &Inputs, sizes: Sizes) ->
     let ours = run(call, &Second, inputs, sizes);
     let before = inputs.clone();
     let other = run(call, theirs, inputs, sizes);
-    let complaint = broken_promise(&ours)
+    let difference = difference(call.name(), &ours, &other, before != *inputs);
+    (ours, difference)
+}
+
+/// Where two outcomes of a call part, or what one of them breaks.
+pub fn difference(call: &str, ours: &Outcome, theirs: &Outcome, input_changed: bool) -> Option<Difference> {
+    let complaint = broken_promise(ours)
         .map(|complaint| ("ours: ", complaint))
-        .or_else(|| broken_promise(&other).map(|complaint| ("theirs: ", complaint)))
-        .or_else(|| (before != *inputs).then_some(("theirs: ", "an input was changed")));
-    if ours == other && complaint.is_none() {
-        return (ours, None);
+        .or_else(|| broken_promise(theirs).map(|complaint| ("theirs: ", complaint)))
+        .or_else(|| input_changed.then_some(("theirs: ", "an input was changed")));
+    if ours == theirs && complaint.is_none() {
+        return None;
     }
     let note = complaint.map_or(String::new(), |(who, what)| format!(" ({who}{what})"));
-    let difference = Difference { call: format!("{}{note}", call.name()), ours: ours.told(), theirs: other.told() };
-    (ours, Some(difference))
+    Some(Difference { call: format!("{call}{note}"), ours: ours.told(), theirs: theirs.told() })
 }

@@ -13,6 +13,8 @@ pub mod cases;
 pub mod compare;
 pub mod counts;
 pub mod days;
+pub mod file_cases;
+pub mod file_compare;
 pub mod fraction;
 pub mod make;
 pub mod number;

@@ -3,6 +3,7 @@
 use std::time::{Duration, Instant};
 
 use crate::cases::Case;
+use crate::file_cases::FileCase;
 
 /// Very big cases take long to try; what is reached after this time is small enough.
 const LONGEST: Duration = Duration::from_secs(10);
@@ -39,11 +40,28 @@ pub fn shrunk(case: &Case, still: &dyn Fn(&Case) -> bool) -> Case {
     }
 }
 
+/// Leaves out lines of the file, records of the book and damages of both while `still` holds.
+pub fn shrunk_file(case: &FileCase, still: &dyn Fn(&FileCase) -> bool) -> FileCase {
+    let started = Instant::now();
+    let late = || started.elapsed() >= LONGEST;
+    let mut best = case.clone();
+    loop {
+        let mut smaller = false;
+        smaller |= drop_parts(&mut best, |case| &mut case.file_damages, still, &late);
+        smaller |= drop_parts(&mut best, |case| &mut case.book_damages, still, &late);
+        smaller |= drop_parts(&mut best, |case| &mut case.lines, still, &late);
+        smaller |= drop_parts(&mut best, |case| &mut case.book, still, &late);
+        if !smaller || late() {
+            return best;
+        }
+    }
+}
+
 /// Tries to leave out pieces of one list, great pieces first.
-fn drop_parts<T>(
-    best: &mut Case,
-    list: impl Fn(&mut Case) -> &mut Vec<T>,
-    still: &dyn Fn(&Case) -> bool,
+fn drop_parts<C: Clone, T>(
+    best: &mut C,
+    list: impl Fn(&mut C) -> &mut Vec<T>,
+    still: &dyn Fn(&C) -> bool,
     late: &dyn Fn() -> bool,
 ) -> bool {
     let before = list(best).len();
