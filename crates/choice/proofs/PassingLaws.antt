@@ -14,7 +14,7 @@ use Rattle.rules.specs.Layout.{whole}
 use Rattle.rules.specs.Days.{isDay}
 use Rattle.rules.specs.Book.{Row, Record, PriceRecord, asRow}
 use Rattle.rules.specs.BookLayout.{kinded}
-use Rattle.rules.specs.Question.{Question, noCurrency, askedOf}
+use Rattle.rules.specs.Question.{Question, noCurrency, askedOf, lettersOf}
 use Rattle.rules.specs.Choice.{isPercent}
 use Rattle.rules.specs.declared.PriceRow.{PriceRow}
 use Rattle.rules.specs.declared.Currency.{Currency}
@@ -25,7 +25,6 @@ use Rattle.layout.specs.Ensures.{Number, Says}
 use Rattle.records.specs.Tests as Tests
 use Rattle.records.specs.Ensures.{rowIn, RowIs}
 use Rattle.question.specs.declared.Terms.{Terms}
-use Rattle.question.specs.Asked.{lettersOf}
 use Rattle.grants.specs.Places.{placeOf, PlaceIs}
 use Rattle.grants.specs.Asks.{Asks}
 use Rattle.choice.specs.declared.hands.Passing.{Passing}

@@ -19,12 +19,11 @@ ghost use Rattle.rules.specs.Lists.{between};
 ghost use Rattle.rules.specs.Days.{isDay};
 ghost use Rattle.rules.specs.Layout.{whole};
 ghost use Rattle.rules.specs.BookLayout.{kinded};
-ghost use Rattle.rules.specs.Question.{askedOf};
+ghost use Rattle.rules.specs.Question.{askedOf, lettersOf};
 ghost use Rattle.rules.specs.Choice.{isPercent};
 ghost use Rattle.layout.specs.Ensures.{Says, Number};
 ghost use Rattle.records.specs.Asks.{Accepted};
 ghost use Rattle.records.specs.Ensures.{rowIn, RowIs};
-ghost use Rattle.question.specs.Asked.{lettersOf};
 ghost use Rattle.grants.specs.Asks.{Tabled};
 ghost use Rattle.choice.specs.Walk.{slotAt, inAsked, SlotIs, RowPasses, Passes};
 

@@ -8,18 +8,18 @@ use native.Mathlib.Omega.{arith}
 use native.Mathlib.Nat.{mul-suc}
 use lib.Dec.{eqb}
 use borrow.Author.Tests.{ne-eqb}
-use lib.ListN.{length, getD, length-append, length-map}
+use lib.ListN.{length, length-append, length-map}
 use Rattle.rules.specs.Lists.{joinWith, consSome, gather, keep, consIf, isSome}
 use Rattle.rules.specs.Book.{Scheme}
 use Rattle.rules.specs.Question.{Property, Question, questionOf}
 use Rattle.rules.specs.FinalNumber.{hiddenRun, stated, shownOf, separatorOf, behind, numberBy}
 use Rattle.rules.proofs.ListLaws.{All}
-use Rattle.question.specs.Counted.{valuesAt, countedAt}
-use Rattle.question.specs.Parts.{propertyStop, propertiesAt, PropertiesStand}
-use Rattle.question.proofs.CountedLaws.{walk-step}
-use Rattle.question.proofs.PartLaws.{property-stop}
+use Rattle.layout.specs.Counted.{valuesAt, countedAt}
+use Rattle.layout.proofs.CountedLaws.{walk-step}
+use Rattle.properties.specs.Properties.{propertyStop, propertiesAt, PropertiesStand}
+use Rattle.properties.proofs.ReadLaws.{property-fits}
 use Rattle.question.proofs.AskLaws.{ask-parts}
-use Rattle.final_number.proofs.ValueLaws.{value-fits, shown-wide}
+use Rattle.final_number.proofs.ValueLaws.{shown-wide}
 
 -- ---- what is counted
 
@@ -98,7 +98,7 @@ values-fit q zero at p = tt
 values-fit q (suc n) at p =
     let step = walk-step p (omega arith) in
     let e : suc n - 1 ≡ n = omega arith in
-    (value-fits (property-stop {top = getD q (at + 2) 0 + 1} (step .here) (record { is = refl; below = omega arith })), values-fit q n (propertyStop q at) (rw e at (step .rest)))
+    (property-fits (step .here), values-fit q n (propertyStop q at) (rw e at (step .rest)))
 
 pub question-fits : (q : List ℕ) (x : Question) → questionOf q ≡ some x → All Fits (x .properties)
 unfolding countedAt

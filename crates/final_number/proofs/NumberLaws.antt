@@ -13,16 +13,17 @@ use Rattle.rules.specs.Lists.{joinWith, consSome, gather, isSome, ifSome}
 use Rattle.rules.specs.Book.{Record, Article, Scheme, schemeOf, asScheme}
 use Rattle.rules.specs.Question.{Property, Question, property}
 use Rattle.rules.specs.FinalNumber.{shownOf, separatorOf, behind, numberBy, finalNumberOf}
+use Rattle.layout.specs.Counted.{Stands, valuesAt}
 use Rattle.layout.specs.Ensures.{PutsTo}
 use Rattle.layout.proofs.StoreLaws.{to-nothing, to-then}
+use Rattle.layout.proofs.CountedLaws.{walk-step, walk-here}
 use Rattle.records.specs.Asks.{OfKind}
 use Rattle.records.specs.Ensures.{bytesIn, schemeIn, SchemeIs}
 use Rattle.records.specs.declared.schemes.SchemeParts.{SchemeParts}
+use Rattle.properties.specs.declared.PropertyParts.{PropertyParts}
+use Rattle.properties.specs.Properties.{propertyAt, propertyStop, propertiesAt, propertyIn, PropertiesStand, PropertyIs}
 use Rattle.question.specs.declared.Ask.{Ask}
-use Rattle.question.specs.Counted.{Stands, valuesAt}
-use Rattle.question.specs.Parts.{propertyAt, propertyStop, propertiesAt, PropertiesStand}
-use Rattle.question.specs.Asked.{PropertyStop, AskIs, askIn}
-use Rattle.question.proofs.CountedLaws.{walk-step, walk-here}
+use Rattle.question.specs.Asked.{AskIs, askIn}
 use Rattle.lookup.specs.Ensures.{schemeHeld}
 use Rattle.final_number.specs.Values.{before, most, led, brought, ledAll, broughtAll}
 use Rattle.final_number.specs.Ensures.{longest, SchemeOrNone, numberIn}
@@ -85,23 +86,23 @@ module _ (old : List ℕ) (base : ℕ) (q : List ℕ) (t : List ℕ) (scheme : S
     pub put-room : 0 < left → at + most ≤ length out
     put-room h = omega (arith, inv .room)
 
-    pub put-again : {new : List ℕ} {end r : ℕ} → 0 < left → SchemeIs t scheme → PropertyStop q p end → PutsTo out at (brought (schemeIn t scheme) (eqb at base) (propertyAt q p)) new r
-        → Putting old base q (schemeIn t scheme) from count new r end (left - 1)
-    put-again {new} {end} {r} h is stop w =
+    pub put-again : {x : PropertyParts} {new : List ℕ} {r : ℕ} → 0 < left → SchemeIs t scheme → PropertyIs q p x → PutsTo out at (brought (schemeIn t scheme) (eqb at base) (propertyIn q x)) new r
+        → Putting old base q (schemeIn t scheme) from count new r (x .value .at + x .value .size) (left - 1)
+    put-again {x} {new} {r} h is read w =
         let step = walk-step (inv .standing) h in
-        let o = shownOf s (propertyAt q p) in
-        let vs = gather (shownOf s) (propertiesAt q end (left - 1)) in
+        let o = shownOf s (propertyIn q x) in
+        let vs = gather (shownOf s) (propertiesAt q (propertyStop q p) (left - 1)) in
         let all : ledAll s (eqb at base) (gather (shownOf s) (propertiesAt q p left)) ≡ led s (eqb at base) o ++ ledAll s (eqb r base) vs =
         ap (λ (ps : List Property). ledAll s (eqb at base) (gather (shownOf s) ps)) (step .values)
-        ∙ (ap (λ (k : ℕ). ledAll s (eqb at base) (consSome o (gather (shownOf s) (propertiesAt q k (left - 1))))) (sym (stop .is))
+        ∙ (ap (λ (y : Property). ledAll s (eqb at base) (consSome (shownOf s y) vs)) (read .is)
         ∙ (led-step s (eqb at base) o vs ∙ ap (λ b. led s (eqb at base) o ++ ledAll s b vs) (sym (still-first s base at (inv .low) o r (w .ends))))) in
-        record {
+        rw (read .next) (record {
           low = omega (arith, inv .low, w .ends);
-          room = omega (arith, inv .room, w .ends, w .puts .long, led-short t scheme q p at (eqb at base) out (is .bounds) stop);
+          room = omega (arith, inv .room, w .ends, w .puts .long, led-short s (is .bounds) q x (read .fits) (eqb at base));
           long = w .puts .long ∙ inv .long;
-          standing = rw (stop .is) (step .rest);
+          standing = step .rest;
           rest = λ {new = new′} {r = r′} x. inv .rest (subst (λ (bs : List ℕ). PutsTo out at bs new′ r′) (sym all) (to-then w x));
-        }
+        })
 
     pub put-end : left ≤ 0 → PutsTo old base (broughtAll (schemeIn t scheme) (propertiesAt q from count)) out at
     unfolding ledAll valuesAt

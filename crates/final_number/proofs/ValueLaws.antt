@@ -8,20 +8,22 @@ use native.Mathlib.Omega.{arith}
 use lib.Dec.{eqb}
 use borrow.Author.Tests.{eqb-true}
 use Rattle.rules.proofs.TestLaws.{and-left, and-right}
-use lib.ListN.{length, take, drop, getD, replicate, length-append, length-drop, length-replicate}
+use lib.ListN.{length, take, drop, replicate, length-append, length-drop, length-replicate}
 use lib.Seq.{length-take-le, take-take, drop-drop}
 use Rattle.rules.specs.Book.{Scheme}
 use Rattle.rules.specs.BookLayout.{given, hiddenByte, unselectedByte}
-use Rattle.rules.specs.Question.{Property}
+use Rattle.rules.specs.Question.{Property, stateNumber}
 use Rattle.rules.specs.FinalNumber.{padded, hiddenRun, stated, shownOf, separatorOf}
 use Rattle.rules.specs.declared.Part.{Part}
-use Rattle.layout.specs.Ensures.{Number, PutsTo}
+use Rattle.rules.specs.declared.State.{State}
+use Rattle.rules.specs.declared.State.the-variants.{Valued, Hidden, Unselected}
+use Rattle.layout.specs.Ensures.{Says, Number, PutsTo}
 use Rattle.layout.proofs.LayoutLaws.{part-is}
 use Rattle.layout.proofs.StoreLaws.{to-nothing, to-then}
 use Rattle.records.specs.Ensures.{bytesIn, schemeIn, SchemeBounds, SchemeIs}
 use Rattle.records.specs.declared.schemes.SchemeParts.{SchemeParts}
-use Rattle.question.specs.Parts.{propertyAt}
-use Rattle.question.specs.Asked.{PropertyStop}
+use Rattle.properties.specs.declared.PropertyParts.{PropertyParts}
+use Rattle.properties.specs.Properties.{propertyIn, PropertyFits}
 use Rattle.final_number.specs.Values.{before, most, led, brought, byState, valueBytes}
 
 -- ---- a part
@@ -98,41 +100,33 @@ module _ (trim width : ℕ) {a b v : List ℕ} {at m : ℕ} where
       as-it-is zero n = absurd (n refl)
       as-it-is (suc t) n = refl
 
--- there is no more of a value than it is wide
-value-size : {q : List ℕ} {p end : ℕ} → PropertyStop q p end → length (take (end - (p + 3)) (drop (p + 3) q)) ≤ getD q p 0
-value-size {q} {p} {end} stop = omega (arith, stop .high, length-take-le (end - (p + 3)) (drop (p + 3) q) (rw length-drop (omega (arith, stop .fits))))
+module _ (q : List ℕ) (p : PropertyParts) (fits : PropertyFits q p) where
+  pub shown-room : (old : List ℕ) (at : ℕ) → at + 30 ≤ length old → at + p .width ≤ length old
+  shown-room old at h = omega (arith, fits .wide)
 
-module _ (q : List ℕ) (p end : ℕ) (stop : PropertyStop q p end) {width : ℕ} (size : Number (getD q p 0) 256 width) where
-  pub shown-room : (old : List ℕ) (at : ℕ) → at + 30 ≤ length old → at + width ≤ length old
-  shown-room old at h = omega (arith, stop .wide, size .is)
+  -- there is no more of a value than it is wide
+  pub value-long : length (take (p .value .at + p .value .size - p .value .at) (drop (p .value .at) q)) ≤ p .width
+  value-long = rw (part-bytes q (p .value)) (omega (arith, part-long q (p .value) (fits .inside), fits .short))
 
-  pub value-long : length (take (end - (p + 3)) (drop (p + 3) q)) ≤ width
-  value-long = omega (arith, value-size stop, size .is)
-
-module _ (q : List ℕ) (p end : ℕ) (stop : PropertyStop q p end) {old new : List ℕ} {at r width : ℕ} (size : Number (getD q p 0) 256 width) (s : SchemeParts) where
-  pub valued : getD q (p + 1) 0 ≡ 0 → PutsTo old at (padded (s .trim) width (take (end - (p + 3)) (drop (p + 3) q))) new r → PutsTo old at (valueBytes s (propertyAt q p)) new r
+module _ (q : List ℕ) (p : PropertyParts) (s : SchemeParts) {old new : List ℕ} {at r : ℕ} where
+  pub valued : p .state ≡ Valued → PutsTo old at (padded (s .trim) (p .width) (take (p .value .at + p .value .size - p .value .at) (drop (p .value .at) q))) new r
+      → PutsTo old at (valueBytes s (propertyIn q p)) new r
   unfolding valueBytes
-  valued e h = rw (e, stop .bytes, ← size .is) h
+  valued e h = rw e (rw (part-bytes q (p .value)) at h)
 
   module _ {c : ℕ} where
-    pub hidden : getD q (p + 1) 0 ≡ 1 → Number (given 45 (s .hidden)) 256 c → PutsTo old at (replicate width c) new r → PutsTo old at (valueBytes s (propertyAt q p)) new r
+    pub hidden : p .state ≡ Hidden → Number (given 45 (s .hidden)) 256 c → PutsTo old at (replicate (p .width) c) new r → PutsTo old at (valueBytes s (propertyIn q p)) new r
     unfolding valueBytes
-    hidden e g h = rw (e, ← size .is, ← g .is) h
+    hidden e g h = rw (e, ← g .is) h
 
-    pub unselected : ((Unit {0}) × (getD q (p + 1) 0 ≡ 0 → ⊥)) × (getD q (p + 1) 0 ≡ 1 → ⊥) → Number (given 88 (s .unselected)) 256 c → PutsTo old at (replicate width c) new r
-        → PutsTo old at (valueBytes s (propertyAt q p)) new r
+    pub unselected : p .state ≡ Unselected → Number (given 88 (s .unselected)) 256 c → PutsTo old at (replicate (p .width) c) new r → PutsTo old at (valueBytes s (propertyIn q p)) new r
     unfolding valueBytes
-    unselected n g h = rw (third (getD q (p + 1) 0) (n .0 .1) (n .1), ← size .is, ← g .is) h
-      where
-        third : (state : ℕ) → (state ≡ 0 → ⊥) → (state ≡ 1 → ⊥) → byState s state (propertyAt q p) ≡ replicate (getD q p 0) (given 88 (s .unselected))
-        third zero m n = absurd (m refl)
-        third (suc zero) m n = absurd (n refl)
-        third (suc (suc state)) m n = refl
+    unselected e g h = rw (e, ← g .is) h
 
 -- ---- how long it is
 
-pub value-fits : {q : List ℕ} {p end : ℕ} → PropertyStop q p end → length (propertyAt q p .value) ≤ propertyAt q p .width
-value-fits stop = rw (stop .bytes) (value-size stop)
+value-fits : (q : List ℕ) (p : PropertyParts) → PropertyFits q p → length (propertyIn q p .value) ≤ p .width
+value-fits q p fits = omega (arith, part-long q (p .value) (fits .inside), fits .short)
 
 -- what is shown is no longer than the property is wide, and as long where values are filled
 pub record Wide (s : Scheme) (p : Property) (v : List ℕ) : Type 0 where
@@ -190,23 +184,33 @@ module _ (t : List ℕ) (s : SchemeParts) where
       by (suc zero) e = run (s .visibility) e
       by (suc (suc state)) e = refl
 
-module _ (t : List ℕ) (s : SchemeParts) (q : List ℕ) (p at : ℕ) (first : Bool) (a : List ℕ) where
-  pub next-none : at + most ≤ length a → (eqb (getD q (p + 1) 0) 1 && eqb (s .visibility) 0) ≡ true → PutsTo a at (brought (schemeIn t s) first (propertyAt q p)) a at
-  next-none h e = subst (λ (o : Option (List ℕ)). PutsTo a at (led (schemeIn t s) first o) a at) (sym (shows-not t s (propertyAt q p) e)) (to-nothing (omega arith))
+-- whether a property is left out, by its state
+pub valued-out : (state : State) (visibility : ℕ) → state ≡ Valued → Says (eqb (stateNumber state) 1 && eqb visibility 0) false
+valued-out state visibility e = record { is = rw e }
 
-  module _ {b : List ℕ} {m : ℕ} (sep : PutsTo a at (before (schemeIn t s) first) b m) where
-    -- behind its separator there is room for it
-    pub next-room : SchemeIs t s → at + most ≤ length a → m + 30 ≤ length b
-    next-room is h = omega (arith, sep .ends, sep .puts .long, before-short (schemeIn t s) (is .bounds) first)
+pub hidden-out : (state : State) (visibility : ℕ) → state ≡ Hidden → Says (eqb (stateNumber state) 1 && eqb visibility 0) (eqb visibility 0)
+hidden-out state visibility e = record { is = rw e }
 
-    pub next-some : {c : List ℕ} {r : ℕ} → (eqb (getD q (p + 1) 0) 1 && eqb (s .visibility) 0) ≡ false → PutsTo b m (valueBytes s (propertyAt q p)) c r
-        → PutsTo a at (brought (schemeIn t s) first (propertyAt q p)) c r
-    next-some {c} {r} e v = subst (λ (o : Option (List ℕ)). PutsTo a at (led (schemeIn t s) first o) c r) (sym (shows t s (propertyAt q p) e)) (to-then sep v)
+pub unselected-out : (state : State) (visibility : ℕ) → state ≡ Unselected → Says (eqb (stateNumber state) 1 && eqb visibility 0) false
+unselected-out state visibility e = record { is = rw e }
 
-  -- so many bytes at most
-  pub led-short : SchemeBounds (schemeIn t s) → {end : ℕ} → PropertyStop q p end → length (brought (schemeIn t s) first (propertyAt q p)) ≤ most
-  led-short b stop = go (shownOf (schemeIn t s) (propertyAt q p)) (λ v e. shown-wide (schemeIn t s) (propertyAt q p) (value-fits stop) v e .within)
-    where
-      go : (o : Option (List ℕ)) → ((v : List ℕ) → o ≡ some v → length v ≤ propertyAt q p .width) → length (led (schemeIn t s) first o) ≤ most
-      go none h = omega arith
-      go (some v) h = omega (arith, h v refl, stop .wide, before-short (schemeIn t s) b first, length-append (before (schemeIn t s) first) v)
+module _ (t : List ℕ) (s : SchemeParts) (q : List ℕ) (p : PropertyParts) (at : ℕ) (first : Bool) (a : List ℕ) where
+  module _ {out : Bool} (said : Says (eqb (stateNumber (p .state)) 1 && eqb (s .visibility) 0) out) where
+    pub next-none : at + most ≤ length a → out ≡ true → PutsTo a at (brought (schemeIn t s) first (propertyIn q p)) a at
+    next-none h e = subst (λ (o : Option (List ℕ)). PutsTo a at (led (schemeIn t s) first o) a at) (sym (shows-not t s (propertyIn q p) (said .is ∙ e))) (to-nothing (omega arith))
+
+    pub next-some : {b c : List ℕ} {m r : ℕ} → out ≡ false → PutsTo a at (before (schemeIn t s) first) b m → PutsTo b m (valueBytes s (propertyIn q p)) c r
+        → PutsTo a at (brought (schemeIn t s) first (propertyIn q p)) c r
+    next-some {c = c} {r = r} e sep v = subst (λ (o : Option (List ℕ)). PutsTo a at (led (schemeIn t s) first o) c r) (sym (shows t s (propertyIn q p) (said .is ∙ e))) (to-then sep v)
+
+  -- behind its separator there is room for it
+  pub next-room : {b : List ℕ} {m : ℕ} → PutsTo a at (before (schemeIn t s) first) b m → SchemeIs t s → at + most ≤ length a → m + 30 ≤ length b
+  next-room sep is h = omega (arith, sep .ends, sep .puts .long, before-short (schemeIn t s) (is .bounds) first)
+
+-- so many bytes at most
+pub led-short : (s : Scheme) → SchemeBounds s → (q : List ℕ) (p : PropertyParts) → PropertyFits q p → (first : Bool) → length (brought s first (propertyIn q p)) ≤ most
+led-short s b q p fits first = go (shownOf s (propertyIn q p)) (λ v e. shown-wide s (propertyIn q p) (value-fits q p fits) v e .within)
+  where
+    go : (o : Option (List ℕ)) → ((v : List ℕ) → o ≡ some v → length v ≤ p .width) → length (led s first o) ≤ most
+    go none h = omega arith
+    go (some v) h = omega (arith, h v refl, fits .wide, before-short s b first, length-append (before s first) v)

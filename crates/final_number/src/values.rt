@@ -1,18 +1,21 @@
 // The values of a question's properties, as a scheme writes them.
 use kinds::given_or;
-use layout::numbers::wide;
 use layout::strings::put_bytes;
 use layout::strings::put_run;
-use question::properties::property_stop;
+use properties::PropertyParts;
+use properties::property_of;
 use records::SchemeParts;
 use rules::Part;
+use rules::State;
 ghost use Prim.Native.Nat.{_+_, _*_, _≤_};
+ghost use mathlib.Core.Bool.{_&&_};
+ghost use lib.Dec.{eqb};
 ghost use lib.ListN.{length};
+ghost use Rattle.rules.specs.Question.{stateNumber};
 ghost use Rattle.rules.specs.FinalNumber.{padded};
-ghost use Rattle.layout.specs.Ensures.{PutsTo};
+ghost use Rattle.layout.specs.Ensures.{Says, PutsTo};
 ghost use Rattle.records.specs.Ensures.{bytesIn, schemeIn, SchemeIs};
-ghost use Rattle.question.specs.Parts.{propertyAt, propertiesAt, PropertiesStand};
-ghost use Rattle.question.specs.Asked.{PropertyStop};
+ghost use Rattle.properties.specs.Properties.{propertyIn, propertiesAt, PropertiesStand, PropertyFits};
 ghost use Rattle.final_number.specs.Values.{before, most, brought, broughtAll, valueBytes};
 
 // A part of s, put at a place.
@@ -56,49 +59,62 @@ fn put_padded(out: &mut [u8], at: usize, trim: u8, width: usize, value: &[u8]) -
     end
 }
 
-// What the property from p to `end` shows, where it shows something: its value, or a run of the character of its state.
+// What the property shows, where it shows something: its value, or a run of the character of its state.
 fn put_value(
     out: &mut [u8],
     at: usize,
     q: &[u8],
-    p: usize,
-    end: usize,
+    property: PropertyParts,
     scheme: SchemeParts,
 ) -> usize
-    requires { ⌜ PropertyStop (now q) p end ⌝ }
+    requires { ⌜ PropertyFits (now q) property ⌝ }
     requires { ⌜ at + 30 ≤ length (now out) ⌝ }
-    ensures { λ r. ⌜ PutsTo (now (out .entry)) at (valueBytes scheme (propertyAt (now (q .entry)) p)) (now (out .exit)) r ⌝ }
+    ensures { λ r. ⌜ PutsTo (now (out .entry)) at (valueBytes scheme (propertyIn (now (q .entry)) property)) (now (out .exit)) r ⌝ }
 {
-    let width = wide(q[p]);
-    let value = p + 3;
-    match q[p + 1] {
-        0 => put_padded(out, at, scheme.trim, width, &q[value..end]),
-        1 => put_run(out, at, given_or(b'-', scheme.hidden), width),
-        _ => put_run(out, at, given_or(b'X', scheme.unselected), width),
+    let width = property.width;
+    let value = property.value;
+    let from = value.at;
+    let to = from + value.size;
+    let state = property.state;
+    match state {
+        State::Valued => put_padded(out, at, scheme.trim, width, &q[from..to]),
+        State::Hidden => put_run(out, at, given_or(b'-', scheme.hidden), width),
+        State::Unselected => put_run(out, at, given_or(b'X', scheme.unselected), width),
     }
 }
 
-// The property with its separator. A hidden one that the scheme does not show has none either.
+// Whether a property in this state is left out: a hidden one is, under visibility 0.
+fn left_out(state: State, visibility: u8) -> bool
+    ensures { λ r. ⌜ Says (eqb (stateNumber state) 1 && eqb visibility 0) r ⌝ }
+{
+    match state {
+        State::Valued => false,
+        State::Hidden => visibility == 0,
+        State::Unselected => false,
+    }
+}
+
+// The property with its separator. One that is left out has none either.
 fn put_next(
     out: &mut [u8],
     at: usize,
     first: bool,
     q: &[u8],
-    p: usize,
-    end: usize,
+    property: PropertyParts,
     t: &[u8],
     scheme: SchemeParts,
 ) -> usize
-    requires { ⌜ PropertyStop (now q) p end ⌝ }
+    requires { ⌜ PropertyFits (now q) property ⌝ }
     requires { ⌜ SchemeIs (now t) scheme ⌝ }
     requires { ⌜ at + most ≤ length (now out) ⌝ }
-    ensures { λ r. ⌜ PutsTo (now (out .entry)) at (brought (schemeIn (now (t .entry)) scheme) first (propertyAt (now (q .entry)) p)) (now (out .exit)) r ⌝ }
+    ensures { λ r. ⌜ PutsTo (now (out .entry)) at (brought (schemeIn (now (t .entry)) scheme) first (propertyIn (now (q .entry)) property)) (now (out .exit)) r ⌝ }
 {
-    if (q[p + 1] == 1) & (scheme.visibility == 0) {
+    let state = property.state;
+    if left_out(state, scheme.visibility) {
         return at;
     }
     let from = put_separator(out, at, first, t, scheme);
-    put_value(out, from, q, p, end, scheme)
+    put_value(out, from, q, property, scheme)
 }
 
 // The properties from `from` on, so many, behind the base number, which ends at `base`. Every value has bytes in front of it,
@@ -121,9 +137,10 @@ pub fn put_values(
     let mut p = from;
     let mut left = count;
     while 0 < left {
-        let end = property_stop(q, p);
-        at = put_next(out, at, at == base, q, p, end, t, scheme);
-        p = end;
+        let property = property_of(q, p);
+        at = put_next(out, at, at == base, q, property, t, scheme);
+        let value = property.value;
+        p = value.at + value.size;
         left -= 1;
     }
     at

@@ -4,11 +4,11 @@ use mathlib.Core.Path.{_≡_, refl, sym, _∙_, ap}
 use mathlib.Core.List.{List}
 use native.Mathlib.Omega.{arith}
 use lib.ListN.{length, take, drop}
-use Rattle.rules.specs.Question.{Question, askedOf, on}
+use Rattle.rules.specs.Question.{Question, askedOf, on, lettersOf}
 use Rattle.question.specs.declared.Ask.{Ask}
 use Rattle.question.specs.declared.Terms.{Terms}
 use Rattle.question.specs.Parts.{namesAt}
-use Rattle.question.specs.Asked.{askIn, lettersOf, TermsAre, termsOn}
+use Rattle.question.specs.Asked.{askIn, TermsAre, termsOn}
 use Rattle.grants.specs.Table.{tableSize, GrantsAre}
 use Rattle.grants.specs.Asks.{Asks, Tabled, Asked}
 use Rattle.grants.proofs.FillLaws.{names-count}

@@ -11,12 +11,12 @@ use Rattle.rules.specs.Lists.{same, all, between}
 use Rattle.rules.specs.Bytes.{name, raise}
 use Rattle.rules.proofs.ListLaws.{All, same-eq, same-refl, any-append}
 use Rattle.rules.proofs.TestLaws.{both, is-between}
-use Rattle.layout.specs.Reads.{part, nameStop}
+use Rattle.layout.specs.Reads.{part, nameStop, nameAt}
+use Rattle.layout.specs.Counted.{valuesAt, Stands}
 use Rattle.layout.specs.Ensures.{Number, Puts}
-use Rattle.question.specs.Counted.{valuesAt, Stands}
-use Rattle.question.specs.Parts.{nameAt, namesAt, NamesStand}
+use Rattle.layout.proofs.CountedLaws.{walk-step, walk-here}
+use Rattle.question.specs.Parts.{namesAt, NamesStand}
 use Rattle.question.specs.Asked.{NameStop}
-use Rattle.question.proofs.CountedLaws.{walk-step, walk-here}
 use Rattle.question.proofs.PartLaws.{granted-stop}
 use Rattle.grants.specs.Table.{entry, lookFrom, Entered, GrantsAre}
 use Rattle.grants.specs.Places.{placeOf, PlaceIs}

@@ -3,9 +3,8 @@ use Prim.Native.Nat.{ℕ, _≤_}
 use mathlib.Core.Path.{_≡_}
 use mathlib.Core.List.{List}
 use lib.ListN.{length}
-use Rattle.rules.specs.Question.{Question, askedOf}
+use Rattle.rules.specs.Question.{Question, askedOf, lettersOf}
 use Rattle.question.specs.declared.Terms.{Terms}
-use Rattle.question.specs.Asked.{lettersOf}
 use Rattle.grants.specs.Table.{tableSize, GrantsAre}
 
 -- q asks for the article of this number, by these terms, and the table is of its granted names

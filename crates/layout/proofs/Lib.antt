@@ -4,3 +4,6 @@ pub mod NumberLaws
 pub mod StoreLaws
 pub mod NameLaws
 pub mod FromLaws
+pub mod ReadingLaws
+pub mod CountedLaws
+pub mod NameEndLaws

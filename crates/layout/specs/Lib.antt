@@ -1,3 +1,4 @@
 pub mod Reads
+pub mod Counted
 pub mod Ensures
 pub mod Records

@@ -1,5 +1,5 @@
 -- What a layout does at a place of a byte string.
-use Prim.Native.Nat.{ℕ, zero, suc, _+_, _-_}
+use Prim.Native.Nat.{ℕ, zero, suc, _+_, _-_, _<_}
 use mathlib.Core.Path.{_≡_}
 use mathlib.Core.List.{List, [], _∷_}
 use mathlib.Core.Bool.{Bool, true, false}
@@ -23,6 +23,10 @@ pub record Reads {A : Type 0} (m : Layout A) (s : List ℕ) (at : ℕ) (ok : Boo
 pub record Sized {A : Type 0} (m : Layout A) (n : ℕ) : Type 0 where
   pub takes : (s : List ℕ) (v : A) (t : List ℕ) → m s ≡ some (v, t) → length s ≡ n + length t
 
+-- fewer than n bytes break the layout
+pub record Wants {A : Type 0} (m : Layout A) (n : ℕ) : Type 0 where
+  pub short : (s : List ℕ) → length s < n → m s ≡ none
+
 -- the bytes from `from` to `to`
 abbrev pub part : List ℕ → ℕ → ℕ → List ℕ
 part s from to = take (to - from) (drop from s)
@@ -30,6 +34,10 @@ part s from to = take (to - from) (drop from s)
 -- where a name at `at` ends, by its length byte
 abbrev pub nameStop : List ℕ → ℕ → ℕ
 nameStop s at = at + 1 + getD s at 0
+
+-- and the name
+abbrev pub nameAt : List ℕ → ℕ → List ℕ
+nameAt s at = part s (at + 1) (nameStop s at)
 
 -- n places, w apart, from k behind p on
 abbrev pub placesAt : ℕ → ℕ → ℕ → ℕ → List ℕ

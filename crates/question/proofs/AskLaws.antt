@@ -15,15 +15,18 @@ use Rattle.rules.specs.Days.{isDay}
 use Rattle.rules.specs.Book.{sale, purchase}
 use Rattle.rules.specs.Question.{property, questionLayout, questionOf}
 use Rattle.rules.proofs.TestLaws.{and-left, and-right, between-low, between-high}
-use Rattle.layout.specs.Reads.{nameStop}
+use Rattle.layout.specs.Reads.{nameStop, nameAt}
+use Rattle.layout.specs.Counted.{countedAt, countedStop, stopAfter}
 use Rattle.layout.specs.Ensures.{Number, NameEnd}
 use Rattle.layout.proofs.LayoutLaws.{reads-as, accepted-is, taken-are}
 use Rattle.layout.proofs.NameLaws.{name-cases}
-use Rattle.question.specs.Counted.{countedAt, countedStop, stopAfter}
-use Rattle.question.specs.Parts.{nameAt, propertyAt, propertyStop, headOk, currencyOk, termsOk, NamesStand}
+use Rattle.layout.proofs.CountedLaws.{CountedEnd, counted-few}
+use Rattle.layout.proofs.NameEndLaws.{name-size}
+use Rattle.properties.specs.Properties.{propertyAt, propertyStop}
+use Rattle.properties.proofs.PropertyLaws.{properties-any}
+use Rattle.question.specs.Parts.{headOk, currencyOk, termsOk, NamesStand}
 use Rattle.question.specs.Asked.{AskAt, AskIs}
-use Rattle.question.proofs.CountedLaws.{CountedEnd, counted-few}
-use Rattle.question.proofs.PartLaws.{name-size, granted-any, properties-any}
+use Rattle.question.proofs.PartLaws.{granted-any}
 use Rattle.question.proofs.QuestionLaws.{question-short, question-nameless, question-cut, question-ungranted, question-some, question-reads}
 
 -- the bytes are a question: each way not to be one is out, and what is left are its parts

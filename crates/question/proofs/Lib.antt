@@ -1,5 +1,3 @@
-pub mod ReadingLaws
-pub mod CountedLaws
 pub mod PartLaws
 pub mod QuestionLaws
 pub mod AskLaws

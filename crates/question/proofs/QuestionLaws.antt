@@ -19,10 +19,11 @@ use Rattle.layout.specs.Reads.{Reads}
 use Rattle.layout.specs.Ensures.{Says, NameEnd}
 use Rattle.layout.proofs.FromLaws.{head-reads}
 use Rattle.layout.proofs.LayoutLaws.{then-reads, then-broken, such-reads, reads-as, give-reads, number-reads, bytes-reads, one-of-at, sized-then, sized-such, sized-bytes, sized-number, sized-one-of}
-use Rattle.question.specs.Parts.{headOk, currencyOk, termsOk, questionAt, GrantedEnd, PropertiesEnd}
-use Rattle.question.proofs.PartLaws.{properties-any}
-use Rattle.question.proofs.CountedLaws.{counted-reads, ends-reads}
-use Rattle.question.proofs.ReadingLaws.{then-none, wants-any, wants-then, wanted, whole-at}
+use Rattle.layout.proofs.ReadingLaws.{then-none, wants-any, wants-then, wanted, whole-at}
+use Rattle.layout.proofs.CountedLaws.{counted-reads, ends-reads}
+use Rattle.properties.specs.Properties.{PropertiesEnd}
+use Rattle.properties.proofs.PropertyLaws.{properties-any}
+use Rattle.question.specs.Parts.{headOk, currencyOk, termsOk, questionAt, GrantedEnd}
 
 not-one : (s : List ℕ) → questionLayout (length s) (drop 0 s) ≡ none → false ≡ isSome (questionOf s)
 unfolding questionOf

@@ -9,13 +9,13 @@ use lib.ListN.{length, take, drop, getD}
 use Rattle.rules.specs.Lists.{any}
 use Rattle.rules.specs.Days.{isDay}
 use Rattle.rules.specs.Book.{sale, purchase}
-use Rattle.rules.specs.Question.{Question, askedOf, questionOf}
-pub use Rattle.rules.specs.Question.{lettersOf}
-use Rattle.layout.specs.Reads.{part, nameStop}
+use Rattle.rules.specs.Question.{Question, lettersOf, askedOf, questionOf}
+use Rattle.layout.specs.Reads.{part, nameStop, nameAt}
+use Rattle.layout.specs.Counted.{stopAfter}
+use Rattle.properties.specs.Properties.{propertiesAt, PropertiesStand}
 use Rattle.question.specs.declared.Ask.{Ask}
 use Rattle.question.specs.declared.Terms.{Terms}
-use Rattle.question.specs.Counted.{stopAfter}
-use Rattle.question.specs.Parts.{nameAt, propertyAt, propertyStop, namesAt, propertiesAt, NamesStand, PropertiesStand, currencyOk, termsOk, questionAt}
+use Rattle.question.specs.Parts.{namesAt, NamesStand, currencyOk, termsOk, questionAt}
 
 -- the end `r` of the granted name at `at`, which has 1 to 20 bytes
 pub record NameStop (s : List ℕ) (at r : ℕ) : Type 0 where
@@ -24,17 +24,6 @@ pub record NameStop (s : List ℕ) (at r : ℕ) : Type 0 where
   pub high : r ≤ at + 21
   pub fits : r ≤ length s
   pub bytes : nameAt s at ≡ part s (at + 1) r
-
--- the end `r` of the property at `at`, whose value has no more bytes than it is wide
-pub record PropertyStop (s : List ℕ) (at r : ℕ) : Type 0 where
-  pub is : r ≡ propertyStop s at
-  pub low : at + 3 ≤ r
-  pub high : r ≤ at + 3 + getD s at 0
-  pub fits : r ≤ length s
-  pub narrow : 1 ≤ getD s at 0
-  pub wide : getD s at 0 ≤ 30
-  pub state : getD s (at + 1) 0 ≤ 2
-  pub bytes : propertyAt s at .value ≡ part s (at + 3) r
 
 -- the article's name ends at a, the granted names end at g
 pub record AskAt (s : List ℕ) (a g : ℕ) : Type 0 where

@@ -8,42 +8,23 @@ use Rattle.rules.specs.Lists.{same, between, any}
 use Rattle.rules.specs.Bytes.{name, big, capitals}
 use Rattle.rules.specs.Days.{isDay}
 use Rattle.rules.specs.Book.{sale, purchase}
-use Rattle.rules.specs.Question.{Property, Question, property, noCurrency, askedOf}
-use Rattle.layout.specs.Reads.{part, nameStop}
-use Rattle.question.specs.Counted.{Ends, Standing, counted, valuesAt, countedAt, countedStop}
+use Rattle.rules.specs.Question.{Question, noCurrency, askedOf}
+use Rattle.layout.specs.Reads.{part, nameStop, nameAt}
+use Rattle.layout.specs.Counted.{Ends, Standing, counted, valuesAt, countedAt, countedStop}
+use Rattle.properties.specs.Properties.{propertyAt, propertyStop}
 
--- the name at a place
-abbrev pub nameAt : List ℕ → ℕ → List ℕ
-nameAt s at = part s (at + 1) (nameStop s at)
-
--- the property at a place: width, state, and a name
-abbrev pub propertyAt : List ℕ → ℕ → Property
-propertyAt s at = record { width = getD s at 0; state = getD s (at + 1) 0; value = nameAt s (at + 2) }
-
-abbrev pub propertyStop : List ℕ → ℕ → ℕ
-propertyStop s at = nameStop s (at + 2)
-
--- ---- names and properties, as many as their counts say
+-- ---- granted names, as many as their count says
 
 abbrev pub namesAt : List ℕ → ℕ → ℕ → List (List ℕ)
 namesAt = valuesAt nameAt nameStop
 
-abbrev pub propertiesAt : List ℕ → ℕ → ℕ → List Property
-propertiesAt = valuesAt propertyAt propertyStop
-
--- the names counted at `at` end at `r`; 0: none
+-- those counted at `at` end at `r`; 0: none
 abbrev pub GrantedEnd : List ℕ → ℕ → ℕ → Type 0
 GrantedEnd = Ends (counted (name 1 20)) (countedAt nameAt nameStop) (countedStop nameStop)
-
-abbrev pub PropertiesEnd : List ℕ → ℕ → ℕ → Type 0
-PropertiesEnd = Ends (counted property) (countedAt propertyAt propertyStop) (countedStop propertyStop)
 
 -- n of them stand one behind the other, the first at `at`
 abbrev pub NamesStand : List ℕ → ℕ → ℕ → Type 0
 NamesStand = Standing (name 1 20) nameAt nameStop
-
-abbrev pub PropertiesStand : List ℕ → ℕ → ℕ → Type 0
-PropertiesStand = Standing property propertyAt propertyStop
 
 -- ---- the tests of the fields around them
 

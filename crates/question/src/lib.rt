@@ -1,16 +1,15 @@
 // Which bytes are a question ("The price book"), and an accepted one read by value.
 pub mod names;
-pub mod properties;
 
 use crate::names::granted_end;
 use crate::names::names_stop;
-use crate::properties::properties_end;
 use days::Day;
 use layout::names::name_end;
 use layout::numbers::four_at;
 use layout::numbers::is_capital;
 use layout::numbers::is_either;
 use layout::numbers::wide;
+use properties::properties_end;
 ghost use mathlib.Core.Path.{_≡_};
 ghost use mathlib.Core.Bool.{true};
 ghost use Prim.Native.Nat.{_+_, _≤_};

@@ -5,10 +5,10 @@ ghost use mathlib.Core.Path.{_≡_};
 ghost use Prim.Native.Nat.{_≤_};
 ghost use lib.ListN.{length};
 ghost use Rattle.rules.specs.Bytes.{name};
-ghost use Rattle.layout.specs.Reads.{nameStop};
-ghost use Rattle.question.specs.Counted.{Stands, stopAfter};
+ghost use Rattle.layout.specs.Reads.{nameStop, nameAt};
+ghost use Rattle.layout.specs.Counted.{Stands, stopAfter};
 ghost use Rattle.question.specs.Asked.{NameStop};
-ghost use Rattle.question.specs.Parts.{nameAt, GrantedEnd, NamesStand};
+ghost use Rattle.question.specs.Parts.{GrantedEnd, NamesStand};
 
 // The end of the granted names, whose count stands at `at`, or 0.
 pub fn granted_end(s: &[u8], at: usize) -> usize

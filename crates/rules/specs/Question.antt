@@ -12,6 +12,8 @@ use Rattle.rules.specs.Bytes.{number, name, oneOf, head, capitals, raise
 use Rattle.rules.specs.Days.{isDay}
 use Rattle.rules.specs.Book.{sale, purchase}
 use Rattle.rules.specs.declared.Currency.{Currency}
+use Rattle.rules.specs.declared.State.{State}
+use Rattle.rules.specs.declared.State.the-variants.{Valued, Hidden, Unselected}
 
 pub record Property : Type 0 where
   pub width : ℕ
@@ -39,6 +41,12 @@ lettersOf c = c .0 ∷ c .1 ∷ c .2 ∷ []
 
 abbrev pub currencyOf : List ℕ → Currency
 currencyOf s = record { 0 = getD s 0 0; 1 = getD s 1 0; 2 = getD s 2 0 }
+
+-- the number of a state in the code
+abbrev pub stateNumber : State → ℕ
+stateNumber Valued = 0
+stateNumber Hidden = 1
+stateNumber Unselected = 2
 
 abbrev pub askedOf : List ℕ → Option (List ℕ)
 askedOf c = cond (same c noCurrency) none (some c)

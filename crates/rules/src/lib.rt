@@ -60,6 +60,15 @@ pub struct Rounding {
     pub after: Cents,
 }
 
+// ---- what a question's properties are
+
+// A property has a value, or it is hidden, or nobody has chosen its value yet.
+pub enum State {
+    Valued,
+    Hidden,
+    Unselected,
+}
+
 // ---- on the way to a price
 
 // An exact amount: top / bottom cents.

@@ -10,8 +10,7 @@ pub put-next-spec : {M : Type 1} → statement M
 put-next-spec =
     tie.close
     (tie.spec
-    (λ c. search needs)  -- add-if1
-    (λ c. search needs)  -- shared-slice-read-if1
+    (λ c κs. search laws)  -- left-out-requires
     (λ c. search laws)  -- returns
     (λ c κs. search laws)  -- put-separator-requires
     (λ c κs. search laws)  -- put-value-requires

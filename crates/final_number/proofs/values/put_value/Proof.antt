@@ -10,17 +10,16 @@ pub put-value-spec : {M : Type 1} → statement M
 put-value-spec =
     tie.close
     (tie.spec
-    (λ c. search needs)  -- shared-slice-read-wide
-    (λ c κs. search laws)  -- wide-requires
-    (λ c. search needs)  -- add-value
-    (λ c. search needs)  -- add-match
-    (λ c. search needs)  -- shared-slice-read-match
+    (λ c. search needs)  -- add-to
+    (λ c. search needs)  -- enum-told
     (λ c. search needs)  -- sub-put-padded
     (λ c. search needs)  -- part-put-padded-start
     (λ c. search needs)  -- part-put-padded-end
     (λ c κs. search laws)  -- put-padded-requires
+    (λ c. search needs)  -- enum-told-2
     (λ c κs. search laws)  -- given-or-requires
     (λ c κs. search laws)  -- put-run-requires
+    (λ c. search needs)  -- enum-told-3
     (λ c κs. search laws)  -- given-or-requires-2
     (λ c κs. search laws)  -- put-run-requires-2
     (λ c. search needs)  -- same-length

@@ -20,8 +20,9 @@ put-values-spec =
     Inv-loop
     μ-loop
     (λ c. search laws)  -- loop-holds
-    (λ c κs. search laws)  -- property-stop-requires
+    (λ c κs. search laws)  -- property-of-requires
     (λ c κs. search laws)  -- put-next-requires
+    (λ c. search needs)  -- add-p
     (λ c. search needs)  -- sub-left
     (λ c. search needs)  -- loop-less
     (λ c. search laws)  -- loop-again

@@ -1,11 +1,10 @@
 -- `question::names::granted_end` meets its contract: the names that are left decide about all of them, by the laws `count-..`.
 use Rattle.rules.specs.Bytes.{name}
-use Rattle.layout.specs.Reads.{nameStop}
-use Rattle.question.specs.Counted.{Left}
-use Rattle.question.specs.Parts.{nameAt}
+use Rattle.layout.specs.Reads.{nameStop, nameAt}
+use Rattle.layout.specs.Counted.{Left}
 use borrow.Author.Needs.{needs}
-use Rattle.question.proofs.CountedLaws.{count-cut, count-many, count-start, count-end, count-broken, count-again}
-use Rattle.question.proofs.PartLaws.{name-ends}
+use Rattle.layout.proofs.CountedLaws.{count-cut, count-many, count-start, count-end, count-broken, count-again}
+use Rattle.layout.proofs.NameEndLaws.{name-ends}
 use Rattle.question.proofs.names.granted_end.Statement.{statement}
 use Rattle.question.proofs.names.granted_end.Tie as tie
 

@@ -1,10 +1,9 @@
 -- `question::names::names_stop` meets its contract: what is left to pass ends where the whole ends, by the laws `pass-..`.
 use Rattle.rules.specs.Bytes.{name}
-use Rattle.layout.specs.Reads.{nameStop}
-use Rattle.question.specs.Counted.{Passing, stopAfter}
-use Rattle.question.specs.Parts.{nameAt}
+use Rattle.layout.specs.Reads.{nameStop, nameAt}
+use Rattle.layout.specs.Counted.{Passing, stopAfter}
 use borrow.Author.Needs.{needs}
-use Rattle.question.proofs.CountedLaws.{pass-start, pass-here, pass-again, pass-end}
+use Rattle.layout.proofs.CountedLaws.{pass-start, pass-here, pass-again, pass-end}
 use Rattle.question.proofs.names.names_stop.Statement.{statement}
 use Rattle.question.proofs.names.names_stop.Tie as tie
 

@@ -1,8 +1,8 @@
--- `question::properties::value_end` meets its contract: a valued property by `value-given`, another by `value-none`.
+-- `properties::value_end` meets its contract: a valued property by `value-given`, another by `value-none`.
 use borrow.Author.Needs.{needs}
-use Rattle.question.proofs.PartLaws.{value-given, value-none}
-use Rattle.question.proofs.properties.value_end.Statement.{statement}
-use Rattle.question.proofs.properties.value_end.Tie as tie
+use Rattle.properties.proofs.PropertyLaws.{value-given, value-none}
+use Rattle.properties.proofs.value_end.Statement.{statement}
+use Rattle.properties.proofs.value_end.Tie as tie
 
 ruleset laws = (needs, value-given, value-none)
 

@@ -14,10 +14,9 @@ use lib.Seq.{drop-cons}
 use borrow.Author.Tests.{eq-eqb, ne-eqb}
 use Rattle.rules.specs.Lists.{all, isSome}
 use Rattle.rules.specs.Layout.{Layout, andThen, _>>=_, times, whole, wholly}
 use Rattle.layout.specs.Ensures.{Says}
-use Rattle.layout.specs.Reads.{only, when, Reads, Sized}
+use Rattle.layout.specs.Reads.{only, when, Reads, Sized, Wants}
 use Rattle.layout.proofs.LayoutLaws.{then-reads, then-broken, then-rest, then-when, reads-as, give-reads}
-use Rattle.question.specs.Counted.{Wants}
 
 -- one value off n values of any layout
 pub times-step : {A : Type 0} {m : Layout A} {s : List ℕ} {at next end : ℕ} {ok ok′ : Bool} {v : A} {vs : List A} (n : ℕ)

@@ -3,12 +3,11 @@ use Prim.Native.Nat.{ℕ, zero, suc, _+_, _-_, _≤_, _<_}
 use mathlib.Core.Path.{_≡_}
 use mathlib.Core.Bool.{Bool, true}
 use mathlib.Core.List.{List, [], _∷_}
-use mathlib.Core.Option.{none}
 use lib.Dec.{ltb}
 use lib.ListN.{length, getD}
 use Rattle.rules.specs.Lists.{between}
 use Rattle.rules.specs.Layout.{Layout, _>>=_, _such_, byte, times}
 use Rattle.layout.specs.Reads.{Reads}
 
 abbrev pub counted : {A : Type 0} → Layout A → Layout (List A)
 counted m = do
@@ -79,9 +78,3 @@ module _ {A : Type 0} (m : Layout A) (value : List ℕ → ℕ → A) (stop : Li
   pub record Passing (end : ℕ) : Type 0 where
     pub left : Standing m value stop s at n
     pub ends : stopAfter stop s at n ≡ end
-
--- ---- too few bytes
-
--- fewer than n bytes break the layout
-pub record Wants {A : Type 0} (m : Layout A) (n : ℕ) : Type 0 where
-  pub short : (s : List ℕ) → length s < n → m s ≡ none

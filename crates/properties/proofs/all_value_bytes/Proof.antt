@@ -1,4 +1,4 @@
--- `question::properties::all_value_bytes` meets its contract: the flag and what is left are the whole answer, by the laws `flag-..`.
+-- `properties::all_value_bytes` meets its contract: the flag and what is left are the whole answer, by the laws `flag-..`.
 use Prim.Native.Nat.{_-_}
 use mathlib.Core.Path.{_≡_}
 use mathlib.Core.Bool.{_&&_}
@@ -7,9 +7,9 @@ use Rattle.rules.specs.Lists.{all}
 use Rattle.rules.specs.Bytes.{nameByte}
 use Rattle.rules.specs.Question.{valueByte}
 use borrow.Author.Needs.{needs}
-use Rattle.question.proofs.ReadingLaws.{flag-start, flag-again, flag-end}
-use Rattle.question.proofs.properties.all_value_bytes.Statement.{statement}
-use Rattle.question.proofs.properties.all_value_bytes.Tie as tie
+use Rattle.layout.proofs.ReadingLaws.{flag-start, flag-again, flag-end}
+use Rattle.properties.proofs.all_value_bytes.Statement.{statement}
+use Rattle.properties.proofs.all_value_bytes.Tie as tie
 
 ruleset laws = (needs, flag-start, flag-again, flag-end)
 

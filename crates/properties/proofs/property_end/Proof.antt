@@ -1,8 +1,8 @@
--- `question::properties::property_end` meets its contract: each way out by its law: cut off, good, bad.
+-- `properties::property_end` meets its contract: each way out by its law: cut off, good, bad.
 use borrow.Author.Needs.{needs}
-use Rattle.question.proofs.PartLaws.{property-cut, property-good, property-bad}
-use Rattle.question.proofs.properties.property_end.Statement.{statement}
-use Rattle.question.proofs.properties.property_end.Tie as tie
+use Rattle.properties.proofs.PropertyLaws.{property-cut, property-good, property-bad}
+use Rattle.properties.proofs.property_end.Statement.{statement}
+use Rattle.properties.proofs.property_end.Tie as tie
 
 ruleset laws = (needs, property-cut, property-good, property-bad)
 

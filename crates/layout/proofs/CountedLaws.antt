@@ -13,11 +13,11 @@ use borrow.Author.Tests.{lt-ltb, le-ltb, lt-leb}
 use Rattle.rules.specs.Lists.{between}
 use Rattle.rules.proofs.TestLaws.{is-between, between-high}
 use Rattle.rules.specs.Layout.{Layout, andThen, _>>=_, _such_, byte, times}
 use Rattle.layout.specs.Reads.{only, Reads}
 use Rattle.layout.specs.Ensures.{Number}
 use Rattle.layout.proofs.LayoutLaws.{then-reads, then-broken, reads-as, such-reads, byte-at, byte-cut}
-use Rattle.question.specs.Counted.{counted, valuesAt, countedAt, stopAfter, countedStop, Ends, Stands, AllStand, Standing, Step, Passing, Left}
-use Rattle.question.proofs.ReadingLaws.{times-step, then-good}
+use Rattle.layout.specs.Counted.{counted, valuesAt, countedAt, stopAfter, countedStop, Ends, Stands, AllStand, Standing, Step, Passing, Left}
+use Rattle.layout.proofs.ReadingLaws.{times-step, then-good}
 
 -- a count and its values, and what is behind them
 pub counted-reads : {A B : Type 0} (m : Layout A) (f : ℕ → List A → Layout B) {s : List ℕ} {at next end : ℕ} {ok ok′ : Bool} {vs : List A} {w : B}

@@ -1,8 +1,10 @@
-// The properties of a question.
+// The properties of a question: which bytes are properties, and one of an accepted question by value.
 use layout::names::is_name_byte;
 use layout::names::name_end;
 use layout::numbers::is_of_three;
 use layout::numbers::wide;
+use rules::Part;
+use rules::State;
 ghost use Prim.Native.Nat.{_≤_};
 ghost use mathlib.Core.Bool.{_&&_};
 ghost use lib.ListN.{length};
@@ -11,10 +13,18 @@ ghost use Rattle.rules.specs.Layout.{_such_};
 ghost use Rattle.rules.specs.Bytes.{name, nameByte};
 ghost use Rattle.rules.specs.Question.{property, valueFor, valueByte};
 ghost use Rattle.layout.specs.Ensures.{Says};
-ghost use Rattle.layout.specs.Reads.{nameStop};
-ghost use Rattle.question.specs.Counted.{Ends, Stands};
-ghost use Rattle.question.specs.Asked.{PropertyStop};
-ghost use Rattle.question.specs.Parts.{nameAt, propertyAt, propertyStop, PropertiesEnd};
+ghost use Rattle.layout.specs.Reads.{nameStop, nameAt};
+ghost use Rattle.layout.specs.Counted.{Ends, Stands};
+ghost use Rattle.properties.specs.Properties.{propertyAt, propertyStop, PropertiesEnd, StateIs, PropertyIs};
+
+// A property read by value. Its value stays in the question, and where that ends the property ends.
+pub struct PropertyParts {
+    pub width: usize,
+    pub state: State,
+    pub value: Part,
+}
+
+// ---- which bytes are properties
 
 fn is_value_byte(b: u8) -> bool
     ensures { λ r. ⌜ Says (nameByte b && valueByte b) r ⌝ }
@@ -109,10 +119,30 @@ pub fn properties_end(s: &[u8], at: usize) -> usize
 
 // ---- of an accepted question
 
-// The end of the property that stands at `at`: a byte for its width, one for its state, and its value.
-pub fn property_stop(s: &[u8], at: usize) -> usize
-    requires { ⌜ Stands property propertyAt propertyStop (now s) at ⌝ }
-    ensures { λ r. ⌜ PropertyStop (now (s .entry)) at r ⌝ }
+fn state_of(n: u8) -> State
+    requires { ⌜ n ≤ 2 ⌝ }
+    ensures { λ r. ⌜ StateIs n r ⌝ }
 {
-    at + 2 + 1 + wide(s[at + 2])
+    match n {
+        0 => State::Valued,
+        1 => State::Hidden,
+        _ => State::Unselected,
+    }
+}
+
+// The property that stands at `at`: a byte for its width, one for its state, and its value behind a length byte.
+pub fn property_of(s: &[u8], at: usize) -> PropertyParts
+    requires { ⌜ Stands property propertyAt propertyStop (now s) at ⌝ }
+    ensures { λ r. ⌜ PropertyIs (now (s .entry)) at r ⌝ }
+{
+    let state = state_of(s[at + 1]);
+    let value = Part {
+        at: at + 3,
+        size: wide(s[at + 2]),
+    };
+    PropertyParts {
+        width: wide(s[at]),
+        state,
+        value,
+    }
 }

@@ -1,11 +1,11 @@
--- `question::properties::properties_end` meets its contract: the properties that are left decide about all of them, by the laws `count-..`.
+-- `properties::properties_end` meets its contract: the properties that are left decide about all of them, by the laws `count-..`.
 use Rattle.rules.specs.Question.{property}
-use Rattle.question.specs.Counted.{Left}
-use Rattle.question.specs.Parts.{propertyAt, propertyStop}
+use Rattle.layout.specs.Counted.{Left}
+use Rattle.properties.specs.Properties.{propertyAt, propertyStop}
 use borrow.Author.Needs.{needs}
-use Rattle.question.proofs.CountedLaws.{count-cut, count-many, count-start, count-end, count-broken, count-again}
-use Rattle.question.proofs.properties.properties_end.Statement.{statement}
-use Rattle.question.proofs.properties.properties_end.Tie as tie
+use Rattle.layout.proofs.CountedLaws.{count-cut, count-many, count-start, count-end, count-broken, count-again}
+use Rattle.properties.proofs.properties_end.Statement.{statement}
+use Rattle.properties.proofs.properties_end.Tie as tie
 
 ruleset laws = (needs, count-cut, count-many, count-start, count-end, count-broken, count-again)
 

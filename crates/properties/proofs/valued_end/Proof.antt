@@ -1,8 +1,8 @@
--- `question::properties::valued_end` meets its contract: each way out by its law: nothing there, cut off, good, bad.
+-- `properties::valued_end` meets its contract: each way out by its law: nothing there, cut off, good, bad.
 use borrow.Author.Needs.{needs}
-use Rattle.question.proofs.PartLaws.{value-empty, value-cut, value-good, value-bad}
-use Rattle.question.proofs.properties.valued_end.Statement.{statement}
-use Rattle.question.proofs.properties.valued_end.Tie as tie
+use Rattle.properties.proofs.PropertyLaws.{value-empty, value-cut, value-good, value-bad}
+use Rattle.properties.proofs.valued_end.Statement.{statement}
+use Rattle.properties.proofs.valued_end.Tie as tie
 
 ruleset laws = (needs, value-empty, value-cut, value-good, value-bad)
 

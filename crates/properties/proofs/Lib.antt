@@ -1,0 +1,2 @@
+pub mod PropertyLaws
+pub mod ReadLaws
