@@ -10,8 +10,8 @@ use lib.Dec.{eqb}
 use lib.ListN.{length, take, drop, getD, drop-of-length-le}
 use lib.Seq.{take-all, take-suc}
 use borrow.Author.Tests.{eq-eqb, ne-eqb}
-use Rattle.rules.specs.Bytes.{big}
-use Rattle.rules.specs.Program.{ownLength, endOf}
+use Rattle.rules.specs.Bytes.{big, ownLength}
+use Rattle.rules.specs.Program.{endOf}
 use Rattle.layout.specs.Ensures.{Number}
 use Rattle.layout.proofs.NumberLaws.{big-append}
 use Rattle.printing.specs.Input.{Least, Reading, FrontIs}

@@ -12,7 +12,8 @@ use borrow.Author.Tests.{eq-eqb, ne-eqb, le-leb, lt-leb}
 use Rattle.rules.specs.Lists.{join}
 use Rattle.rules.specs.Letters.{text}
 use Rattle.rules.specs.Calendar.{Stretch, calendar, stretchesBytes, mostDays}
-use Rattle.rules.specs.Program.{digits, decimal, stretchText, ownLength, endOf, asked, printed, output, mostInput}
+use Rattle.rules.specs.Bytes.{ownLength}
+use Rattle.rules.specs.Program.{digits, decimal, stretchText, endOf, asked, printed, output, mostInput}
 use Rattle.rules.specs.Refusals.{Result, done, refused, _>>=_, refuseUnless, over}
 use Rattle.layout.proofs.StoreLaws.{puts-of, puts-front}
 use Rattle.stretches.specs.declared.Stretch as Declared

@@ -3,8 +3,7 @@ use Prim.Native.Nat.{ℕ, _^_, _≤_, _<_}
 use mathlib.Core.Path.{_≡_}
 use mathlib.Core.List.{List}
 use lib.ListN.{length, take, drop}
-use Rattle.rules.specs.Bytes.{big}
-use Rattle.rules.specs.Program.{ownLength}
+use Rattle.rules.specs.Bytes.{big, ownLength}
 
 -- `r` is the lesser of two numbers
 pub record Least (n most r : ℕ) : Type 0 where

@@ -4,7 +4,8 @@ use layout::numbers::wide;
 ghost use mathlib.Core.Path.{_≡_};
 ghost use Prim.Native.Nat.{_^_};
 ghost use lib.ListN.{length};
-ghost use Rattle.rules.specs.Program.{ownLength, endOf};
+ghost use Rattle.rules.specs.Bytes.{ownLength};
+ghost use Rattle.rules.specs.Program.{endOf};
 ghost use Rattle.layout.specs.Ensures.{Number};
 ghost use Rattle.printing.specs.Input.{Least, FrontIs};
 

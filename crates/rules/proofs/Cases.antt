@@ -20,6 +20,8 @@ use Rattle.rules.specs.Choice as Choice
 use Rattle.rules.specs.Amounts as Amounts
 use Rattle.rules.specs.Lines as Lines
 use Rattle.rules.specs.Price as Price
+use Rattle.rules.specs.Questions as Questions
+use Rattle.rules.specs.Basket as Basket
 use Rattle.rules.specs.Calendar as Calendar
 use Rattle.rules.specs.FinalNumber as FinalNumber
 use Rattle.rules.specs.Refusals as Refusals
@@ -27,6 +29,7 @@ use Rattle.rules.specs.TextBook as TextBook
 use Rattle.rules.specs.Text as LineText
 use Rattle.rules.specs.Packaging as Packaging
 use Rattle.rules.specs.declared.PriceAnswer.{PriceAnswer}
+use Rattle.rules.specs.declared.Written.{Written}
 use Rattle.rules.specs.declared.Value.{Value}
 use Rattle.rules.specs.declared.Value.the-variants.{Fixed, Percent}
 use Rattle.integers.specs.Floor as Floor
@@ -48,6 +51,8 @@ pub data Call : Type 0 where
   AskStretches : ℕ → Call
   -- the program on an input, which stands in the book's place
   AskInput : Call
+  -- a basket, its questions standing in the question's place, and so many sevens lent
+  AskBasket : ℕ → Call
 
 pub data Worked : Type 0 where
   -- the lines' amounts, and the unit total
@@ -59,6 +64,8 @@ pub data Worked : Type 0 where
   Read : ℕ → ℤ → ℤ → ℕ → ℕ → ℕ → List ℕ → List ℕ → Worked
   -- which text book, where in it, and the text
   InBook : ℕ → ℕ → List ℕ → Worked
+  -- number, and how many bytes were written; then the lent bytes
+  Left : ℕ → ℕ → List ℕ → Worked
 
 pub record Case : Type 0 where
   pub call : Call
@@ -156,6 +163,9 @@ abbrev readStretches : Result (List Calendar.Stretch) → Worked
 readStretches (done ss) = Text (Calendar.stretchesBytes ss)
 readStretches (refused n) = Refusal n
 
+abbrev readBasket : Written × List ℕ → Worked
+readBasket p = Left (p .0 .number) (p .0 .length) (p .1)
+
 abbrev by : Call → List ℕ → List ℕ → Worked
 by AskPrice b q = readPrice (price b q 1000)
 by AskNumber b q = readText (finalNumber b q 1000)
@@ -165,8 +175,9 @@ by (AskBytes room) b q = readCall (Price.priceCall b q (replicate room 7))
 by (AskText n) b q = readFound (LineText.text b q n)
 by (AskStretches end) b q = readStretches (Calendar.calendar b q end 1000)
 by AskInput b q = Text (output b)
+by (AskBasket room) b q = readBasket (Basket.basketCall b q (replicate room 7))
 
 -- (the line below names what computes: whoever unfolds `found` unfolds all of it)
 unfoldable pub found : Case → Worked
-unfolding price Floor.floor BookLayout.records Book.articleOf Book.schemeOf Book.packOf Book.roundingFor Question.questionOf Question.on Question.grants Choice.component Choice.step₁ Choice.step₂ Choice.step₃ Choice.step₄ Choice.step₅ Choice.surviving Choice.choose Days.isDay Days.next Days.daysTo Amounts.exact Amounts.ceiling Amounts.nearest Amounts.stepsBy Amounts.multipleBy Amounts.rounded Lines.slots Lines.rowsAt Lines.chosenAt Lines.chosen Lines.total Lines.baseSum Lines.lineAfter Lines.linesAfter Lines.linesOf Lines.linesBytes Lines.totalOf Price.priced Price.answered Price.unusedOf Price.answerOf finalNumber FinalNumber.finalNumberOf FinalNumber.numberBy packaging Packaging.used Packaging.packedOf output asked digits Calendar.calendarIn Calendar.stretchesBytes Price.shown Refusals.lentAfter LineText.text TextBook.entries Calendar.periodTo Calendar.outcome Calendar.outcomeOf Calendar.stretches Calendar.sameOutcome
+unfolding price Floor.floor BookLayout.records Book.articleOf Book.schemeOf Book.packOf Book.roundingFor Question.questionOf Question.on Question.grants Choice.component Choice.step₁ Choice.step₂ Choice.step₃ Choice.step₄ Choice.step₅ Choice.surviving Choice.choose Days.isDay Days.next Days.daysTo Amounts.exact Amounts.ceiling Amounts.nearest Amounts.stepsBy Amounts.multipleBy Amounts.rounded Lines.slots Lines.rowsAt Lines.chosenAt Lines.chosen Lines.total Lines.baseSum Lines.lineAfter Lines.linesAfter Lines.linesOf Lines.linesBytes Lines.totalOf Price.priced Price.answered Price.unusedOf Price.answerOf finalNumber FinalNumber.finalNumberOf FinalNumber.numberBy packaging Packaging.used Packaging.packedOf output asked digits Calendar.calendarIn Calendar.stretchesBytes Price.shown Refusals.lentAfter LineText.text TextBook.entries Calendar.periodTo Calendar.outcome Calendar.outcomeOf Calendar.stretches Calendar.sameOutcome Questions.questionsOf Basket.basketBytes Basket.basket Basket.shownBasket
 found c = by (c .call) (c .book) (c .question)

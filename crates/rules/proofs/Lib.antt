@@ -1,6 +1,7 @@
 pub mod Encode
 pub mod Cases
 pub mod Limits
+pub mod BasketSums
 pub mod WorkedSums
 pub mod TestLaws
 pub mod RangeLaws
@@ -8,6 +9,7 @@ pub mod ListLaws
 pub mod RefusalLaws
 pub mod GivesLaws
 pub mod TakesLaws
+pub mod QuestionsLaws
 pub mod DayLaws
 pub mod BestLaws
 pub mod ChoiceLaws
@@ -15,6 +17,7 @@ pub mod LinesLaws
 pub mod RoomLaws
 pub mod NoPriceLaws
 pub mod RowLaws
+pub mod CurrencyLaws
 pub mod KindLaws
 pub mod PlacedLaws
 pub mod StandLaws
@@ -27,6 +30,7 @@ pub mod StaysLaws
 pub mod MarkedLaws
 pub mod WalkLaws
 pub mod CallLaws
+pub mod BasketLaws
 pub mod PeriodLaws
 pub mod ProgramLaws
 pub mod BookK

@@ -12,14 +12,14 @@ use lib.Seq.{take-all}
 use borrow.Author.Tests.{ne-eqb, le-leb, lt-leb}
 use Rattle.rules.specs.Letters.{text}
 use Rattle.rules.specs.Layout.{Layout, _>>=_ as next, must, wholly, repeated}
-use Rattle.rules.specs.Bytes.{head}
+use Rattle.rules.specs.Bytes.{head, ownLength}
 use Rattle.rules.specs.Days.{isDay}
 use Rattle.rules.specs.Book.{Record}
 use Rattle.rules.specs.BookLayout.{oneRecord, mostBytes, records}
 use Rattle.rules.specs.Question.{Question, questionOf}
 use Rattle.rules.specs.Refusals.{Result, done, refused, _>>=_, refuseUnless}
 use Rattle.rules.specs.Calendar.{Stretch, calendarIn, calendar, mostDays, stretchesBytes}
-use Rattle.rules.specs.Program.{digits, printed, mostInput, ownLength, front, behind, bookIn, questionIn, endIn, endOf, asked, output}
+use Rattle.rules.specs.Program.{digits, printed, mostInput, front, behind, bookIn, questionIn, endIn, endOf, asked, output}
 use Rattle.rules.proofs.PeriodLaws.{no-period}
 
 -- a part that is cut: its length is, or it is shorter than that says

@@ -1,25 +1,27 @@
 -- What the rules promise, each under a name and in plain words. The proofs stand in the files of laws beside this one.
-use Prim.Native.Nat.{ℕ, _≤_, _<_, _^_}
+use Prim.Native.Nat.{ℕ, _+_, _*_, _≤_, _<_, _^_}
 use mathlib.Core.Path.{_≡_, refl, sym, _∙_, ap, subst}
-use mathlib.Core.Bool.{true, not}
-use mathlib.Core.List.{List, [], _∷_}
+use mathlib.Core.Bool.{true, not, cond}
+use mathlib.Core.List.{List, [], _∷_, map}
 use mathlib.Core.Option.{Option, some, none, Option·some-injective}
 use lib.Count.{ones}
-use lib.Dec.{eqb}
+use lib.Dec.{eqb, leb}
 use lib.IntN.{ℤ, pos, _*ℤ_}
 use native.Mathlib.Omega.{arith}
-use lib.ListN.{length, replicate}
-use Rattle.rules.specs.Lists.{any}
+use lib.ListN.{length, take, drop, getD, replicate}
+use Rattle.rules.specs.Lists.{any, join}
 use Rattle.rules.specs.Days.{isDay, next, lastDay}
 use Rattle.rules.specs.Book.{Record, Article, Row, base, articleOf}
 use Rattle.rules.specs.BookLayout.{records}
 use Rattle.rules.specs.Question.{Question, grants, questionOf, noCurrency}
+use Rattle.rules.specs.Questions.{questionsOf}
 use Rattle.rules.specs.Choice.{step₅, choose}
 use Rattle.rules.specs.Amounts.{multipleBy}
 use Rattle.rules.specs.Lines.{Line, sum, amounts, total, slotsAt, mostLinesSize}
-use Rattle.rules.specs.Refusals.{done, refused, numberOf, lentAfter}
+use Rattle.rules.specs.Refusals.{Result, done, refused, numberOf, lentAfter}
 use Rattle.rules.specs.Price as Price
-use Rattle.rules.specs.Price.{Answer, answerOf, price, unusedOf, setOf}
+use Rattle.rules.specs.Price.{Answer, answerOf, answered, price, unusedOf, setOf}
+use Rattle.rules.specs.Basket.{answerSize, answerIn, linesIn, basketBytes, mostBasket, mostBasketSize, basket, shownBasket, lentAfterBasket}
 use Rattle.rules.specs.Calendar as Calendars
 use Rattle.rules.specs.Calendar.{Outcome, Stretch, stretches, outcome, periodTo, mostDays, calendarIn}
 use Rattle.rules.specs.FinalNumber as FinalNumber
@@ -38,8 +40,11 @@ use Rattle.rules.proofs.UnusedLaws as Unused
 use Rattle.rules.proofs.RoundingLaws as Rounding
 use Rattle.rules.proofs.CalendarLaws as Calendar
 use Rattle.rules.proofs.CallLaws as Calls
+use Rattle.rules.proofs.QuestionsLaws as Questions
+use Rattle.rules.proofs.BasketLaws as Basket
+use Rattle.rules.proofs.CurrencyLaws.{rows-in-letters}
 use Rattle.rules.proofs.ListLaws.{All}
-use Rattle.rules.proofs.RefusalLaws.{known-number}
+use Rattle.rules.proofs.RefusalLaws.{Refuses, known-number}
 use Rattle.rules.proofs.RowLaws as Rows
 use Rattle.rules.proofs.PeriodLaws as Period
 use Rattle.rules.proofs.ProgramLaws as Program
@@ -144,6 +149,57 @@ only-stretches f from to days d e = Calendar.only-right f d (Calendar.period-end
 pub stretch-count : (f : ℕ → Outcome) (from to : ℕ) (days : List ℕ) → periodTo from to ≡ some days → (length (stretches f days) ≤ length days) × (length days ≤ mostDays)
 stretch-count f from to days e = (Calendar.stretch-count f days, Calendar.period-count from to days e)
 
+-- ---- the basket
+
+-- The bytes accepted as many questions are exactly those of so many questions laid end to end, each of them a question by itself;
+pub questions-are : (most : ℕ) (s : List ℕ) (qs : List Question) → questionsOf most s ≡ some qs → Questions.Parts s qs × length qs ≤ most
+questions-are = Questions.questions-parts
+
+pub questions-laid : (most : ℕ) (ps : List (List ℕ)) (qs : List Question) → Questions.Each ps qs → length qs ≤ most
+    → questionsOf most (join ps) ≡ some qs
+questions-laid = Questions.questions-laid
+
+-- and they can be parted into questions in one way only.
+pub one-split : (ps ps′ : List (List ℕ)) (qs qs′ : List Question) → Questions.Each ps qs → Questions.Each ps′ qs′ → join ps ≡ join ps′ → ps ≡ ps′
+one-split = Questions.one-split
+
+-- Each outcome of an answered basket is the one that the price call gives for that question's bytes alone, with any room that is enough for a price.
+pub basket-is-price : (b s : List ℕ) (room : ℕ) (rs : List (Result Answer)) → basket b s room ≡ done rs
+    → (qs : List Question) × (p : Questions.Parts s qs) × ((enough : ℕ) → mostLinesSize ≤ enough → rs ≡ map (λ x. price b x enough) (p .parts))
+basket-is-price = Basket.basket-singles
+
+module _ (b s : List ℕ) (room : ℕ) (rs : List (Result Answer)) (e : basket b s room ≡ done rs) (lent : List ℕ) (j : ℕ) (h : j < length rs) where
+  -- In the lent output the answer of the question at place j, from 0, has 33 bytes, from 33 times j on;
+  pub basket-answer : take answerSize (drop (answerSize * j) (lentAfterBasket (done rs) lent)) ≡ answerIn (getD rs j (refused 0))
+  basket-answer = Basket.answer-at b s room rs e lent j h
+
+  -- its lines stand behind all answers and behind the lines of the questions before it.
+  pub basket-lines : take (length (linesIn (getD rs j (refused 0))))
+      (drop (answerSize * length rs + length (join (take j (map linesIn rs)))) (lentAfterBasket (done rs) lent))
+      ≡ linesIn (getD rs j (refused 0))
+  basket-lines = Basket.lines-at b s room rs e lent j h
+
+-- A question that is refused has its number and 32 zeros, and no lines.
+pub refused-answer : (n : ℕ) → (answerIn (refused n) ≡ n ∷ replicate 32 0) × (linesIn (refused n) ≡ [])
+unfolding Price.shown
+refused-answer n = (refl, refl)
+
+-- Its number is one of 3 to 6.
+pub basket-outcomes : (b s : List ℕ) (room : ℕ) (rs : List (Result Answer)) → basket b s room ≡ done rs → All (Refuses Basket.OwnRefusal) rs
+basket-outcomes b s room rs e = let x = Basket.basket-filled b s room rs e in subst (All (Refuses Basket.OwnRefusal)) (x .are) (Basket.each-refuses (x .book) (x .questions))
+
+-- With a book and questions a basket is refused with 7 exactly where less room is lent than 33 bytes for each question and all lines need.
+pub basket-room : (b s : List ℕ) (room : ℕ) (book : List Record) (qs : List Question) → records b ≡ some book → questionsOf mostBasket s ≡ some qs
+    → numberOf (basket b s room) ≡ cond (leb (answerSize * length qs + length (join (map linesIn (map (answered book) qs)))) room) 0 7
+basket-room b s room book qs e f =
+    Basket.basket-is b s room e f
+    ∙ ap (λ (n : ℕ). cond (leb n room) 0 7) (Basket.basket-size book (rows-in-letters b book e) qs)
+
+-- A basket without a question is answered, and nothing is written.
+pub empty-basket : (b : List ℕ) (room : ℕ) (book : List Record) → records b ≡ some book → (basket b [] room ≡ done []) × (basketBytes [] ≡ [])
+unfolding basketBytes
+empty-basket b room book e = (Basket.basket-empty b room book e, refl)
+
 -- ---- refusals
 
 -- A price that is refused has a number from 1 to 7;
@@ -169,6 +225,16 @@ calendar-nine form b s end room book q e f = (Period.period-nine form b s end ro
 pub days-counted-once : (from to : ℕ) (ds es : List ℕ) → Calendar.Days from to ds → Calendar.Days from to es → ds ≡ es
 days-counted-once from to ds es = Period.days-one
 
+-- A basket that is refused has 1, 2 or 7;
+pub basket-numbers : (b s : List ℕ) (room : ℕ) → (numberOf (basket b s room) ≡ 0 → ⊥) → Basket.BasketRefusal (numberOf (basket b s room))
+basket-numbers b s room = known-number Basket.BasketRefusal (basket b s room) (Basket.basket-refuses b s room)
+
+-- 7 is never among them where there is room for 283,800 bytes, 200 answers and 99 lines for each.
+pub basket-room-enough : (b s : List ℕ) (room : ℕ) → mostBasketSize ≤ room → numberOf (basket b s room) ≡ 7 → ⊥
+basket-room-enough b s room h e =
+    let z : numberOf (basket b s room) ≡ 0 → ⊥ = λ o. omega arith in
+    known-number (λ n. n ≡ 7 → ⊥) (basket b s room) (Basket.basket-not-seven b s room h) z e
+
 -- Beside a refusal's number stand zeros, and no lent byte changes: for the price,
 pub refused-price : (n : ℕ) (lent : List ℕ)
     → (Price.shown (refused n) ≡ record {
@@ -182,6 +248,12 @@ pub refused-price : (n : ℕ) (lent : List ℕ)
     }) × (Price.lentAfterPrice (refused n) lent ≡ lent)
 unfolding Price.shown lentAfter
 refused-price n lent = (refl, refl)
+
+-- for the basket,
+pub refused-basket : (n : ℕ) (lent : List ℕ)
+    → (shownBasket (refused n) ≡ record { length = 0; number = n }) × (lentAfterBasket (refused n) lent ≡ lent)
+unfolding shownBasket lentAfter
+refused-basket n lent = (refl, refl)
 
 -- for the calendar in both its forms,
 pub refused-calendar : {R : Type 0} (form : Calendars.Stretch → R) (n : ℕ) (lent : List ℕ) (list : List R)

@@ -15,7 +15,7 @@ use Rattle.rules.specs.Placed.{Placed, placedBy, placed, placedLayout, p
 use Rattle.rules.proofs.ListLaws.{All}
 use Rattle.rules.proofs.GivesLaws.{and-then}
 use Rattle.rules.proofs.PlacedLaws.{heldIn}
-use Rattle.rules.proofs.TakesLaws.{bytes-first, takes-if, takes-head, whole-end}
+use Rattle.rules.proofs.TakesLaws.{bytes-first, back-is, takes-if, takes-head, whole-end}
 
 -- ---- one record
 
@@ -27,12 +27,6 @@ pub record Framed (s : List ℕ) (r : Record) (t : List ℕ) : Type 0 where
   pub fits : 2 + size ≤ length s
   pub body : whole kinded (take size (drop 2 s)) ≡ some r
   pub rest : t ≡ drop (2 + size) s
-
-back-is : {A : Type 0} (o : Option A) (s : List ℕ) (a : A) (t : List ℕ) → back o s ≡ some (a, t) → (o ≡ some a) × (t ≡ s)
-back-is none s a t e = absurd (Option·none-ne-some (a, t) e)
-back-is {A} (some x) s a t e =
-    let i = Option·some-injective (x, s) (a, t) e in
-    (ap (λ (y : A × List ℕ). some (y .0)) i, sym (ap (λ (y : A × List ℕ). y .1) i))
 
 -- no bytes are no record
 one-byte : (n : ℕ) (s : List ℕ) (r : Record) → whole kinded (take n s) ≡ some r → 1 ≤ n

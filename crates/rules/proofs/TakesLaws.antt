@@ -73,6 +73,12 @@ module _ {A : Type 0} where
   takes-back none = takes-none 0
   takes-back (some a) = takes-value a
 
+pub back-is : {A : Type 0} (o : Option A) (s : List ℕ) (a : A) (t : List ℕ) → back o s ≡ some (a, t) → (o ≡ some a) × (t ≡ s)
+back-is none s a t e = absurd (Option·none-ne-some (a, t) e)
+back-is {A} (some x) s a t e =
+    let i = Option·some-injective (x, s) (a, t) e in
+    (ap (λ (y : A × List ℕ). some (y .0)) i, sym (ap (λ (y : A × List ℕ). y .1) i))
+
 module _ {A B : Type 0} where
   pub takes-field : (m : Layout A) (f : A → Layout B) {j k : ℕ} → Takes m j → ((a : A) → Takes (f a) k) → Takes (m >>= f) (j + k)
   takes-field m f {j} {k} h g = record { enough = enough; leaves = leaves }

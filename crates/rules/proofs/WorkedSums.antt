@@ -1,5 +1,6 @@
 -- "Sums worked by hand" and "Traps that have fooled price plugins": one table, one statement, closed by computation. What a case is stands in Cases.antt,
--- the cases that try the layouts at their limits in Limits.antt.
+-- the cases that try the layouts at their limits in Limits.antt, those of
+-- baskets in BasketSums.antt.
 use Prim.Native.Nat.{ℕ, _-_}
 use mathlib.Core.Path.{_≡_, refl}
 use mathlib.Core.List.{List, [], _∷_, _++_, map}
@@ -14,6 +15,7 @@ use Rattle.rules.proofs.Cases.{AskPrice, AskNumber, AskGross, AskCalend
 use Rattle.rules.proofs.Cases.{Listed, Text, Weight, Refusal, Read, InBook, Case, case, found}
 use Rattle.rules.proofs.Cases.{minus, fixed, percent, A1, T100, OAK, oak, EUR, USD, row, in2024, baseRow, bookOf, ask}
 use Rattle.rules.proofs.Limits.{limits}
+use Rattle.rules.proofs.BasketSums.{baskets}
 
 -- ---- the books
 
@@ -254,7 +256,7 @@ refusals =
     ∷ []
 
 abbrev table : List Case
-table = sums ++ (traps ++ (more ++ (choices ++ (refusals ++ limits))))
+table = sums ++ (traps ++ (more ++ (choices ++ (refusals ++ (limits ++ baskets)))))
 
 -- Every sum that was worked by hand, and every trap, comes out of the rules as the paper has it.
 worked-sums : map found table ≡ map (λ c. c .worked) table

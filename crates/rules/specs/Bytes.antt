@@ -3,6 +3,7 @@ use Prim.Native.Nat.{ℕ, zero, suc, _+_, _*_, _-_, _/_, _%_, _^_}
 use mathlib.Core.Bool.{Bool, _||_, cond}
 use mathlib.Core.List.{List, [], _∷_}
 use lib.Dec.{eqb, leb, ltb}
+use lib.ListN.{take}
 use lib.IntN.{ℤ, pos, negsuc}
 use Rattle.rules.specs.Lists.{between, all, any}
 use Rattle.rules.specs.Letters.{letter}
@@ -58,6 +59,10 @@ abbrev pub head : ℕ → Layout ℕ
 head lent = do
   _ ← number 4 such eqb lent
   oneOf (1 ∷ [])
+
+-- a book and a question begin with their own length: how long they say they are
+abbrev pub ownLength : List ℕ → ℕ
+ownLength s = big (take 4 s)
 
 -- ---- letters and names
 

@@ -7,12 +7,14 @@ pub mod Book
 pub mod BookLayout
 pub mod Placed
 pub mod Question
+pub mod Questions
 pub mod TextBook
 pub mod Choice
 pub mod Amounts
 pub mod Lines
 pub mod Refusals
 pub mod Price
+pub mod Basket
 pub mod Calendar
 pub mod Changes
 pub mod FinalNumber

@@ -7,7 +7,7 @@ use lib.ListN.{length, take, drop}
 use lib.IntN.{ℤ, pos, negsuc}
 use Rattle.rules.specs.Lists.{join, joinWith}
 use Rattle.rules.specs.Letters.{text, letter}
-use Rattle.rules.specs.Bytes.{big}
+use Rattle.rules.specs.Bytes.{big, ownLength}
 use Rattle.rules.specs.Refusals.{Result, done, refused, _>>=_, refuseUnless}
 use Rattle.rules.specs.Calendar.{calendar, mostDays, Stretch}
 
@@ -44,10 +44,6 @@ printed (refused n) = text "refusal " ++ (decimal n ++ text "\n")
 
 abbrev pub mostInput : ℕ
 mostInput = 65_536
-
--- a book and a question begin with their own length: how long they say they are
-abbrev pub ownLength : List ℕ → ℕ
-ownLength s = big (take 4 s)
 
 -- the part in front is as long as it says; one that is cut has fewer bytes than that
 abbrev pub front : List ℕ → List ℕ
