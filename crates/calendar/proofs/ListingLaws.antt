@@ -1,118 +1,37 @@
--- What is listed: the marks make only days of change due, and each refusal stands in its order.
-use Prim.Native.Nat.{ℕ, _+_, _-_, _≤_, _<_}
-use mathlib.Core.Path.{_≡_, refl, sym, _∙_, ap, subst}
+-- What is listed: each refusal stands in its order.
+use Prim.Native.Nat.{ℕ, _-_, _<_}
+use mathlib.Core.Path.{_≡_, refl, sym, _∙_, ap}
 use mathlib.Core.Bool.{Bool, true, false, false≢true}
 use mathlib.Core.List.{List}
 use mathlib.Core.Option.{Option, some, none}
 use native.Mathlib.Omega.{arith}
-use lib.Dec.{eqb}
-use lib.ListN.{length, take, drop, getD, replicate, length-replicate}
+use lib.ListN.{length, take, replicate, length-replicate}
 use lib.Seq.{length-take-le}
 use borrow.Author.Tests.{ne-eqb}
-use Rattle.rules.specs.Lists.{any, isSome}
-use Rattle.rules.specs.Days.{isDay, next}
+use Rattle.rules.specs.Lists.{isSome}
+use Rattle.rules.specs.Days.{isDay}
 use Rattle.rules.specs.Book.{Article, articleOf}
-use Rattle.rules.specs.Question.{Question}
 use Rattle.rules.specs.Refusals.{Result, done, refused, _>>=_, orRefuse}
 use Rattle.rules.specs.Calendar.{Stretch, stretches, outcome, periodTo}
-use Rattle.rules.specs.Changes.{isChange}
-use Rattle.rules.proofs.AlikeLaws.{same-changes}
-use Rattle.rules.proofs.StaysLaws.{stays-next}
 use Rattle.rules.proofs.CalendarLaws.{period-days, period-end, period-count}
 use Rattle.layout.proofs.StoreLaws.{all-same}
-use Rattle.layout.specs.Records.{recordsLeft, Between}
+use Rattle.layout.specs.Records.{recordsLeft}
 use Rattle.question.specs.declared.Ask.{Ask}
-use Rattle.question.specs.declared.Terms.{Terms}
-use Rattle.question.specs.Parts.{namesAt, NamesStand}
-use Rattle.question.specs.Asked.{askIn, AskIs, TermsAre}
-use Rattle.grants.specs.Table.{tableSize, GrantsAre}
-use Rattle.grants.specs.Asks.{Asked}
-use Rattle.grants.proofs.AskLaws.{asks-in, asked-in}
+use Rattle.question.specs.Asked.{askIn, AskIs}
 use Rattle.period.specs.declared.Period.{Period}
 use Rattle.period.specs.Contracts.{PeriodIs}
 use Rattle.period.specs.Positions.{Dates}
-use Rattle.period.specs.Marks.{MarksAre}
 use Rattle.period.proofs.PositionLaws.{period-dates}
 use Rattle.stretches.specs.declared.Stretches.{Stretches}
 use Rattle.calendar.specs.declared.listing.Listing.{Listing}
 use Rattle.survey.specs.declared.Found.{Found}
 use Rattle.survey.specs.declared.entrance.Entered.{Entered}
-use Rattle.survey.specs.declared.window.Window.{Window}
 use Rattle.survey.specs.Window.{Windows}
 use Rattle.survey.specs.Survey.{FoundIs}
 use Rattle.survey.specs.Entrance.{EnteredIs}
 use Rattle.survey.proofs.EntranceLaws.{stays-out, goes-in}
-use Rattle.stretches.specs.Stretches.{noStretch, Marked, Lists, MarkedFor, ListsFor}
-use Rattle.calendar.specs.Listing.{within, listing, listed, ListingIs, Refused}
-
--- ---- the marks
-
-module _ {b article : List ℕ} {sort : ℕ} {w : Window} (h : Windows b 5 article sort w) where
-  pub window-size : w .last ≡ length (take (w .last) b)
-  window-size = sym (length-take-le (w .last) b (h .fits))
-
-  pub window-between : Between (take (w .last) b) (w .first)
-  window-between = h .between
-
-  -- the days of change are those of the rows of the article and sort
-  change-own : (d : ℕ) → isChange (recordsLeft (take (w .last) b) (w .first)) article sort d ≡ isChange (recordsLeft b 5) article sort d
-  unfolding isChange
-  change-own d = ap (any (eqb d)) (same-changes (recordsLeft (take (w .last) b) (w .first)) (recordsLeft b 5) article sort (h .same))
-
-  -- a question for them has one outcome from a day to the next, but for days of change
-  steady : (q : Question) → q .article ≡ article → q .sort ≡ sort → {dates : List ℕ} {marks : List Bool} → Dates dates → 0 < length dates
-      → MarksAre (take (w .last) b) (w .first) article sort dates marks → Marked (outcome (recordsLeft b 5) q) dates marks
-  steady q mine same-sort {dates} {marks} d l m = record {
-    some-day = l;
-    few = d .few;
-    stays = λ i k e.
-        let n : getD dates (i + 1) 0 ≡ next (getD dates i 0) = d .follow i k in
-        let quiet : isChange (recordsLeft b 5) (q .article) (q .sort) (next (getD dates i 0)) ≡ false =
-        (λ j. isChange (recordsLeft b 5) (mine j) (same-sort j) (next (getD dates i 0))) ∙ ap (isChange (recordsLeft b 5) article sort) (sym n)
-        ∙ sym (change-own (getD dates (i + 1) 0))
-        ∙ sym (m .is (i + 1) k)
-        ∙ e in
-        stays-next (recordsLeft b 5) q (getD dates i 0) (d .each-day i (omega arith)) (subst (λ (x : ℕ). isDay x ≡ true) n (d .each-day (i + 1) k))
-        quiet
-        ∙ ap (outcome (recordsLeft b 5) q) (sym n);
-  }
-
--- ---- the question, by its article, terms and table
-
-module _ {s : List ℕ} {ask : Ask} (a : AskIs s ask) where
-  pub names-there : NamesStand s (ask .granted) (ask .conditions) × (ask .conditions ≤ 32)
-  names-there = (a .names, a .conditions)
-
-  pub article-inside : ask .article .at + ask .article .size ≤ length s
-  article-inside = a .inside
-
-  module _ {terms : Terms} (t : TermsAre ask terms) {table : List ℕ} (g : GrantsAre (namesAt s (ask .granted) (ask .conditions)) table) where
-    -- the article as it is cut out of the question
-    abbrev cut : List ℕ
-    cut = take (ask .article .at + ask .article .size - ask .article .at) (drop (ask .article .at) s)
-
-    pub listing-asked : length table ≡ tableSize → Asked cut table terms
-    listing-asked long = asked-in s ask t (a .conditions) long g
-
-    module _ {b : List ℕ} where
-      pub listing-window : {w : Window} → Windows b 5 (askIn s ask .article) (ask .sort) w → Windows b 5 cut (terms .sort) w
-      listing-window {w} h =
-          let x = asks-in s ask t g in
-          subst (λ (k : ℕ). Windows b 5 cut k w) (x .sort) (subst (λ (n : List ℕ). Windows b 5 n (ask .sort) w) (x .article) h)
-
-      pub listing-marked : {w : Window} → Windows b 5 (askIn s ask .article) (ask .sort) w → {dates : List ℕ} {marks : List Bool} → Dates dates → 0 < length dates
-          → MarksAre (take (w .last) b) (w .first) cut (ask .sort) dates marks → MarkedFor b cut table terms dates marks
-      listing-marked {w} h d l m =
-          let x = asks-in s ask t g in
-          record {
-            some-day = l;
-            few = d .few;
-            of = λ q k.
-                steady (subst (λ (n : List ℕ). Windows b 5 n (ask .sort) w) (x .article) h) q (k .article) (k .sort ∙ sym (x .sort)) d l m;
-          }
-
-      pub listing-told : {dates : List ℕ} {r : Stretches} → ListsFor b cut table terms dates r → Lists (stretches (outcome (recordsLeft b 5) (askIn s ask)) dates) r
-      listing-told h = h .of (askIn s ask) (asks-in s ask t g)
+use Rattle.stretches.specs.Stretches.{noStretch, Lists}
+use Rattle.calendar.specs.Listing.{within, listing, ListingIs, Refused}
 
 -- ---- refusals
 

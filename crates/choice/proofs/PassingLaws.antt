@@ -24,7 +24,7 @@ use Rattle.rules.proofs.ChoiceLaws.{isAsked, stands}
 use Rattle.layout.specs.Ensures.{Number, Says}
 use Rattle.records.specs.Tests as Tests
 use Rattle.records.specs.Ensures.{rowIn, RowIs}
-use Rattle.question.specs.declared.Terms.{Terms}
+use Rattle.grants.specs.declared.terms.Terms.{Terms}
 use Rattle.grants.specs.Places.{placeOf, PlaceIs}
 use Rattle.grants.specs.Asks.{Asks}
 use Rattle.choice.specs.declared.hands.Passing.{Passing}

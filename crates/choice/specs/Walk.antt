@@ -11,7 +11,7 @@ use Rattle.rules.specs.Book.{Row, Record, asRow}
 use Rattle.rules.specs.Question.{Question}
 use Rattle.rules.specs.Choice.{reaches}
 use Rattle.rules.proofs.ChoiceLaws as Choice
-use Rattle.question.specs.declared.Terms.{Terms}
+use Rattle.grants.specs.declared.terms.Terms.{Terms}
 use Rattle.grants.specs.Places.{nowhere, placeOf}
 use Rattle.grants.specs.Asks.{Asks}
 use Rattle.choice.specs.declared.hands.Hand.{Hand}

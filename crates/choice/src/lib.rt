@@ -7,7 +7,7 @@ use crate::hands::Seen;
 use crate::hands::see;
 use crate::passing::passing;
 use book::record_stop;
-use question::Terms;
+use grants::terms::Terms;
 ghost use Rattle.rules.specs.Book.{rows};
 ghost use Rattle.layout.specs.Records.{recordsLeft, Between};
 ghost use Rattle.grants.specs.Asks.{Tabled};

@@ -8,7 +8,7 @@ use crate::slots::level_of;
 use days::Day;
 use grants::NOWHERE;
 use grants::place_of;
-use question::Terms;
+use grants::terms::Terms;
 use records::is_row;
 use records::row_of;
 use rules::Currency;

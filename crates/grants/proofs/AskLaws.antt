@@ -6,34 +6,40 @@ use native.Mathlib.Omega.{arith}
 use lib.ListN.{length, take, drop}
 use Rattle.rules.specs.Question.{Question, askedOf, on, lettersOf}
 use Rattle.question.specs.declared.Ask.{Ask}
-use Rattle.question.specs.declared.Terms.{Terms}
-use Rattle.question.specs.Parts.{namesAt}
-use Rattle.question.specs.Asked.{askIn, TermsAre, termsOn}
+use Rattle.question.specs.Parts.{namesAt, NamesStand}
+use Rattle.question.specs.Asked.{askIn, AskIs}
+use Rattle.grants.specs.declared.terms.Terms.{Terms}
+use Rattle.grants.specs.declared.terms.Wanted.{Wanted}
 use Rattle.grants.specs.Table.{tableSize, GrantsAre}
-use Rattle.grants.specs.Asks.{Asks, Tabled, Asked}
+use Rattle.grants.specs.Asks.{TermsAre, termsOn, Asks, Tabled, Asked, articleCut, WantedIs}
 use Rattle.grants.proofs.FillLaws.{names-count}
 
-module _ (s : List ℕ) (ask : Ask) {terms : Terms} (t : TermsAre ask terms) where
-  pub asks-in : {table : List ℕ} → GrantsAre (namesAt s (ask .granted) (ask .conditions)) table
-      → Asks (askIn s ask) (take (ask .article .at + ask .article .size - ask .article .at) (drop (ask .article .at) s)) table terms
-  asks-in g =
+module _ {s : List ℕ} {ask : Ask} (a : AskIs s ask) where
+  pub names-there : NamesStand s (ask .granted) (ask .conditions) × (ask .conditions ≤ 32)
+  names-there = (a .names, a .conditions)
+
+  pub article-inside : ask .article .at + ask .article .size ≤ length s
+  article-inside = a .inside
+
+  pub wanted-is : {terms : Terms} → TermsAre ask terms → {table : List ℕ} → length table ≡ tableSize → GrantsAre (namesAt s (ask .granted) (ask .conditions)) table
+      → WantedIs s ask (record { table = table; terms = terms })
+  wanted-is {terms} t {table} long g =
       let k : ask .article .size ≡ ask .article .at + ask .article .size - ask .article .at = omega arith in
       record {
-        article = ap (λ (n : ℕ). take n (drop (ask .article .at) s)) k;
-        sort = ap (λ (x : Terms). x .sort) (sym (t .is));
-        currency = ap (λ (x : Terms). askedOf (lettersOf (x .currency))) (sym (t .is));
-        date = ap (λ (x : Terms). x .date .0) (sym (t .is));
-        quantity = ap (λ (x : Terms). x .quantity) (sym (t .is));
-        granted = g;
-        count = names-count s (ask .granted) (ask .conditions) ∙ ap (λ (x : Terms). x .names) (sym (t .is));
+        tabled = record { long = long; few = omega (arith, a .conditions, ap (λ (x : Terms). x .names) (t .is)) };
+        asks = record {
+          article = ap (λ (n : ℕ). take n (drop (ask .article .at) s)) k;
+          sort = ap (λ (x : Terms). x .sort) (sym (t .is));
+          currency = ap (λ (x : Terms). askedOf (lettersOf (x .currency))) (sym (t .is));
+          date = ap (λ (x : Terms). x .date .0) (sym (t .is));
+          quantity = ap (λ (x : Terms). x .quantity) (sym (t .is));
+          granted = g;
+          count = names-count s (ask .granted) (ask .conditions) ∙ ap (λ (x : Terms). x .names) (sym (t .is));
+        };
       }
 
-  pub tabled-in : ask .conditions ≤ 32 → {table : List ℕ} → length table ≡ tableSize → Tabled table terms
-  tabled-in few long = record { long = long; few = omega (arith, few, ap (λ (x : Terms). x .names) (t .is)) }
-
-  pub asked-in : ask .conditions ≤ 32 → {table : List ℕ} → length table ≡ tableSize → GrantsAre (namesAt s (ask .granted) (ask .conditions)) table
-      → Asked (take (ask .article .at + ask .article .size - ask .article .at) (drop (ask .article .at) s)) table terms
-  asked-in few long g = record { tabled = tabled-in few long; question = askIn s ask; asks = asks-in g }
+pub wanted-asked : {s : List ℕ} {ask : Ask} {r : Wanted} → WantedIs s ask r → Asked (articleCut s ask) (r .table) (r .terms)
+wanted-asked {s} {ask} w = record { tabled = w .tabled; question = askIn s ask; asks = w .asks }
 
 -- on another day the same question asks by the same terms, but for the date
 pub asks-on : {q : Question} {article table : List ℕ} {terms : Terms} → Asks q article table terms → (d : ℕ) → Asks (on q d) article table (termsOn terms d)

@@ -2,6 +2,7 @@
 // An entry for each place: a byte with the name's length, then its bytes, zeros behind. A repeat's entry, and one behind the last name, is all zeros.
 pub mod idle;
 pub mod places;
+pub mod terms;
 
 use layout::names::put_raised;
 use layout::names::same_bytes;

@@ -1,6 +1,6 @@
 -- The price call, refusal by refusal in their order, and the answer.
-use Prim.Native.Nat.{ℕ, _+_, _-_, _*_, _≤_, _<_}
-use mathlib.Core.Path.{_≡_, refl, sym, _∙_, ap, subst}
+use Prim.Native.Nat.{ℕ, _*_, _≤_, _<_}
+use mathlib.Core.Path.{_≡_, refl, sym, _∙_, ap}
 use mathlib.Core.Bool.{true, false, not, false≢true}
 use mathlib.Core.List.{List}
 use mathlib.Core.Option.{Option, some, none}
@@ -8,7 +8,7 @@ use native.Mathlib.Omega.{arith}
 use lib.Count.{ones}
 use lib.Dec.{leb}
 use lib.IntN.{pos, _*ℤ_, natAbs}
-use lib.ListN.{length, take, drop}
+use lib.ListN.{length}
 use borrow.Author.Tests.{le-leb, lt-leb}
 use Rattle.rules.specs.Lists.{isSome}
 use Rattle.rules.proofs.ListLaws.{absent}
@@ -24,17 +24,15 @@ use Rattle.layout.specs.Ensures.{Puts}
 use Rattle.layout.proofs.StoreLaws.{puts-front}
 use Rattle.layout.specs.Records.{recordsLeft}
 use Rattle.question.specs.declared.Ask.{Ask}
-use Rattle.question.specs.declared.Terms.{Terms}
-use Rattle.question.specs.Parts.{namesAt, NamesStand}
-use Rattle.question.specs.Asked.{askIn, AskIs, TermsAre}
-use Rattle.grants.specs.Table.{tableSize, GrantsAre}
+use Rattle.question.specs.Asked.{askIn, AskIs}
+use Rattle.grants.specs.declared.terms.Wanted.{Wanted}
 use Rattle.grants.specs.Idle.{idle}
-use Rattle.grants.specs.Asks.{Asked}
-use Rattle.grants.proofs.AskLaws.{asks-in, asked-in}
+use Rattle.grants.specs.Asks.{articleCut, WantedIs}
 use Rattle.survey.specs.declared.window.Window.{Window}
 use Rattle.survey.specs.declared.entrance.Entered.{Entered}
 use Rattle.survey.specs.Window.{Windows}
 use Rattle.survey.specs.Entrance.{EnteredIs}
+use Rattle.survey.proofs.WindowLaws.{window-as}
 use Rattle.survey.proofs.EntranceLaws.{stays-out, goes-in}
 use Rattle.lines.specs.Views.{viewsIn, viewsBytes, amountsIn}
 use Rattle.lines.specs.Contracts.{StandFor, Writable}
@@ -94,29 +92,13 @@ module _ (b s lent : List ℕ) where
 
 -- ---- the quote
 
-module _ {s : List ℕ} {ask : Ask} (a : AskIs s ask) where
-  pub quote-names : NamesStand s (ask .granted) (ask .conditions) × (ask .conditions ≤ 32)
-  quote-names = (a .names, a .conditions)
+-- the question asks by what is made of it
+module _ {s : List ℕ} {ask : Ask} {k : Wanted} (made : WantedIs s ask k) {b : List ℕ} where
+  pub quote-window : {w : Window} → Windows b 5 (askIn s ask .article) (ask .sort) w → Windows b 5 (articleCut s ask) (k .terms .sort) w
+  quote-window = window-as (made .asks .article) (made .asks .sort)
 
-  pub quote-inside : ask .article .at + ask .article .size ≤ length s
-  quote-inside = a .inside
-
-module _ (s : List ℕ) {ask : Ask} (a : AskIs s ask) {terms : Terms} (t : TermsAre ask terms) where
-  -- the article as it is cut out of the question
-  abbrev cut : List ℕ
-  cut = take (ask .article .at + ask .article .size - ask .article .at) (drop (ask .article .at) s)
-
-  module _ {table : List ℕ} (g : GrantsAre (namesAt s (ask .granted) (ask .conditions)) table) where
-    pub quote-asked : length table ≡ tableSize → Asked cut table terms
-    quote-asked long = asked-in s ask t (a .conditions) long g
-
-    pub quote-window : {b : List ℕ} {w : Window} → Windows b 5 (askIn s ask .article) (ask .sort) w → Windows b 5 cut (terms .sort) w
-    quote-window {b} {w} h =
-        let x = asks-in s ask t g in
-        subst (λ (k : ℕ). Windows b 5 cut k w) (x .sort) (subst (λ (n : List ℕ). Windows b 5 n (ask .sort) w) (x .article) h)
-
-    pub quote-told : {b : List ℕ} {r : Quote} → QuoteIs b cut table terms r → Quoted b (askIn s ask) r
-    quote-told q = q .of (askIn s ask) (asks-in s ask t g)
+  pub quote-told : {r : Quote} → QuoteIs b (articleCut s ask) (k .table) (k .terms) r → Quoted b (askIn s ask) r
+  quote-told q = q .of (askIn s ask) (made .asks)
 
 module _ {b : List ℕ} {q : Question} {r : Quote} (told : Quoted b q r) where
   few : r .n ≤ 99

@@ -1,7 +1,6 @@
-// The quote of an accepted question, whose article, terms and table of granted names are made once.
-use grants::grants_of;
+// The quote of an accepted question.
+use grants::terms::wanted_in;
 use question::Ask;
-use question::terms_of;
 use quote::Quote;
 use quote::quote_of;
 use survey::window::Window;
@@ -14,8 +13,9 @@ pub fn quoted(book: &[u8], window: Window, question: &[u8], ask: Ask) -> Quote
     requires { ⌜ Windows (now book) 5 (askIn (now question) ask .article) (ask .sort) window ⌝ }
     ensures { λ r. ⌜ Quoted (now (book .entry)) (askIn (now (question .entry)) ask) r ⌝ }
 {
-    let table = grants_of(question, ask.granted, ask.conditions);
-    let terms = terms_of(ask);
+    let wanted = wanted_in(question, ask);
+    let table = wanted.table;
+    let terms = wanted.terms;
     let article = ask.article;
     let from = article.at;
     let to = from + article.size;

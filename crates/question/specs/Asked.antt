@@ -14,7 +14,6 @@ use Rattle.layout.specs.Reads.{part, nameStop, nameAt}
 use Rattle.layout.specs.Counted.{stopAfter}
 use Rattle.properties.specs.Properties.{propertiesAt, PropertiesStand}
 use Rattle.question.specs.declared.Ask.{Ask}
-use Rattle.question.specs.declared.Terms.{Terms}
 use Rattle.question.specs.Parts.{namesAt, NamesStand, currencyOk, termsOk, questionAt}
 
 -- the end `r` of the granted name at `at`, which has 1 to 20 bytes
@@ -69,26 +68,3 @@ pub record AskIs (s : List ℕ) (r : Ask) : Type 0 where
   pub names : NamesStand s (r .granted) (r .conditions)
   pub count : r .count ≤ 32
   pub properties : PropertiesStand s (r .properties) (r .count)
-
--- what is asked beside the article
-abbrev pub termsIn : Ask → Terms
-termsIn ask = record {
-  sort = ask .sort;
-  currency = ask .currency;
-  date = ask .date;
-  quantity = ask .quantity;
-  names = ask .conditions;
-}
-
-pub record TermsAre (ask : Ask) (r : Terms) : Type 0 where
-  pub is : r ≡ termsIn ask
-
--- the same on another day
-abbrev pub termsOn : Terms → ℕ → Terms
-termsOn t d = record {
-  sort = t .sort;
-  currency = t .currency;
-  date = record { 0 = d };
-  quantity = t .quantity;
-  names = t .names;
-}

@@ -18,7 +18,7 @@ ghost use lib.ListN.{length};
 ghost use Rattle.rules.specs.Lists.{isSome};
 ghost use Rattle.rules.specs.Question.{questionOf};
 ghost use Rattle.layout.specs.Ensures.{Says};
-ghost use Rattle.question.specs.Asked.{AskAt, AskIs, TermsAre};
+ghost use Rattle.question.specs.Asked.{AskAt, AskIs};
 ghost use Rattle.question.specs.Parts.{headOk, currencyOk, termsOk};
 
 // A question, read by value. The names in it stay there: `granted` is the place of the first granted name's length byte,
@@ -34,15 +34,6 @@ pub struct Ask {
     pub conditions: usize,
     pub properties: usize,
     pub count: usize,
-}
-
-// What is asked beside the article. `names` is how many are granted.
-pub struct Terms {
-    pub sort: u8,
-    pub currency: rules::Currency,
-    pub date: Day,
-    pub quantity: u32,
-    pub names: usize,
 }
 
 // ---- which bytes are one
@@ -128,18 +119,4 @@ pub fn ask_of(s: &[u8]) -> Ask
     let count = a + 12;
     let g = names_stop(s, count + 1, wide(s[count]));
     ask_from(s, a, g)
-}
-
-pub fn terms_of(ask: Ask) -> Terms
-    ensures { λ r. ⌜ TermsAre ask r ⌝ }
-{
-    let currency = ask.currency;
-    let date = ask.date;
-    Terms {
-        sort: ask.sort,
-        currency,
-        date,
-        quantity: ask.quantity,
-        names: ask.conditions,
-    }
 }

@@ -12,7 +12,7 @@ use Rattle.lines.specs.declared.Pick.{Pick}
 use Rattle.lines.specs.declared.verdict.Verdict.{Verdict}
 use Rattle.lines.specs.Verdict.{VerdictIs}
 use Rattle.lines.specs.Views.{viewsIn}
-use Rattle.question.specs.declared.Terms.{Terms}
+use Rattle.grants.specs.declared.terms.Terms.{Terms}
 use Rattle.quote.specs.declared.picks.Picks.{Picks}
 use Rattle.quote.specs.Picks.{PickedAre, PickedFor}
 use Rattle.quote.specs.Quote.{UnusedFor, QuoteIs, OutcomeFor}

@@ -23,7 +23,7 @@ use Rattle.grants.specs.Table.{GrantsAre}
 use Rattle.grants.specs.Places.{upFrom}
 use Rattle.layout.specs.Ensures.{Says}
 use Rattle.choice.specs.Hands.{isEmpty, TakenIs, takenOf}
-use Rattle.question.specs.declared.Terms.{Terms}
+use Rattle.grants.specs.declared.terms.Terms.{Terms}
 use Rattle.grants.specs.Asks.{Asks, Asked}
 use Rattle.choice.specs.Walk.{SlotsHold, SlotsFor, unseen}
 use Rattle.survey.specs.Window.{Windows}

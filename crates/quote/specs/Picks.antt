@@ -11,7 +11,7 @@ use Rattle.rules.specs.Lines.{chosen}
 use Rattle.rules.proofs.ListLaws.{All}
 use Rattle.layout.specs.Records.{recordsLeft}
 use Rattle.lookup.specs.Roundings.{Found}
-use Rattle.question.specs.declared.Terms.{Terms}
+use Rattle.grants.specs.declared.terms.Terms.{Terms}
 use Rattle.grants.specs.Table.{GrantsAre}
 use Rattle.grants.specs.Asks.{Asks}
 use Rattle.grants.specs.Places.{upFrom}

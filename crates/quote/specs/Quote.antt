@@ -5,7 +5,7 @@ use Rattle.rules.specs.Question.{Question}
 use Rattle.rules.specs.Calendar.{OutcomeIs, outcome}
 use Rattle.rules.specs.declared.Outcome.{Outcome}
 use Rattle.layout.specs.Records.{recordsLeft}
-use Rattle.question.specs.declared.Terms.{Terms}
+use Rattle.grants.specs.declared.terms.Terms.{Terms}
 use Rattle.grants.specs.Table.{GrantsAre}
 use Rattle.grants.specs.Asks.{Asks}
 use Rattle.grants.specs.Idle.{UnusedIs}

@@ -16,9 +16,8 @@ use Rattle.rules.proofs.TestLaws.{and-true}
 use Rattle.rules.proofs.CalendarLaws.{eq-of, same-outcome}
 use Rattle.rules.proofs.WalkLaws as Walk
 use Rattle.layout.specs.Ensures.{Says}
-use Rattle.question.specs.declared.Terms.{Terms}
-use Rattle.question.specs.Asked.{termsOn}
-use Rattle.grants.specs.Asks.{Asks, Asked}
+use Rattle.grants.specs.declared.terms.Terms.{Terms}
+use Rattle.grants.specs.Asks.{Asks, Asked, termsOn}
 use Rattle.grants.proofs.AskLaws.{asks-on, asked-on}
 use Rattle.quote.specs.Quote.{OutcomeFor}
 use Rattle.survey.specs.declared.window.Window.{Window}

@@ -11,7 +11,7 @@ use Rattle.rules.specs.Lists.{consIf}
 use Rattle.rules.specs.Calendar.{Outcome, asOutcome, Stretch, sameOutcome, stretches, mostDays}
 use Rattle.rules.proofs.WalkLaws as Walk
 use Rattle.layout.proofs.StoreLaws.{all-same, behind-store}
-use Rattle.question.specs.declared.Terms.{Terms}
+use Rattle.grants.specs.declared.terms.Terms.{Terms}
 use Rattle.stretches.specs.declared.Stretch as Declared
 use Rattle.stretches.specs.declared.turns.Turning.{Turning}
 use Rattle.stretches.specs.Stretches.{asStretch, noStretch, Opened, Steady, Turned, Marked, Lists, Going, OpenedFor, SteadyFor, TurnedFor, MarkedFor, ListsFor, GoingFor}

@@ -9,9 +9,8 @@ use Rattle.rules.specs.Calendar.{Outcome, asOutcome, Stretch, sameOutcome, stre
 use Rattle.rules.specs.Question.{Question, currencyOf}
 use Rattle.rules.proofs.WalkLaws as Walk
 use Rattle.layout.specs.Records.{recordsLeft}
-use Rattle.question.specs.declared.Terms.{Terms}
-use Rattle.question.specs.Asked.{termsOn}
-use Rattle.grants.specs.Asks.{Asks}
+use Rattle.grants.specs.declared.terms.Terms.{Terms}
+use Rattle.grants.specs.Asks.{Asks, termsOn}
 use Rattle.stretches.specs.declared.Stretch as Declared
 use Rattle.stretches.specs.declared.Stretches.{Stretches}
 use Rattle.stretches.specs.declared.turns.Turning.{Turning}

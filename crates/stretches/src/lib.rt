@@ -1,6 +1,7 @@
 // The longest stretches of days with one outcome, found day by day: only the first day and days of change are priced.
-pub mod turns;
-pub mod walk;
+pub mod asked;
+mod turns;
+mod walk;
 
 use days::Day;
 use rules::Cents;

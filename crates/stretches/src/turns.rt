@@ -1,7 +1,7 @@
 // The stretch in hand, and what a day makes of it: it grows by that day, or another stretch begins.
 use crate::Stretch;
 use days::Day;
-use question::Terms;
+use grants::terms::Terms;
 use quote::outcome_of;
 use rules::Outcome;
 use survey::window::Window;

@@ -4,7 +4,7 @@ use crate::Stretches;
 use crate::turns::opened;
 use crate::turns::turn;
 use days::Day;
-use question::Terms;
+use grants::terms::Terms;
 use survey::window::Window;
 ghost use Rattle.grants.specs.Asks.{Asked};
 ghost use Rattle.survey.specs.Window.{Windows};

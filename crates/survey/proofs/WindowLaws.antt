@@ -250,3 +250,8 @@ windows a b = record {
   rounding-between = b .between;
   rounding-same = b .same;
 }
+
+-- a window is that of an article and a sort by whatever name
+pub window-as : {b : List ℕ} {start : ℕ} {article article′ : List ℕ} {sort sort′ : ℕ} {w : Window} → article ≡ article′ → sort ≡ sort′
+    → Windows b start article sort w → Windows b start article′ sort′ w
+window-as {b} {start} {article′} {sort} {w} e f h = subst (λ (k : ℕ). Windows b start article′ k w) f (subst (λ (n : List ℕ). Windows b start n sort w) e h)

@@ -1,0 +1,24 @@
+-- `stretches::asked::stretches_in` meets its contract: the question asks by what is made of it, and the marks make all other days steady, by
+-- the laws `asked-..`.
+use borrow.Author.Needs.{needs}
+use Rattle.grants.proofs.AskLaws.{article-inside, wanted-asked}
+use Rattle.stretches.proofs.AskedLaws.{window-size, window-between, asked-window, asked-marked, asked-told}
+use Rattle.stretches.proofs.asked.stretches_in.Statement.{statement}
+use Rattle.stretches.proofs.asked.stretches_in.Tie as tie
+
+ruleset laws = (needs, article-inside, wanted-asked, window-size, window-between, asked-window, asked-marked, asked-told)
+
+pub stretches-in-spec : {M : Type 1} → statement M
+stretches-in-spec =
+    tie.close
+    (tie.spec
+    (λ c κs. search needs)  -- wanted-in-requires
+    (λ c. search laws)  -- add-to
+    (λ c. search needs)  -- sub-article
+    (λ c. search needs)  -- part-article-start
+    (λ c. search laws)  -- part-article-end
+    (λ c. search laws)  -- slice-aggregate-marks-of
+    (λ c κs. search laws)  -- marks-of-requires
+    (λ c. search needs)  -- slice-aggregate-stretches-of
+    (λ c κs. search laws)  -- stretches-of-requires
+    (λ c. search laws))  -- returns
