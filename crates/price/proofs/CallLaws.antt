@@ -35,11 +35,11 @@ use Rattle.survey.specs.Entrance.{EnteredIs}
 use Rattle.survey.proofs.WindowLaws.{window-as}
 use Rattle.survey.proofs.EntranceLaws.{stays-out, goes-in}
 use Rattle.lines.specs.Views.{viewsIn, viewsBytes, amountsIn}
-use Rattle.lines.specs.Contracts.{StandFor, Writable}
+use Rattle.lines.specs.Contracts.{Writable}
 use Rattle.lines.proofs.PricedLaws.{line-count, line-places, bytes-count}
 use Rattle.quote.specs.declared.Quote.{Quote}
 use Rattle.quote.specs.Quote.{Quoted, QuoteIs}
-use Rattle.quote.proofs.PickLaws.{stand}
+use Rattle.quote.proofs.OutcomeLaws.{quoted-few, quoted-long, quoted-stand}
 use Rattle.quote.proofs.UnusedLaws.{idle-lines}
 use Rattle.price.specs.Call.{answerWith, PriceIs}
 
@@ -101,26 +101,20 @@ module _ {s : List ℕ} {ask : Ask} {k : Wanted} (made : WantedIs s ask k) {b : 
   quote-told q = q .of (askIn s ask) (made .asks)
 
 module _ {b : List ℕ} {q : Question} {r : Quote} (told : Quoted b q r) where
-  few : r .n ≤ 99
-  few = told .picked .few
-
-  stands : StandFor (recordsLeft b 5) q (r .rows) (r .n)
-  stands = stand (told .picked)
-
   pub can-write : {lent : List ℕ} → lineSize * r .n ≤ length lent → Writable lent (r .verdict .amounts) (r .n)
-  can-write h = record { few = few; room = h; each-in = told .judged .each-in }
+  can-write h = record { few = quoted-few told; room = h; each-in = told .judged .each-in }
 
   pub unit-in : natAbs (r .verdict .outcome .unit .0) ≤ mostTotal
   unit-in = told .judged .unit-in
 
   -- how many bytes the lines take
   size : length (linesBytes (linesOf (recordsLeft b 5) q)) ≡ lineSize * r .n
-  size = bytes-count (recordsLeft b 5) q (r .rows) (r .n) stands (omega (arith, few, told .picked .long))
+  size = bytes-count (recordsLeft b 5) q (r .rows) (r .n) (quoted-stand told) (omega (arith, quoted-few told, quoted-long told))
 
   -- the granted places that brought no line
   set-is : r .unused .0 ≡ setOf (unusedOf q (linesOf (recordsLeft b 5) q))
   set-is =
-      told .idle .is ∙ ap setOf (sym (idle-lines q (linesOf (recordsLeft b 5) q) ∙ ap (idle (q .granted)) (line-places (recordsLeft b 5) q (r .rows) (r .n) stands)))
+      told .idle .is ∙ ap setOf (sym (idle-lines q (linesOf (recordsLeft b 5) q) ∙ ap (idle (q .granted)) (line-places (recordsLeft b 5) q (r .rows) (r .n) (quoted-stand told))))
 
 -- ---- refusals 4 to 7, and the answer
 
@@ -128,13 +122,13 @@ module _ (b s lent : List ℕ) {w : Entered} (told : EnteredIs b s w) (t : w .nu
     {k : Quote} (quoted : Quoted b (askIn s (w .ask)) k) where
   pub no-price : (k .verdict .outcome .refusal ≡ 0 → ⊥) → {r : PriceAnswer} → r ≡ shown (refused (k .verdict .outcome .refusal)) → PriceIs b s lent r lent
   no-price z =
-      let e = quoted .judged .refuses z (recordsLeft b 5) (askIn s (w .ask)) (stands quoted) in
+      let e = quoted .judged .refuses z (recordsLeft b 5) (askIn s (w .ask)) (quoted-stand quoted) in
       refuses b s lent (priced-call b s lent told t f ∙ rw (e .is))
 
   module _ (z : k .verdict .outcome .refusal ≡ 0) where
     at-price : price b s (length lent)
         ≡ inRoom (length lent) (answerOf (askIn s (w .ask)) (record { lines = linesOf (recordsLeft b 5) (askIn s (w .ask)); currency = lettersOf (k .verdict .outcome .currency) }))
-    at-price = let e = quoted .judged .answered z (recordsLeft b 5) (askIn s (w .ask)) (stands quoted) in priced-call b s lent told t f ∙ rw (e .is)
+    at-price = let e = quoted .judged .answered z (recordsLeft b 5) (askIn s (w .ask)) (quoted-stand quoted) in priced-call b s lent told t f ∙ rw (e .is)
 
     pub no-room : length lent < lineSize * k .n → {r : PriceAnswer} → r ≡ shown (refused 7) → PriceIs b s lent r lent
     unfolding answerOf
@@ -152,10 +146,10 @@ module _ (b s lent : List ℕ) {w : Entered} (told : EnteredIs b s w) (t : w .nu
         let book : List Record = recordsLeft b 5 in
         let q : Question = askIn s (w .ask) in
         let ls : List Line = linesOf book q in
-        let x = quoted .judged .answered z book q (stands quoted) in
+        let x = quoted .judged .answered z book q (quoted-stand quoted) in
         let fits : leb (length (linesBytes ls)) (length lent) ≡ true = rw (size quoted) (le-leb (lineSize * k .n) (length lent) h) in
         let is-done : price b s (length lent) ≡ done (answerOf q (record { lines = ls; currency = lettersOf (k .verdict .outcome .currency) })) = at-price ∙ rw fits in
-        let count : length ls ≡ k .n = line-count book q (k .rows) (k .n) (stands quoted) (omega (arith, few quoted, quoted .picked .long)) in
+        let count : length ls ≡ k .n = line-count book q (k .rows) (k .n) (quoted-stand quoted) (omega (arith, quoted-few quoted, quoted-long quoted)) in
         let set′ : k .unused .0 ≡ setOf (unusedOf q ls) = set-is quoted in
         let ones′ : ones (k .unused .0) ≡ length (unusedOf q ls) = ap ones set′ ∙ unused-count q ls in
         let bytes : viewsBytes (viewsIn (k .rows) (k .n)) (amountsIn (k .verdict .amounts) (k .n)) ≡ linesBytes ls = sym (x .bytes) in

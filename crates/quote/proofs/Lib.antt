@@ -1,5 +1,2 @@
-pub mod NumberLaws
-pub mod WithinLaws
-pub mod PickLaws
 pub mod UnusedLaws
 pub mod OutcomeLaws

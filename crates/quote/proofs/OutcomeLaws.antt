@@ -1,9 +1,10 @@
 -- What is said of the chosen rows is the outcome of the question's day; and what a quote says.
-use Prim.Native.Nat.{ℕ}
+use Prim.Native.Nat.{ℕ, _≤_}
 use mathlib.Core.Path.{_≡_, refl, sym, _∙_, ap}
 use mathlib.Core.Bool.{Bool, true, false}
 use mathlib.Core.List.{List, map}
 use lib.Dec.{eqb}
+use lib.ListN.{length}
 use borrow.Author.Tests.{eqb-true, eqb-false}
 use Rattle.rules.specs.Question.{Question, on, lettersOf}
 use Rattle.rules.specs.Calendar.{asOutcome, outcomeOf, outcome}
@@ -12,11 +13,13 @@ use Rattle.lines.specs.declared.Pick.{Pick}
 use Rattle.lines.specs.declared.verdict.Verdict.{Verdict}
 use Rattle.lines.specs.Verdict.{VerdictIs}
 use Rattle.lines.specs.Views.{viewsIn}
+use Rattle.lines.specs.Contracts.{StandFor}
 use Rattle.grants.specs.declared.terms.Terms.{Terms}
-use Rattle.quote.specs.declared.picks.Picks.{Picks}
-use Rattle.quote.specs.Picks.{PickedAre, PickedFor}
-use Rattle.quote.specs.Quote.{UnusedFor, QuoteIs, OutcomeFor}
-use Rattle.quote.proofs.PickLaws.{stand}
+use Rattle.picks.specs.declared.Picks.{Picks}
+use Rattle.picks.specs.Picks.{PickedAre, PickedFor}
+use Rattle.quote.specs.declared.Quote.{Quote}
+use Rattle.quote.specs.Quote.{UnusedFor, Quoted, QuoteIs, OutcomeFor}
+use Rattle.picks.proofs.PickLaws.{stand}
 
 module _ {b : List ℕ} {q : Question} {picks : List Pick} {n : ℕ} (picked : PickedAre b q picks n) {v : Verdict} (j : VerdictIs picks n v) where
   said : asOutcome (v .outcome) ≡ outcome (recordsLeft b 5) q (q .date)
@@ -54,3 +57,14 @@ module _ {b number table : List ℕ} {terms : Terms} {picks : Picks} (picked : P
       idle = u .of (q .granted) (a .granted);
     };
   }
+
+-- what a quote says of its rows: they are few, and stand for the question
+module _ {b : List ℕ} {q : Question} {r : Quote} (told : Quoted b q r) where
+  pub quoted-few : r .n ≤ 99
+  quoted-few = told .picked .few
+
+  pub quoted-long : length (r .rows) ≡ 99
+  quoted-long = told .picked .long
+
+  pub quoted-stand : StandFor (recordsLeft b 5) q (r .rows) (r .n)
+  quoted-stand = stand (told .picked)

@@ -12,7 +12,7 @@ use Rattle.grants.specs.Idle.{UnusedIs}
 use Rattle.lines.specs.Views.{viewsIn}
 use Rattle.lines.specs.Verdict.{VerdictIs}
 use Rattle.quote.specs.declared.Quote.{Quote}
-use Rattle.quote.specs.Picks.{PickedAre}
+use Rattle.picks.specs.Picks.{PickedAre}
 
 -- the set of those of the names that the table is of which brought none of the lines with these places
 pub record UnusedFor (table places : List ℕ) (set : ℕ) : Type 0 where

@@ -1,16 +1,14 @@
 // What an article costs within its window of an accepted book, by terms and the table of granted names: no room is asked for, and nothing
 // is written.
-mod numbers;
-mod picks;
 mod unused;
 
-use crate::picks::picks_within;
 use crate::unused::unused;
 use grants::places::Places;
 use grants::terms::Terms;
 use lines::Pick;
 use lines::verdict::Verdict;
 use lines::verdict::judge;
+use picks::picks_within;
 use rules::Outcome;
 use survey::window::Window;
 ghost use Rattle.grants.specs.Asks.{Asked};

@@ -1,6 +1,6 @@
 -- `quote::outcome_of` meets its contract: the rows can be judged (`asked-judge`), and what is said of them is the day's outcome (`outcome-for`).
 use borrow.Author.Needs.{needs}
-use Rattle.quote.proofs.PickLaws.{asked-judge}
+use Rattle.picks.proofs.PickLaws.{asked-judge}
 use Rattle.quote.proofs.OutcomeLaws.{outcome-for}
 use Rattle.quote.proofs.outcome_of.Statement.{statement}
 use Rattle.quote.proofs.outcome_of.Tie as tie

@@ -1,6 +1,6 @@
 -- `quote::quote_of` meets its contract: the rows can be judged (`asked-judge`), and what is said of them and of the granted names is so (`quote-is`).
 use borrow.Author.Needs.{needs}
-use Rattle.quote.proofs.PickLaws.{asked-judge, asked-few}
+use Rattle.picks.proofs.PickLaws.{asked-judge, asked-few}
 use Rattle.quote.proofs.OutcomeLaws.{quote-is}
 use Rattle.quote.proofs.quote_of.Statement.{statement}
 use Rattle.quote.proofs.quote_of.Tie as tie

@@ -1,11 +1,11 @@
--- `quote::picks::picks_from` meets its contract: the slots gone through and those that are left choose the rows, by the laws `so-far-..`;
+-- `picks::picks_from` meets its contract: the slots gone through and those that are left choose the rows, by the laws `so-far-..`;
 -- a row's rounding is at the place that was found for its number, by `slot-found`.
 use Prim.Native.Nat.{_-_}
-use Rattle.quote.specs.Picks.{PicksSoFar}
+use Rattle.picks.specs.Picks.{PicksSoFar}
 use borrow.Author.Needs.{needs}
-use Rattle.quote.proofs.PickLaws.{filled-roundings, filled-held, filled-between, filled-long, slot-found, numbers-few, so-far-start, so-far-turn, so-far-end}
-use Rattle.quote.proofs.picks.picks_from.Statement.{statement}
-use Rattle.quote.proofs.picks.picks_from.Tie as tie
+use Rattle.picks.proofs.PickLaws.{filled-roundings, filled-held, filled-between, filled-long, slot-found, numbers-few, so-far-start, so-far-turn, so-far-end}
+use Rattle.picks.proofs.picks_from.Statement.{statement}
+use Rattle.picks.proofs.picks_from.Tie as tie
 
 ruleset laws = (needs, filled-roundings, filled-held, filled-between, filled-long, slot-found, numbers-few, so-far-start, so-far-turn, so-far-end)
 

@@ -27,6 +27,7 @@ use Rattle.grants.specs.declared.terms.Terms.{Terms}
 use Rattle.grants.specs.Asks.{Asks, Asked}
 use Rattle.choice.specs.Walk.{SlotsHold, SlotsFor, unseen}
 use Rattle.survey.specs.Window.{Windows}
+use Rattle.survey.proofs.WindowLaws.{window-as}
 use Rattle.choice.specs.Slots.{slotChosen, slotsChosen}
 use Rattle.choice.specs.declared.hands.Seen.{Seen}
 use Rattle.survey.specs.declared.window.Window.{Window}
@@ -37,12 +38,12 @@ use Rattle.lines.specs.declared.Pick.{Pick}
 use Rattle.lines.specs.Views.{View, viewOf, viewIn, viewsIn, baseFirst}
 use Rattle.lines.specs.Contracts.{StandFor, Sound, Listable}
 use Rattle.lines.proofs.ChosenLaws.{chosen-base-first}
-use Rattle.quote.specs.declared.picks.Picks.{Picks}
-use Rattle.quote.specs.declared.numbers.Numbers.{Numbers}
-use Rattle.quote.specs.Numbers.{Counted, filledBefore, NumbersIn}
-use Rattle.quote.specs.Picks.{RoundingsIn, Held, RowFound, HandHeld, HandFound, RowPicked, HandPicked, viewsFrom, Picking, PicksSoFar, Filled, PickedAre, PicksFrom, PickedFor}
-use Rattle.quote.proofs.NumberLaws.{filled-next}
-use Rattle.quote.proofs.WithinLaws.{walk-within}
+use Rattle.picks.specs.declared.Picks.{Picks}
+use Rattle.picks.specs.declared.numbers.Numbers.{Numbers}
+use Rattle.picks.specs.Numbers.{Counted, filledBefore, NumbersIn}
+use Rattle.picks.specs.Picks.{RoundingsIn, Held, RowFound, HandHeld, HandFound, RowPicked, HandPicked, viewsFrom, Picking, PicksSoFar, Filled, PickedAre, PicksFrom, PickedFor}
+use Rattle.picks.proofs.NumberLaws.{filled-next}
+use Rattle.picks.proofs.WithinLaws.{walk-within}
 
 pub held-kind : {b : List ℕ} {at end : ℕ} → Held b at end → OfKind 2 (take (end - at) (drop at b))
 held-kind h = there-kind (h .there)
@@ -265,18 +266,19 @@ numbers-few m = m .few
 
 module _ {b number table : List ℕ} {terms : Terms} {w : Window} (window : Windows b 5 number (terms .sort) w)
     {slots : List Seen} (holds : SlotsFor (take (w .last) b) (rows (recordsLeft (take (w .last) b) (w .first))) number table terms slots) where
+  -- the window is that of every question that asks so
+  within-window : (q : Question) → Asks q number table terms → Windows b 5 (q .article) (q .sort) w
+  within-window q a = window-as (sym (a .article)) (sym (a .sort)) window
+
   -- the slots hold what a walk over the whole book leaves in them
   within-holds : (q : Question) → Asks q number table terms → SlotsHold b (rows (recordsLeft b 5)) q slots
   within-holds q a = walk-within (within-window q a) (holds .of q a)
-    where
-      within-window : (q : Question) → Asks q number table terms → Windows b 5 (q .article) (q .sort) w
-      within-window q a = subst (λ (k : ℕ). Windows b 5 (q .article) k w) (sym (a .sort)) (subst (λ (n : List ℕ). Windows b 5 n (terms .sort) w) (sym (a .article)) window)
 
   pub within-filled : Asked number table terms → Filled b slots w
   within-filled x = record {
     asked = x .question;
     holds = within-holds (x .question) (x .asks);
-    window = subst (λ (k : ℕ). Windows b 5 (x .question .article) k w) (sym (x .asks .sort)) (subst (λ (n : List ℕ). Windows b 5 n (terms .sort) w) (sym (x .asks .article)) window);
+    window = within-window (x .question) (x .asks);
   }
 
   pub within-picks : {r : Picks} → PicksFrom b slots r → PickedFor b number table terms r

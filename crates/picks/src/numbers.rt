@@ -2,7 +2,7 @@
 use choice::hands::Hand;
 use choice::hands::Seen;
 use choice::hands::taken;
-ghost use Rattle.quote.specs.Numbers.{Counted, NumbersIn};
+ghost use Rattle.picks.specs.Numbers.{Counted, NumbersIn};
 
 // The first n of the numbers count, one for each slot that holds a row.
 pub struct Numbers {

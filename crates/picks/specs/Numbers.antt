@@ -8,7 +8,7 @@ use Rattle.choice.specs.declared.hands.Hand.{Hand}
 use Rattle.choice.specs.declared.hands.Seen.{Seen}
 use Rattle.choice.specs.Hands.{isEmpty, takenOf}
 use Rattle.choice.specs.Walk.{unseen}
-use Rattle.quote.specs.declared.numbers.Numbers.{Numbers}
+use Rattle.picks.specs.declared.numbers.Numbers.{Numbers}
 
 -- 1 where a row is in hand
 pub record Counted (h : Hand) (n : ℕ) : Type 0 where

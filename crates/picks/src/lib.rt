@@ -1,4 +1,6 @@
 // The chosen rows of a price by value, slot after slot, with their roundings, which one walk has found.
+mod numbers;
+
 use crate::numbers::counted;
 use crate::numbers::numbers_in;
 use choice::hands::Hand;
@@ -17,7 +19,7 @@ use rules::Way;
 use survey::window::Window;
 ghost use Rattle.grants.specs.Asks.{Asked};
 ghost use Rattle.survey.specs.Window.{Windows};
-ghost use Rattle.quote.specs.Picks.{RoundingsIn, Held, RowFound, HandHeld, HandFound, RowPicked, HandPicked, Filled, PicksFrom, PickedFor};
+ghost use Rattle.picks.specs.Picks.{RoundingsIn, Held, RowFound, HandHeld, HandFound, RowPicked, HandPicked, Filled, PicksFrom, PickedFor};
 
 // The first n of the rows count.
 pub struct Picks {

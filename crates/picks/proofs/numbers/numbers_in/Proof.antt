@@ -1,10 +1,10 @@
--- `quote::numbers::numbers_in` meets its contract: slot after slot, by the laws `numbering-..`.
+-- `picks::numbers::numbers_in` meets its contract: slot after slot, by the laws `numbering-..`.
 use Prim.Native.Nat.{_-_}
-use Rattle.quote.specs.Numbers.{Numbering}
+use Rattle.picks.specs.Numbers.{Numbering}
 use borrow.Author.Needs.{needs}
-use Rattle.quote.proofs.NumberLaws.{numbering-start, numbering-again, numbering-end}
-use Rattle.quote.proofs.numbers.numbers_in.Statement.{statement}
-use Rattle.quote.proofs.numbers.numbers_in.Tie as tie
+use Rattle.picks.proofs.NumberLaws.{numbering-start, numbering-again, numbering-end}
+use Rattle.picks.proofs.numbers.numbers_in.Statement.{statement}
+use Rattle.picks.proofs.numbers.numbers_in.Tie as tie
 
 ruleset laws = (needs, numbering-start, numbering-again, numbering-end)
 

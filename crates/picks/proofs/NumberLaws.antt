@@ -12,7 +12,7 @@ use Rattle.choice.specs.Hands.{isEmpty, TakenIs, takenOf}
 use Rattle.choice.specs.Walk.{unseen}
 use Rattle.choice.specs.declared.hands.Hand.{Hand}
 use Rattle.choice.specs.declared.hands.Seen.{Seen}
-use Rattle.quote.specs.Numbers.{Counted, filledBefore, Numbered, Numbering, NumbersIn}
+use Rattle.picks.specs.Numbers.{Counted, filledBefore, Numbered, Numbering, NumbersIn}
 
 module _ {h : Hand} {b : Bool} (p : Says (isEmpty h) b) where
   pub counts-none : b ≡ true → Counted h 0

@@ -1,8 +1,8 @@
--- `quote::picks::hand_pick` meets its contract: a row in hand, or none.
+-- `picks::hand_pick` meets its contract: a row in hand, or none.
 use borrow.Author.Needs.{needs}
-use Rattle.quote.proofs.PickLaws.{nothing-picked, hand-held, hand-found, hand-picked}
-use Rattle.quote.proofs.picks.hand_pick.Statement.{statement}
-use Rattle.quote.proofs.picks.hand_pick.Tie as tie
+use Rattle.picks.proofs.PickLaws.{nothing-picked, hand-held, hand-found, hand-picked}
+use Rattle.picks.proofs.hand_pick.Statement.{statement}
+use Rattle.picks.proofs.hand_pick.Tie as tie
 
 ruleset laws = (needs, nothing-picked, hand-held, hand-found, hand-picked)
 

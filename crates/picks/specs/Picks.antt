@@ -22,8 +22,8 @@ use Rattle.choice.specs.Slots.{slotChosen}
 use Rattle.survey.specs.Window.{Windows}
 use Rattle.choice.specs.Walk.{SlotsHold}
 use Rattle.choice.specs.declared.hands.Seen.{Seen}
-use Rattle.quote.specs.declared.picks.Picks.{Picks}
-use Rattle.quote.specs.Numbers.{filledBefore}
+use Rattle.picks.specs.declared.Picks.{Picks}
+use Rattle.picks.specs.Numbers.{filledBefore}
 use Rattle.lines.specs.declared.Pick.{Pick}
 use Rattle.lines.specs.Views.{View, viewOf, viewIn, viewsIn}
 use Rattle.lines.specs.Contracts.{Sound}

@@ -1,8 +1,8 @@
--- `quote::picks::row_pick` meets its contract: the row is read, and its rounding where that was found, by the law `row-picked`.
+-- `picks::row_pick` meets its contract: the row is read, and its rounding where that was found, by the law `row-picked`.
 use borrow.Author.Needs.{needs}
-use Rattle.quote.proofs.PickLaws.{held-kind, window-long, found-held, row-picked}
-use Rattle.quote.proofs.picks.row_pick.Statement.{statement}
-use Rattle.quote.proofs.picks.row_pick.Tie as tie
+use Rattle.picks.proofs.PickLaws.{held-kind, window-long, found-held, row-picked}
+use Rattle.picks.proofs.row_pick.Statement.{statement}
+use Rattle.picks.proofs.row_pick.Tie as tie
 
 ruleset laws = (needs, held-kind, window-long, found-held, row-picked)
 

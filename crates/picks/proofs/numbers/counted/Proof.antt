@@ -1,8 +1,8 @@
--- `quote::numbers::counted` meets its contract: by the laws `counts-..`.
+-- `picks::numbers::counted` meets its contract: by the laws `counts-..`.
 use borrow.Author.Needs.{needs}
-use Rattle.quote.proofs.NumberLaws.{counts-none, counts-one}
-use Rattle.quote.proofs.numbers.counted.Statement.{statement}
-use Rattle.quote.proofs.numbers.counted.Tie as tie
+use Rattle.picks.proofs.NumberLaws.{counts-none, counts-one}
+use Rattle.picks.proofs.numbers.counted.Statement.{statement}
+use Rattle.picks.proofs.numbers.counted.Tie as tie
 
 ruleset laws = (needs, counts-none, counts-one)
 

@@ -1,9 +1,9 @@
--- `quote::picks::picks_within` meets its contract: a walk over the window fills the slots as one over the book, by the laws `within-..`.
+-- `picks::picks_within` meets its contract: a walk over the window fills the slots as one over the book, by the laws `within-..`.
 use borrow.Author.Needs.{needs}
 use Rattle.grants.proofs.AskLaws.{asked-tabled}
-use Rattle.quote.proofs.PickLaws.{within-long, within-between, within-filled, within-picks}
-use Rattle.quote.proofs.picks.picks_within.Statement.{statement}
-use Rattle.quote.proofs.picks.picks_within.Tie as tie
+use Rattle.picks.proofs.PickLaws.{within-long, within-between, within-filled, within-picks}
+use Rattle.picks.proofs.picks_within.Statement.{statement}
+use Rattle.picks.proofs.picks_within.Tie as tie
 
 ruleset laws = (needs, asked-tabled, within-long, within-between, within-filled, within-picks)
 
