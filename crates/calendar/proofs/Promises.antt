@@ -31,11 +31,12 @@ use Rattle.rules.proofs.CallLaws.{CalendarRefusal, calendar-answered}
 use Rattle.rules.proofs.PeriodLaws.{NoPeriod}
 use Rattle.rules.proofs.BookK.{bookK, calendarAsked, calendarEnd, stretchesK, calendar-K, list-K}
 use Rattle.price.specs.Call.{PriceIs}
+use Rattle.price.specs.Read.{outcomeIn}
+use Rattle.price.proofs.OutcomeLaws.{call-outcome, outcome-fits}
 use Rattle.rules.proofs.GivesLaws.{question-sound}
 use Rattle.rules.proofs.Promises as Rules
 use Rattle.calendar.specs.Calls.{CalendarIs, CalendarListIs}
-use Rattle.calendar.specs.Read.{readStretches, listedStretches, outcomeIn}
-use Rattle.calendar.proofs.OutcomeLaws.{call-outcome, outcome-fits}
+use Rattle.calendar.specs.Read.{readStretches, listedStretches}
 use Rattle.calendar.proofs.ReadLaws.{Readable, lettered, stretches-back}
 
 -- ---- the list that was written is the list that is read

@@ -1,10 +1,9 @@
--- What a caller reads: the stretches in the lent output, 20 bytes each or a record each, and a day's outcome in the answer of the price call.
+-- What a caller reads: the stretches in the lent output, 20 bytes each or a record each.
 use Prim.Native.Nat.{ℕ, zero, suc}
 use mathlib.Core.List.{List, [], _∷_, map}
 use lib.ListN.{take, drop, getD}
 use Rattle.rules.specs.Bytes.{big, signedOf}
-use Rattle.rules.specs.Calendar.{Outcome, Stretch}
-use Rattle.rules.specs.declared.PriceAnswer.{PriceAnswer}
+use Rattle.rules.specs.Calendar.{Stretch}
 use Rattle.stretches.specs.declared.Stretch as Declared
 use Rattle.stretches.specs.Stretches.{asStretch}
 
@@ -21,6 +20,3 @@ readStretches (suc n) s = stretchIn s ∷ readStretches n (drop 20 s)
 
 abbrev pub listedStretches : ℕ → List Declared.Stretch → List Stretch
 listedStretches n l = map asStretch (take n l)
-
-abbrev pub outcomeIn : PriceAnswer → Outcome
-outcomeIn a = record { refusal = a .number; currency = a .currency; unit = a .unit }

@@ -5,3 +5,4 @@ pub mod ViewLaws
 pub mod ChosenLaws
 pub mod PricedLaws
 pub mod VerdictLaws
+pub mod NearLaws

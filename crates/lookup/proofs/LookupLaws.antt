@@ -1,17 +1,17 @@
 -- The lookup of roundings by places meets the definition's: what is looked for, each turn of the walk, and its end.
-use Prim.Native.Nat.{ℕ, zero, suc, _+_, _-_, _%_, _≤_, _<_}
+use Prim.Native.Nat.{ℕ, _+_, _-_, _%_, _≤_, _<_}
 use mathlib.Core.Path.{_≡_, refl, sym, _∙_, ap, subst}
 use mathlib.Core.Bool.{Bool, true, false, _&&_, _||_, not, cond, or-true, false≢true}
 use mathlib.Core.List.{List, [], _∷_}
-use mathlib.Core.Option.{Option, some, none, Option·none-ne-some, Option·some-injective}
+use mathlib.Core.Option.{Option, some, none}
 use native.Mathlib.Omega.{arith}
 use native.Mathlib.Decide.{decLt, ℕ-discrete}
 use lib.Dec.{eqb}
 use lib.ListN.{length, drop, getD, set, replicate, length-set, length-replicate, getD-replicate}
 use lib.Seq.{getD-set-same, getD-set-other}
-use borrow.Author.Tests.{eqb-true, eq-eqb, ne-eqb, not-true}
+use borrow.Author.Tests.{eq-eqb, ne-eqb, not-true}
 use Rattle.rules.specs.Lists.{isSome, consSome, ifSome}
-use Rattle.rules.specs.Layout.{Layout, _>>=_, give, bytes, toEnd, whole, back}
+use Rattle.rules.specs.Layout.{whole}
 use Rattle.rules.specs.Bytes.{number}
 use Rattle.rules.specs.Book.{Record, RoundingRecord, asRounding, roundings, roundingFor, plain}
 use Rattle.rules.specs.BookLayout.{kinded, oneRecord}
@@ -19,7 +19,7 @@ use Rattle.rules.specs.Amounts.{SoundRounding}
 use Rattle.rules.specs.declared.Rounding.{Rounding}
 use Rattle.rules.proofs.ListLaws.{All}
 use Rattle.rules.proofs.KindLaws.{roundingKind, list-all}
-use Rattle.rules.proofs.GivesLaws.{Gives, gives-field, gives-any, gives-value, whole-gives}
+use Rattle.rules.proofs.GivesLaws.{gives-repeated, whole-gives}
 use Rattle.layout.specs.Reads.{part}
 use Rattle.layout.specs.Ensures.{Number}
 use Rattle.layout.specs.Records.{recordsFrom, recordStop, listed, recordsLeft, Between, RecordHere, StopIs}
@@ -28,7 +28,7 @@ use Rattle.book.proofs.WalkLaws.{pass-end, pass-here, pass-less, pass-next, pas
 use Rattle.records.specs.Asks.{Accepted, OfKind}
 use Rattle.records.specs.Ensures.{Bounded, RoundingBounds, RoundingIs}
 use Rattle.records.specs.Tests.{roundingNumber}
-use Rattle.records.proofs.BoundLaws.{in-bounds}
+use Rattle.records.proofs.BoundLaws.{gives-record}
 use Rattle.records.proofs.RoundingLaws.{number-kind}
 use Rattle.lookup.specs.declared.roundings.Open.{Open}
 use Rattle.lookup.specs.Roundings.{RoundingUsed, roundingHeld, placedOr, RoundingHere, PlaceHeld, RoundingAt, Found, PlacesFound, Sought, Placing, Wants, OpenAre, NextOpen, PlaceAfter, PlacesAfter}
@@ -50,40 +50,13 @@ hit n r rs e = rw (eq-eqb (r .number) n e)
 
 -- ---- no record has number 0
 
--- of values one after the other each is what one alone is
-gives-to-end : {A : Type 0} {P : A → Type 0} (n : ℕ) {m : Layout A} → Gives m P → Gives (toEnd n m) (All P)
-gives-to-end {A} {P} zero {m} g = record { sure = go }
+left-bounds : (b : List ℕ) (at : ℕ) → All Bounded (recordsLeft b at)
+unfolding recordsFrom
+left-bounds b at = go (recordsFrom b at) refl
   where
-    go : (s : List ℕ) (v : List A) (t : List ℕ) → toEnd zero m s ≡ some (v, t) → All P v
-    go [] v t e = gives-value [] {P = All P} tt .sure [] v t e
-    go (x ∷ s) v t e = absurd (Option·none-ne-some (v, t) e)
-gives-to-end {A} {P} (suc n) {m} g = record { sure = go (gives-to-end n g) }
-  where
-    go : Gives (toEnd n m) (All P) → (s : List ℕ) (v : List A) (t : List ℕ) → toEnd (suc n) m s ≡ some (v, t) → All P v
-    go rest [] v t e = gives-value [] {P = All P} tt .sure [] v t e
-    go rest (x ∷ s) v t e =
-        gives-field m (λ a. toEnd n m >>= λ xs. give (a ∷ xs)) g
-        (λ a h. gives-field (toEnd n m) (λ xs. give (a ∷ xs)) rest (λ xs hs. gives-value (a ∷ xs) {P = All P} (h, hs))) .sure (x ∷ s) v t e
-
--- what each accepted record has, all records of a book have
-module _ {P : Record → Type 0} (each : (t : List ℕ) (r : Record) → whole kinded t ≡ some r → P r) where
-  gives-record : Gives oneRecord P
-  gives-record =
-      gives-field (number 2) _ (gives-any (number 2)) λ n _.
-      gives-field (bytes n) _ (gives-any (bytes n)) λ t _.
-      record { sure = λ s r u e. each t r (go (whole kinded t) s e) }
-    where
-      go : (o : Option Record) (s : List ℕ) {y : Record × List ℕ} → back o s ≡ some y → o ≡ some (y .0)
-      go none s {y} e = absurd (Option·none-ne-some y e)
-      go (some r) s {y} e = ap (λ (z : Record × List ℕ). some (z .0)) (Option·some-injective (r, s) y e)
-
-  pub all-records : (b : List ℕ) (at : ℕ) → All P (recordsLeft b at)
-  unfolding recordsFrom
-  all-records b at = go (recordsFrom b at) refl
-    where
-      go : (o : Option (List Record)) → recordsFrom b at ≡ o → All P (listed o)
-      go none e = tt
-      go (some rs) e = whole-gives (record { sure = λ s v t f. gives-to-end (length s) gives-record .sure s v t f }) (drop at b) rs e
+    go : (o : Option (List Record)) → recordsFrom b at ≡ o → All Bounded (listed o)
+    go none e = tt
+    go (some rs) e = whole-gives (gives-repeated oneRecord gives-record) (drop at b) rs e
 
 none-zero : (xs : List Rounding) → All RoundingBounds xs → roundingFor 0 xs ≡ plain
 unfolding roundingFor
@@ -91,7 +64,7 @@ none-zero [] h = refl
 none-zero (x ∷ xs) h = rw (ne-eqb (x .number) 0 (λ e. omega (arith, h .0 .number-low))) (none-zero xs (h .1))
 
 pub zero-plain : (b : List ℕ) (at : ℕ) → roundingFor 0 (roundings (recordsLeft b at)) ≡ plain
-zero-plain b at = none-zero (roundings (recordsLeft b at)) (list-all roundingKind Bounded (recordsLeft b at) (all-records in-bounds b at))
+zero-plain b at = none-zero (roundings (recordsLeft b at)) (list-all roundingKind Bounded (recordsLeft b at) (left-bounds b at))
 
 -- ---- which numbers are looked for
 

@@ -1,4 +1,4 @@
 pub mod CallLaws
 pub mod ReadLaws
-pub mod TextNumberLaws
 pub mod Promises
+pub mod OutcomeLaws

@@ -1,10 +1,9 @@
 -- What a caller of the price call can rely on, whatever the bytes: said of any answer and any output that its contract allows.
-use Prim.Native.Nat.{ℕ, _*_, _%_, _≤_}
+use Prim.Native.Nat.{ℕ, _*_, _≤_}
 use mathlib.Core.Path.{_≡_, refl, sym, _∙_, ap, subst}
 use mathlib.Core.Bool.{not}
 use mathlib.Core.List.{List, [], _∷_, map}
 use mathlib.Core.Option.{some, Option·some-injective}
-use native.Mathlib.Omega.{arith}
 use native.Mathlib.Nat.{mod-eq-of-lt}
 use lib.Count.{ones}
 use lib.Dec.{eqb}
@@ -16,20 +15,20 @@ use Rattle.rules.specs.BookLayout.{records}
 use Rattle.rules.specs.Question.{Question, grants, questionOf, noCurrency}
 use Rattle.rules.specs.Lines.{Line, sum, amounts, total, slotsAt, linesOf, mostLinesSize, linesBytes}
 use Rattle.rules.specs.Refusals.{Result, done, refused, numberOf, over, lentAfter}
-use Rattle.rules.specs.Price.{Answer, answerOf, written, price, shown, unusedOf, setOf, lentAfterPrice}
+use Rattle.rules.specs.Price.{Answer, answerOf, written, price, shown, setOf, lentAfterPrice}
 use Rattle.rules.specs.declared.PriceAnswer.{PriceAnswer}
 use Rattle.rules.proofs.ListLaws.{All}
 use Rattle.rules.proofs.NoPriceLaws as NoPrice
-use Rattle.rules.proofs.CallLaws.{PriceRefusal, price-answered, price-never, priced-range, answered-lines}
+use Rattle.rules.proofs.CallLaws.{PriceRefusal, price-answered, price-never, answered-lines}
 use Rattle.rules.proofs.Promises as Rules
 use Rattle.rules.proofs.UnusedLaws.{unused-count}
 use Rattle.rules.proofs.RowLaws.{RowFor}
 use Rattle.rules.proofs.BookK.{EUR, bookK, P1, P2, elmAsked, price-1, price-2, price-elm}
-use Rattle.amounts.proofs.TotalLaws.{amounts-near}
+use Rattle.lines.proofs.NearLaws.{priced-amounts}
+use Rattle.quote.proofs.FitLaws.{Bytes, text-below}
 use Rattle.price.specs.Call.{PriceIs}
 use Rattle.price.specs.Read.{WrittenLine, linesIn, amountsIn, LineOf}
 use Rattle.price.proofs.ReadLaws.{writtenLine, lines-back, amounts-back}
-use Rattle.price.proofs.TextNumberLaws.{Bytes, text-below}
 
 -- zeros beside a number
 abbrev zeros : ℕ → PriceAnswer
@@ -49,8 +48,7 @@ near : (b s : List ℕ) (room : ℕ) (a : Answer) → price b s room ≡ done a 
 unfolding answerOf
 near b s room a e =
     let x = price-answered b s room a e in
-    let y = priced-range (x .book) (x .question) (x .is-priced) in
-    subst (λ (k : Answer). All (λ z. natAbs z ≤ 2_000_000_000) (amounts (k .lines))) (x .is) (amounts-near (amounts (x .at .lines)) (y .0) (y .1))
+    subst (λ (k : Answer). All (λ z. natAbs z ≤ 2_000_000_000) (amounts (k .lines))) (x .is) (priced-amounts (x .book) (x .question) (x .is-priced))
 
 unit-sum : (b s : List ℕ) (room : ℕ) (a : Answer) → price b s room ≡ done a → sum (amounts (a .lines)) ≡ a .unit
 unfolding answerOf total

@@ -1,4 +1,4 @@
--- What a caller reads in the lent output: the lines, 14 bytes each, and whose row a line is of.
+-- What a caller reads: the lines in the lent output, 14 bytes each, whose row a line is of, and a day's outcome in the answer.
 use Prim.Native.Nat.{ℕ, zero, suc}
 use mathlib.Core.Path.{_≡_}
 use mathlib.Core.List.{List, [], _∷_, map}
@@ -8,6 +8,8 @@ use Rattle.rules.specs.Bytes.{big, signedOf}
 use Rattle.rules.specs.Book.{Record, Row}
 use Rattle.rules.specs.Question.{Question}
 use Rattle.rules.specs.Lines.{lineSize}
+use Rattle.rules.specs.Calendar.{Outcome}
+use Rattle.rules.specs.declared.PriceAnswer.{PriceAnswer}
 use Rattle.rules.proofs.RowLaws.{RowFor}
 
 pub record WrittenLine : Type 0 where
@@ -39,3 +41,6 @@ pub record LineOf (book : List Record) (q : Question) (l : WrittenLine) : Type 0
   pub stands : RowFor book q (l .place) row
   pub text : l .text ≡ row .text
   pub level : l .level ≡ row .level
+
+abbrev pub outcomeIn : PriceAnswer → Outcome
+outcomeIn a = record { refusal = a .number; currency = a .currency; unit = a .unit }

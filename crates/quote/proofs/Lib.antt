@@ -1,2 +1,3 @@
 pub mod UnusedLaws
 pub mod OutcomeLaws
+pub mod FitLaws

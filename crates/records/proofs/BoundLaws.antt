@@ -125,13 +125,13 @@ in-bounds t (PackagingRecord p) is = whole-gives gives-packaging (drop 1 t) _ (s
 in-bounds t (SchemeRecord s) is = whole-gives gives-scheme (drop 1 t) _ (sym (record-is t 5 (ap isSome is) (kind-byte t (SchemeRecord s) is)) ∙ is)
 
 -- and so are those of each record of a book
+pub gives-record : Gives oneRecord Bounded
+gives-record = gives-field (number 2) _ (gives-any (number 2)) λ n _. gives-framed kinded n in-bounds
+
 pub book-bounds : (b : List ℕ) {rs : List Record} → records b ≡ some rs → All Bounded rs
 unfolding records
 book-bounds b {rs} is = whole-gives gives-book b rs is
   where
-    gives-record : Gives oneRecord Bounded
-    gives-record = gives-field (number 2) _ (gives-any (number 2)) λ n _. gives-framed kinded n in-bounds
-
     gives-book : Gives (bookLayout (length b)) (All Bounded)
     gives-book =
         gives-field _ _ (gives-if (λ (u : Unit {0}). leb (length b) mostBytes) tt) λ u _.

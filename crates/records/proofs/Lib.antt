@@ -6,3 +6,4 @@ pub mod RoundingLaws
 pub mod PackagingLaws
 pub mod SchemeLaws
 pub mod TestLaws
+pub mod TextNumberLaws

@@ -125,7 +125,7 @@ module _ (book : List Record) (letters : All InLetters book) (q : Question) wher
   lines-in-letters : All (λ l. length (l .row .currency) ≡ 3) (linesOf book q)
   lines-in-letters = all-imply (λ l for. among-has InLetters (for .in-book) letters) (linesOf book q) (lines-for book q)
 
-  priced-currency : (p : Priced) → priced book q ≡ done p → length (p .currency) ≡ 3
+  pub priced-currency : (p : Priced) → priced book q ≡ done p → length (p .currency) ≡ 3
   unfolding priced
   priced-currency p e =
       let x = then-done (orRefuse 4 (first ofBase (linesOf book q))) _ e in

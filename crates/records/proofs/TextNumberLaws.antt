@@ -8,7 +8,7 @@ use native.Mathlib.Omega.{arith}
 use lib.Dec.{eqb, leb}
 use lib.ListN.{length, drop}
 use Rattle.rules.specs.Lists.{isSome, between, all, any}
-use Rattle.rules.specs.Layout.{Layout, _>>=_, give, giveIf, _such_, must, front, bytes, byte, whole, wholly, back, framed, toEnd, repeated}
+use Rattle.rules.specs.Layout.{Layout, _>>=_, give, giveIf, _such_, must, front, bytes, byte, whole, wholly, back, toEnd}
 use Rattle.rules.specs.Bytes.{big, number, signed, name, nameByte, oneOf, head, capitals}
 use Rattle.rules.specs.Book.{Record, ArticleRecord, PriceRecord, RoundingRecord, PackagingRecord, SchemeRecord, Row, sale, purchase, base, surcharge, discount}
 use Rattle.rules.specs.BookLayout.{kinded, priceBody, valueOf, inBounds, oneRecord, mostBytes, bookLayout, records}
