@@ -1,18 +1,18 @@
 -- What is listed: each refusal stands in its order.
 use Prim.Native.Nat.{ℕ, _-_, _<_}
 use mathlib.Core.Path.{_≡_, refl, sym, _∙_, ap}
-use mathlib.Core.Bool.{Bool, true, false, false≢true}
+use mathlib.Core.Bool.{true, false}
 use mathlib.Core.List.{List}
-use mathlib.Core.Option.{Option, some, none}
+use mathlib.Core.Option.{some}
 use native.Mathlib.Omega.{arith}
 use lib.ListN.{length, take, replicate, length-replicate}
 use lib.Seq.{length-take-le}
 use borrow.Author.Tests.{ne-eqb}
-use Rattle.rules.specs.Lists.{isSome}
 use Rattle.rules.specs.Days.{isDay}
-use Rattle.rules.specs.Book.{Article, articleOf}
-use Rattle.rules.specs.Refusals.{Result, done, refused, _>>=_, orRefuse}
+use Rattle.rules.specs.Book.{articleOf}
+use Rattle.rules.specs.Refusals.{Result, done}
 use Rattle.rules.specs.Calendar.{Stretch, stretches, outcome, periodTo}
+use Rattle.rules.proofs.ListLaws.{absent, present}
 use Rattle.rules.proofs.CalendarLaws.{period-days, period-end, period-count}
 use Rattle.layout.proofs.StoreLaws.{all-same}
 use Rattle.layout.specs.Records.{recordsLeft}
@@ -46,15 +46,6 @@ refused-is {number} h = record {
 
 -- ---- an accepted book and question
 
--- 3 where the book has no such article
-article-3 : (o : Option Article) (ss : List Stretch) {b : Bool} → b ≡ isSome o → b ≡ false → (orRefuse 3 o >>= λ _. done ss) ≡ refused 3
-article-3 none ss e f = refl
-article-3 (some a) ss e f = absurd (false≢true (sym f ∙ e))
-
-article-there : (o : Option Article) (ss : List Stretch) {b : Bool} → b ≡ isSome o → b ≡ true → (orRefuse 3 o >>= λ _. done ss) ≡ done ss
-article-there none ss e f = absurd (false≢true (sym e ∙ f))
-article-there (some a) ss e f = refl
-
 module _ (b s : List ℕ) (ask : Ask) {end : ℕ} {p : Period} (h : PeriodIs (ask .date .0) end p) where
   abbrev listed-within : Result (List Stretch)
   listed-within = within (recordsLeft b 5) (askIn s ask) end
@@ -83,7 +74,7 @@ module _ (b s : List ℕ) (ask : Ask) {end : ℕ} {p : Period} (h : PeriodIs (as
       few = w .few;
       behind = w .behind;
       empty = w .empty;
-      is = rw is-period (article-3 (articleOf (recordsLeft b 5) (askIn s ask .article)) (stretches (outcome (recordsLeft b 5) (askIn s ask)) days) (k .there) f ∙ sym (w .is));
+      is = rw (is-period, absent (articleOf (recordsLeft b 5) (askIn s ask .article)) (sym (k .there) ∙ f)) (sym (w .is));
     }
 
     pub within-done : {k : Found} → FoundIs b (askIn s ask .article) (ask .sort) k → k .article ≡ true → {r : Stretches} → Lists (stretches (outcome (recordsLeft b 5) (askIn s ask)) days) r
@@ -94,7 +85,7 @@ module _ (b s : List ℕ) (ask : Ask) {end : ℕ} {p : Period} (h : PeriodIs (as
       few = w .few;
       behind = w .behind;
       empty = λ z. absurd (z refl);
-      is = rw is-period (article-there (articleOf (recordsLeft b 5) (askIn s ask .article)) (stretches (outcome (recordsLeft b 5) (askIn s ask)) days) (k .there) f ∙ ap done (sym (w .is)));
+      is = rw (is-period, present (articleOf (recordsLeft b 5) (askIn s ask .article)) (sym (k .there) ∙ f) .1) (ap done (sym (w .is)));
     }
 
 module _ {start end : ℕ} {p : Period} (h : PeriodIs start end p) where

@@ -1,7 +1,7 @@
 -- Gathered place after place: at the place of a granted name a condition stands only if it is that name, and at any other place none does.
 use Prim.Native.Nat.{ℕ, zero, suc, _+_, _<_, _≤_}
 use mathlib.Core.Path.{_≡_, refl, sym, _∙_, ap}
-use mathlib.Core.Bool.{Bool, true, false, _&&_, not, cond, false≢true}
+use mathlib.Core.Bool.{Bool, true, false, _&&_, not, cond}
 use mathlib.Core.List.{List, [], _∷_}
 use mathlib.Core.Option.{Option, none}
 use native.Mathlib.Omega.{arith}
@@ -11,7 +11,8 @@ use borrow.Author.Tests.{eqb-true, eqb-false, eq-eqb, ne-eqb}
 use Rattle.rules.specs.Lists.{same, keep, consIf, consSome, gather}
 use Rattle.rules.specs.Question.{Grant, placed, firsts, grants}
 use Rattle.rules.proofs.ListLaws.{All, same-eq, all-keep, kept}
-use Rattle.rules.proofs.UnusedLaws.{Rising, rising-grants}
+use Rattle.rules.proofs.TestLaws.{not-so}
+use Rattle.rules.proofs.UnusedLaws.{Rising, rising-room, rising-grants}
 use Rattle.grants.specs.Table.{GrantsAre}
 use Rattle.grants.specs.Places.{placeIn, placeOf, upFrom}
 use Rattle.grants.proofs.PlaceLaws.{Sized, grants-sized}
@@ -64,12 +65,6 @@ rising-above j k n (g ∷ gs) h r =
     let l : k < g .place = r .0 in
     (omega arith, rising-above j (g .place) n gs (omega arith) (r .1))
 
-rising-room : (k n : ℕ) (gs : List Grant) → Rising k n gs → k ≤ n
-rising-room k n [] r = r
-rising-room k n (g ∷ gs) r =
-    let l : k < g .place = r .0 in
-    omega (arith, rising-room (g .place) n gs (r .1))
-
 -- whatever is looked up is at a place behind k, or nowhere
 place-above : (k n : ℕ) (gs : List Grant) (c : List ℕ) → n < 33 → Rising k n gs → k < placeIn gs c
 unfolding placeIn
@@ -101,15 +96,11 @@ at-grant k n (h ∷ hs) c l r a =
     each [] x y z = tt
     each (g ∷ gs) x y z = (one (same (h .name) c) refl, each gs (x .1) (y .1) (z .1))
       where
-        other : (b : Bool) → not b ≡ true → b ≡ false
-        other true e = absurd (false≢true e)
-        other false e = refl
-
         one : (b : Bool) → same (h .name) c ≡ b → eqb (cond b (h .place) (placeIn hs c)) (g .place) ≡ same (g .name) c
         one true e =
             let m : h .place < g .place = y .0 in
             ne-eqb (h .place) (g .place) (λ f. omega arith)
-            ∙ sym (ap (same (g .name)) (sym (same-eq (h .name) c e)) ∙ other (same (g .name) (h .name)) (x .0))
+            ∙ sym (ap (same (g .name)) (sym (same-eq (h .name) c e)) ∙ not-so (same (g .name) (h .name)) (x .0))
         one false e = z .0
 
 -- at the place of no grant stands none

@@ -11,7 +11,7 @@ use borrow.Author.Tests.{ne-eqb, eqb-true, eqb-false}
 use Rattle.rules.specs.Lists.{any, keep, consIf}
 use Rattle.rules.specs.Question.{Grant, grants}
 use Rattle.rules.specs.Price.{setOf}
-use Rattle.rules.proofs.UnusedLaws.{Rising, rising-grants}
+use Rattle.rules.proofs.UnusedLaws.{Rising, rising-room, rising-grants}
 use Rattle.grants.specs.Table.{GrantsAre}
 use Rattle.grants.specs.Places.{isFirst, FirstIs}
 use Rattle.grants.specs.Idle.{idle, Brought, IdleIs, Above, SetAfter}
@@ -37,12 +37,6 @@ after-below k {set} {after} {comes} l a =
     go false d = omega arith
 
 -- ---- grants in the order of their places
-
-rising-top : (k n : ℕ) (gs : List Grant) → Rising k n gs → k ≤ n
-rising-top k n [] r = r
-rising-top k n (g ∷ gs) r =
-    let l : k < g .place = r .0 in
-    omega (arith, rising-top (g .place) n gs (r .1))
 
 -- none is at a place before
 rising-none : (p k n : ℕ) (gs : List Grant) → p ≤ k → Rising k n gs → any (λ g. eqb (g .place) p) gs ≡ false
@@ -70,7 +64,7 @@ left-end : {names : List (List ℕ)} {places : List ℕ} {set k : ℕ} (gs : Lis
 left-end [] w h = omega (arith, w .is)
 left-end {k = k} (g ∷ gs) w h =
     let l : k < g .place = w .rising .0 in
-    absurd (omega (arith, rising-top (g .place) 32 gs (w .rising .1)))
+    absurd (omega (arith, rising-room (g .place) 32 gs (w .rising .1)))
 
 -- the grants that are left behind the next place
 abbrev pub Next : List (List ℕ) → List ℕ → ℕ → ℕ → Type 0

@@ -10,6 +10,7 @@ use Rattle.rules.specs.Lists.{same, keep, consIf}
 use Rattle.rules.specs.Bytes.{raise}
 use Rattle.rules.specs.Question.{Grant, placed, firsts, grants}
 use Rattle.rules.proofs.ListLaws.{All, all-keep, keep-keep}
+use Rattle.rules.proofs.RowLaws.{firsts-all}
 use Rattle.grants.specs.Table.{entry, nameOf, tableFrom, tableOf}
 use Rattle.grants.specs.Places.{placeIn}
 
@@ -54,10 +55,6 @@ left-all (g ∷ gs) = ap (λ (hs : List Grant). g ∷ hs) (left-all gs)
 placed-above : (p n : ℕ) (names : List (List ℕ)) → p < n → All (λ g. p < g .place) (placed n names)
 placed-above p n [] h = tt
 placed-above p n (c ∷ cs) h = (h, placed-above p (suc n) cs (omega arith))
-
-pub firsts-all : (P : Grant → Type 0) (gs : List Grant) → All P gs → All P (firsts gs)
-firsts-all P [] h = tt
-firsts-all P (g ∷ gs) h = (h .0, all-keep P _ (firsts gs) (firsts-all P gs (h .1)))
 
 left-above : (seen : List (List ℕ)) (p n : ℕ) (names : List (List ℕ)) → p < n → All (λ g. p < g .place) (left seen n names)
 left-above seen p n names h = all-keep (λ g. p < g .place) _ (firsts (placed n names)) (firsts-all (λ g. p < g .place) (placed n names) (placed-above p n names h))

@@ -18,7 +18,8 @@ use Rattle.layout.specs.Ensures.{Number}
 use Rattle.layout.proofs.NameLaws.{compare-not}
 use Rattle.grants.specs.Table.{entry, nameOf, tableFrom, tableOf, lookFrom}
 use Rattle.grants.specs.Places.{placeIn, placeOf, isFirst, PlaceIs, FirstIs}
-use Rattle.grants.proofs.NamedLaws.{fresh, named, foundIn, firsts-all, table-named, place-named}
+use Rattle.rules.proofs.RowLaws.{firsts-all}
+use Rattle.grants.proofs.NamedLaws.{fresh, named, foundIn, table-named, place-named}
 use Rattle.grants.proofs.TableLaws.{entry-long, look-entries}
 
 -- ---- the sizes of names

@@ -14,10 +14,11 @@ use Rattle.rules.specs.Question.{Question, Grant, grants, questionOf}
 use Rattle.rules.specs.Refusals.{Result, _>>=_, refused, orRefuse}
 use Rattle.rules.specs.Packaging.{orElse, packFor, used, Packed, packaging, shown}
 use Rattle.rules.specs.declared.PackagingAnswer.{PackagingAnswer}
+use Rattle.rules.proofs.ListLaws.{absent}
 use Rattle.rules.proofs.TestLaws.{and-false}
 use Rattle.layout.specs.Reads.{part}
-use Rattle.layout.specs.Records.{recordsLeft, listed, Between}
-use Rattle.book.proofs.WalkLaws.{book-records, all-left, pass-start}
+use Rattle.layout.specs.Records.{recordsLeft, Between}
+use Rattle.book.proofs.WalkLaws.{book-left, pass-start}
 use Rattle.question.specs.declared.Ask.{Ask}
 use Rattle.question.specs.Asked.{askIn, AskIs}
 use Rattle.question.specs.Parts.{namesAt}
@@ -106,11 +107,7 @@ module _ (q : Question) {table : List ℕ} (ok : GrantsAre (q .granted) table) (
 
 module _ {A B : Type 0} (n : ℕ) (o : Option A) (f : A → Result B) where
   refuses : isSome o ≡ false → (orRefuse n o >>= f) ≡ refused n
-  refuses e = go o e
-    where
-      go : (o : Option A) → isSome o ≡ false → (orRefuse n o >>= f) ≡ refused n
-      go none e = refl
-      go (some a) e = absurd (false≢true (sym e))
+  refuses e = rw (absent o e)
 
   goes-on : {a : A} → o ≡ some a → (orRefuse n o >>= f) ≡ f a
   goes-on e = rw e
@@ -147,11 +144,8 @@ module _ (b s : List ℕ) where
   call-1 e f h = h ∙ ap shown (sym (opened b s ∙ refuses 1 (records b) (withBook s) (sym e ∙ f)))
 
   module _ (ok : isSome (records b) ≡ true) where
-    left : records b ≡ some (recordsLeft b 5)
-    left = book-records b ok ∙ ap (λ (o : Option (List Record)). some (listed o)) (sym (all-left b ok))
-
     pub call-2 : {t : Bool} {r : PackagingAnswer} → t ≡ isSome (questionOf s) → t ≡ false → r ≡ shown (refused 2) → r ≡ shown (packaging b s)
-    call-2 e f h = h ∙ ap shown (sym (opened b s ∙ goes-on 1 (records b) (withBook s) left ∙ refuses 2 (questionOf s) (withQuestion (recordsLeft b 5)) (sym e ∙ f)))
+    call-2 e f h = h ∙ ap shown (sym (opened b s ∙ goes-on 1 (records b) (withBook s) (book-left b ok) ∙ refuses 2 (questionOf s) (withQuestion (recordsLeft b 5)) (sym e ∙ f)))
 
     module _ {ask : Ask} (a : AskIs s ask) {table : List ℕ} (g : GrantsAre (namesAt s (ask .granted) (ask .conditions)) table) {found : Found}
         (is : FoundIs b (part s (ask .article .at) (ask .article .at + ask .article .size)) table (ask .conditions) found) where
@@ -162,7 +156,7 @@ module _ (b s : List ℕ) where
           rw size at is
 
       asked : packaging b s ≡ withQuestion (recordsLeft b 5) (askIn s ask)
-      asked = opened b s ∙ goes-on 1 (records b) (withBook s) left ∙ goes-on 2 (questionOf s) (withQuestion (recordsLeft b 5)) (a .is)
+      asked = opened b s ∙ goes-on 1 (records b) (withBook s) (book-left b ok) ∙ goes-on 2 (questionOf s) (withQuestion (recordsLeft b 5)) (a .is)
 
       pub call-3 : {r : PackagingAnswer} → found .known ≡ false → r ≡ shown (refused 3) → r ≡ shown (packaging b s)
       call-3 e h = h ∙ ap shown (sym (asked ∙ refuses 3 (articleOf (recordsLeft b 5) (askIn s ask .article)) _ (sym (found-asked .known) ∙ e)))

@@ -1,17 +1,16 @@
 -- The price call, refusal by refusal in their order, and the answer.
 use Prim.Native.Nat.{ℕ, _*_, _≤_, _<_}
-use mathlib.Core.Path.{_≡_, refl, sym, _∙_, ap}
-use mathlib.Core.Bool.{true, false, not, false≢true}
+use mathlib.Core.Path.{_≡_, sym, _∙_, ap}
+use mathlib.Core.Bool.{true, false, not}
 use mathlib.Core.List.{List}
-use mathlib.Core.Option.{Option, some, none}
+use mathlib.Core.Option.{Option, none}
 use native.Mathlib.Omega.{arith}
 use lib.Count.{ones}
 use lib.Dec.{leb}
 use lib.IntN.{pos, _*ℤ_, natAbs}
 use lib.ListN.{length}
 use borrow.Author.Tests.{le-leb, lt-leb}
-use Rattle.rules.specs.Lists.{isSome}
-use Rattle.rules.proofs.ListLaws.{absent}
+use Rattle.rules.proofs.ListLaws.{absent, present}
 use Rattle.rules.proofs.TestLaws.{so, not-so}
 use Rattle.rules.specs.Book.{Record, Article, articleOf, rows}
 use Rattle.rules.specs.Question.{Question, lettersOf}
@@ -42,10 +41,6 @@ use Rattle.quote.specs.Quote.{Quoted, QuoteIs}
 use Rattle.quote.proofs.OutcomeLaws.{quoted-few, quoted-long, quoted-stand}
 use Rattle.quote.proofs.UnusedLaws.{idle-lines}
 use Rattle.price.specs.Call.{answerWith, PriceIs}
-
-there : {A : Type 0} (o : Option A) → isSome o ≡ true → (a : A) × (o ≡ some a)
-there none e = absurd (false≢true e)
-there (some a) e = (a, refl)
 
 -- the definition from refusal 4 on
 abbrev pub pricing : List Record → Question → ℕ → Result Answer
@@ -87,7 +82,7 @@ module _ (b s lent : List ℕ) where
       priced-call : not (w .found .article) ≡ false → price b s (length lent) ≡ pricing (recordsLeft b 5) (askIn s (w .ask)) (length lent)
       unfolding price answered
       priced-call f =
-          let x = there (articleOf (recordsLeft b 5) (askIn s (w .ask) .article)) (sym (told .found-is z .there) ∙ so (w .found .article) f) in
+          let x = present (articleOf (recordsLeft b 5) (askIn s (w .ask) .article)) (sym (told .found-is z .there) ∙ so (w .found .article) f) in
           goes-in behind told z ∙ rw (x .1)
 
 -- ---- the quote

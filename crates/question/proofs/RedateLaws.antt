@@ -15,6 +15,7 @@ use Rattle.rules.specs.Days.{isDay}
 use Rattle.rules.specs.Book.{sale, purchase}
 use Rattle.rules.specs.Question.{Question, noCurrency, askedOf, property, questionLayout, questionOf, on, dateAt, redated}
 use Rattle.rules.proofs.DayLaws.{day-most}
+use Rattle.rules.proofs.TakesLaws.{whole-end}
 use Rattle.layout.proofs.LayoutLaws.{andThen-some}
 use Rattle.layout.proofs.StoreLaws.{number-back}
 
@@ -287,19 +288,11 @@ module _ (d : ℕ) where
       (λ (q : Question) (k : ℕ). k ≡ dateAt q) (λ a b k j p q. omega arith) in
       l
 
-wholly-some : {A : Type 0} (o : Option (A × List ℕ)) (a : A) → wholly o ≡ some a → o ≡ some (a, [])
-wholly-some {A = A} none a e = absurd (Option·none-ne-some a e)
-wholly-some {A = A} (some p) a e = go (p .0) (p .1) e
-  where
-    go : (b : A) (t : List ℕ) → wholly (some (b, t)) ≡ some a → _≡_ {A = Option (A × List ℕ)} (some (b, t)) (some (a, []))
-    go b [] e = ap (λ x. some (x, [])) (Option·some-injective b a e)
-    go b (x ∷ t) e = absurd (Option·none-ne-some a e)
-
 -- The question with another day put into its date bytes is accepted, and is the same question on that day.
 pub redated-reads : (s : List ℕ) (q : Question) → questionOf s ≡ some q → (d : ℕ) → isDay d ≡ true → questionOf (redated (dateAt q) d s) ≡ some (on q d)
 unfolding questionOf redated
 redated-reads s q e d day =
-    let x = redates-question d day (length s) .dates s q [] (wholly-some (questionLayout (length s) s) q e) in
+    let x = redates-question d day (length s) .dates s q [] (whole-end (questionLayout (length s) s) q e) in
     let new : List ℕ = x .ahead ++ (bytesOf 4 d ++ x .rest) in
     let front : take (dateAt q) s ≡ x .ahead = ap (take (dateAt q)) (x .splits) ∙ take-at (x .ahead) (x .date ++ x .rest) (dateAt q) (x .place) in
     let back : drop (dateAt q + 4) s ≡ x .rest =

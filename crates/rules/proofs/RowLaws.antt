@@ -110,7 +110,7 @@ placed-all k (c ∷ cs) =
       all-imply (placed-later k c cs) (placed (suc (suc k)) cs) (placed-all (suc k) cs),
     )
 
-firsts-all : (P : Grant → Type 0) (gs : List Grant) → All P gs → All P (firsts gs)
+pub firsts-all : (P : Grant → Type 0) (gs : List Grant) → All P gs → All P (firsts gs)
 firsts-all P [] hs = tt
 firsts-all P (g ∷ gs) hs = (hs .0, all-keep P _ (firsts gs) (firsts-all P gs (hs .1)))
 

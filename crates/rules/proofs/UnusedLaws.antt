@@ -25,7 +25,7 @@ pub rising-lower : (j k n : ℕ) (gs : List Grant) → j ≤ k → Rising k n gs
 rising-lower j k n [] h r = le-trans h r
 rising-lower j k n (g ∷ gs) h r = (lt-of-le-of-lt h (r .0), r .1)
 
-rising-room : (k n : ℕ) (gs : List Grant) → Rising k n gs → k ≤ n
+pub rising-room : (k n : ℕ) (gs : List Grant) → Rising k n gs → k ≤ n
 rising-room k n [] r = r
 rising-room k n (g ∷ gs) r = le-trans (le-of-lt (r .0)) (rising-room (g .place) n gs (r .1))
 
