@@ -50,27 +50,36 @@ unfolding viewsBytes
 no-bytes zs = refl
 
 -- the lines that are left, stored behind those that are there, make up the whole
-pub record Writing (old : List ℕ) (picks : List Pick) (amounts : List Cents) (n : ℕ) (out : List ℕ) (i : ℕ) : Type 0 where
+pub record Writing (old : List ℕ) (from : ℕ) (picks : List Pick) (amounts : List Cents) (n : ℕ) (out : List ℕ) (i : ℕ) : Type 0 where
   pub place : i ≤ n
   pub long : n ≤ length picks
   pub long₂ : n ≤ length amounts
-  pub room : lineSize * n ≤ length old
+  pub room : from + lineSize * n ≤ length old
   pub same : length out ≡ length old
-  pub rest : sets out (lineSize * i) (viewsBytes (drop i (viewsIn picks n)) (drop i (amountsIn amounts n))) ≡ sets old 0 (viewsBytes (viewsIn picks n) (amountsIn amounts n))
+  pub rest : sets out (from + lineSize * i) (viewsBytes (drop i (viewsIn picks n)) (drop i (amountsIn amounts n))) ≡ sets old from (viewsBytes (viewsIn picks n) (amountsIn amounts n))
 
-module _ (old : List ℕ) (picks : List Pick) (amounts : List Cents) (n : ℕ) where
-  pub write-start : n ≤ length picks → n ≤ length amounts → Writable old amounts n → Writing old picks amounts n old 0
-  write-start k l g = record { place = omega arith; long = k; long₂ = l; room = g .room; same = refl; rest = refl }
+module _ (old : List ℕ) (from : ℕ) (picks : List Pick) (amounts : List Cents) (n : ℕ) where
+  pub write-start : n ≤ length picks → n ≤ length amounts → Writable old from amounts n → Writing old from picks amounts n old 0
+  write-start k l g =
+      let e : from + lineSize * 0 ≡ from = omega arith in
+      record {
+        place = omega arith;
+        long = k;
+        long₂ = l;
+        room = g .room;
+        same = refl;
+        rest = ap (λ (j : ℕ). sets old j (viewsBytes (viewsIn picks n) (amountsIn amounts n))) e;
+      }
 
-  module _ (out : List ℕ) (i : ℕ) (inv : Writing old picks amounts n out i) where
-    pub write-again : {new : List ℕ} → i < n → Puts out (lineSize * i) (viewBytes (viewIn (getD picks i noPick)) (getD amounts i noCents .0)) new
-        → Writing old picks amounts n new (i + 1)
+  module _ (out : List ℕ) (i : ℕ) (inv : Writing old from picks amounts n out i) where
+    pub write-again : {new : List ℕ} → i < n → Puts out (from + lineSize * i) (viewBytes (viewIn (getD picks i noPick)) (getD amounts i noCents .0)) new
+        → Writing old from picks amounts n new (i + 1)
     write-again {new} h p =
         let v : View = viewIn (getD picks i noPick) in
         let z : ℤ = getD amounts i noCents .0 in
         let vs : List View = drop (i + 1) (viewsIn picks n) in
         let zs : List ℤ = drop (i + 1) (amountsIn amounts n) in
-        let e : lineSize * (i + 1) ≡ lineSize * i + length (viewBytes v z) = omega (arith, line-length v z) in
+        let e : from + lineSize * (i + 1) ≡ from + lineSize * i + length (viewBytes v z) = omega (arith, line-length v z) in
         let f : viewsBytes (drop i (viewsIn picks n)) (drop i (amountsIn amounts n)) ≡ viewBytes v z ++ viewsBytes vs zs =
         rw (next-view picks n i h (inv .long), next-amount amounts n i h (inv .long₂)) (cons-bytes v z vs zs) in
         record {
@@ -81,16 +90,16 @@ module _ (old : List ℕ) (picks : List Pick) (amounts : List Cents) (n : ℕ) w
           same = p .long ∙ inv .same;
           rest =
               ap (λ (j : ℕ). sets new j (viewsBytes vs zs)) e
-              ∙ ap (λ s. sets s (lineSize * i + length (viewBytes v z)) (viewsBytes vs zs)) (sets-of p)
-              ∙ sets-sets (viewBytes v z) (viewsBytes vs zs) out (lineSize * i)
-              ∙ ap (sets out (lineSize * i)) (sym f)
+              ∙ ap (λ s. sets s (from + lineSize * i + length (viewBytes v z)) (viewsBytes vs zs)) (sets-of p)
+              ∙ sets-sets (viewBytes v z) (viewsBytes vs zs) out (from + lineSize * i)
+              ∙ ap (sets out (from + lineSize * i)) (sym f)
               ∙ inv .rest;
         }
 
-    pub write-end : n ≤ i → Puts old 0 (viewsBytes (viewsIn picks n) (amountsIn amounts n)) out
+    pub write-end : n ≤ i → Puts old from (viewsBytes (viewsIn picks n) (amountsIn amounts n)) out
     write-end h =
         let a : length (amountsIn amounts n) ≡ n = amounts-count amounts n (inv .long₂) in
         let b : length (viewsIn picks n) ≡ n = views-count picks n (inv .long) in
         let e : viewsBytes (drop i (viewsIn picks n)) (drop i (amountsIn amounts n)) ≡ [] = rw (views-end picks n i (inv .long) h) (no-bytes (drop i (amountsIn amounts n))) in
         puts-of (omega (arith, inv .room, lines-length (viewsIn picks n) (amountsIn amounts n) (a ∙ sym b)))
-        (sym (ap (sets out (lineSize * i)) e) ∙ inv .rest)
+        (sym (ap (sets out (from + lineSize * i)) e) ∙ inv .rest)

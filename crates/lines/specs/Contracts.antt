@@ -1,5 +1,5 @@
 -- What the functions over chosen rows ask and give.
-use Prim.Native.Nat.{ℕ, _*_, _≤_}
+use Prim.Native.Nat.{ℕ, _+_, _*_, _≤_}
 use mathlib.Core.Path.{_≡_}
 use mathlib.Core.Bool.{Bool, true, cond}
 use mathlib.Core.List.{List, map}
@@ -69,7 +69,8 @@ pub record ListedIs (picks : List Pick) (n : ℕ) (r : Listed) : Type 0 where
 
 -- ---- bytes
 
-pub record Writable (out : List ℕ) (amounts : List Cents) (n : ℕ) : Type 0 where
+-- there is room for n lines from `at` on
+pub record Writable (out : List ℕ) (at : ℕ) (amounts : List Cents) (n : ℕ) : Type 0 where
   pub few : n ≤ 99
-  pub room : lineSize * n ≤ length out
+  pub room : at + lineSize * n ≤ length out
   pub each-in : (i : ℕ) → natAbs (getD amounts i noCents .0) ≤ mostAmount

@@ -152,14 +152,14 @@ fn write_line(out: &mut [u8], at: usize, pick: Pick, amount: Cents)
     put_signed_eight(out, at + 6, amount.0);
 }
 
-// The first n lines, one behind the other, to the front of `out`.
-pub fn write_lines(out: &mut [u8], picks: [Pick; 99], amounts: [Cents; 99], n: usize)
-    requires { ⌜ Writable (now out) amounts n ⌝ }
-    ensures { λ _. ⌜ Puts (now (out .entry)) 0 (viewsBytes (viewsIn picks n) (amountsIn amounts n)) (now (out .exit)) ⌝ }
+// The first n lines, one behind the other, from `at` on.
+pub fn write_lines(out: &mut [u8], at: usize, picks: [Pick; 99], amounts: [Cents; 99], n: usize)
+    requires { ⌜ Writable (now out) at amounts n ⌝ }
+    ensures { λ _. ⌜ Puts (now (out .entry)) at (viewsBytes (viewsIn picks n) (amountsIn amounts n)) (now (out .exit)) ⌝ }
 {
     let mut i = 0;
     while i < n {
-        write_line(out, LINE_SIZE * i, picks[i], amounts[i]);
+        write_line(out, at + LINE_SIZE * i, picks[i], amounts[i]);
         i += 1;
     }
 }

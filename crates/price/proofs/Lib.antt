@@ -1,3 +1,4 @@
+pub mod AnsweredLaws
 pub mod CallLaws
 pub mod ReadLaws
 pub mod Promises

@@ -35,6 +35,6 @@ pub fn price(book: &[u8], question: &[u8], out: &mut [u8]) -> PriceAnswer
     let rows = quote.rows;
     let amounts = verdict.amounts;
     let idle = quote.unused;
-    write_lines(out, rows, amounts, n);
+    write_lines(out, 0, rows, amounts, n);
     answer(ask.quantity, n, outcome, idle)
 }

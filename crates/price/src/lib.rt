@@ -1,4 +1,4 @@
 // The itemised price of one article.
-mod answer;
+pub mod answer;
 pub mod call;
-mod quoted;
+pub mod quoted;

@@ -1,7 +1,8 @@
 -- `price::call::price` meets its contract: each way out by its law, from what the functions before it ensure.
 use native.Mathlib.Omega.{arith}
 use borrow.Author.Needs.{needs}
-use Rattle.price.proofs.CallLaws.{kept-out, ask-there, window-there, no-article, can-write, unit-in, no-price, no-room, has-answer}
+use Rattle.price.proofs.AnsweredLaws.{can-write, unit-in}
+use Rattle.price.proofs.CallLaws.{kept-out, ask-there, window-there, no-article, no-price, no-room, has-answer}
 use Rattle.price.proofs.call.price.Statement.{statement}
 use Rattle.price.proofs.call.price.Tie as tie
 
