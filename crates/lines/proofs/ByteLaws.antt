@@ -10,7 +10,7 @@ use lib.Seq.{sets}
 use Rattle.rules.specs.Lines.{lineSize}
 use Rattle.rules.specs.Bytes.{bytesOf, signedBytesOf}
 use Rattle.rules.specs.declared.Cents.{Cents}
-use Rattle.layout.specs.Ensures.{Puts}
+use Rattle.layout.specs.Ensures.{Puts, PutsTo}
 use Rattle.layout.proofs.StoreLaws.{puts-of, puts-then, sets-of, sets-sets}
 use Rattle.lines.specs.declared.Pick.{Pick}
 use Rattle.lines.specs.Views.{View, viewIn, viewsIn, noPick, amountsIn, noCents, viewBytes, viewsBytes}
@@ -96,10 +96,13 @@ module _ (old : List ℕ) (from : ℕ) (picks : List Pick) (amounts : List Cents
               ∙ inv .rest;
         }
 
-    pub write-end : n ≤ i → Puts old from (viewsBytes (viewsIn picks n) (amountsIn amounts n)) out
+    pub write-end : n ≤ i → PutsTo old from (viewsBytes (viewsIn picks n) (amountsIn amounts n)) out (from + lineSize * n)
     write-end h =
         let a : length (amountsIn amounts n) ≡ n = amounts-count amounts n (inv .long₂) in
         let b : length (viewsIn picks n) ≡ n = views-count picks n (inv .long) in
         let e : viewsBytes (drop i (viewsIn picks n)) (drop i (amountsIn amounts n)) ≡ [] = rw (views-end picks n i (inv .long) h) (no-bytes (drop i (amountsIn amounts n))) in
-        puts-of (omega (arith, inv .room, lines-length (viewsIn picks n) (amountsIn amounts n) (a ∙ sym b)))
-        (sym (ap (sets out (from + lineSize * i)) e) ∙ inv .rest)
+        let all : length (viewsBytes (viewsIn picks n) (amountsIn amounts n)) ≡ lineSize * length (viewsIn picks n) = lines-length (viewsIn picks n) (amountsIn amounts n) (a ∙ sym b) in
+        record {
+          puts = puts-of (omega (arith, inv .room, all)) (sym (ap (sets out (from + lineSize * i)) e) ∙ inv .rest);
+          ends = omega (arith, all);
+        }

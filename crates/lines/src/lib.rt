@@ -15,7 +15,7 @@ ghost use mathlib.Core.List.{[], _∷_};
 ghost use lib.ListN.{length};
 ghost use Rattle.rules.specs.Question.{lettersOf};
 ghost use Rattle.rules.specs.Lines.{lineSize};
-ghost use Rattle.layout.specs.Ensures.{Says, Puts};
+ghost use Rattle.layout.specs.Ensures.{Says, Puts, PutsTo};
 ghost use Rattle.lines.specs.Views.{viewIn, viewsIn, fits, oneCurrency, amountsIn, viewBytes, viewsBytes};
 ghost use Rattle.lines.specs.Contracts.{FirstBase, OneOfTwo, LineOn, LineAmount, Listable, ListedIs, Writable};
 
@@ -152,14 +152,21 @@ fn write_line(out: &mut [u8], at: usize, pick: Pick, amount: Cents)
     put_signed_eight(out, at + 6, amount.0);
 }
 
-// The first n lines, one behind the other, from `at` on.
-pub fn write_lines(out: &mut [u8], at: usize, picks: [Pick; 99], amounts: [Cents; 99], n: usize)
+// The first n lines, one behind the other, from `at` on, and where they end.
+pub fn write_lines(
+    out: &mut [u8],
+    at: usize,
+    picks: [Pick; 99],
+    amounts: [Cents; 99],
+    n: usize,
+) -> usize
     requires { ⌜ Writable (now out) at amounts n ⌝ }
-    ensures { λ _. ⌜ Puts (now (out .entry)) at (viewsBytes (viewsIn picks n) (amountsIn amounts n)) (now (out .exit)) ⌝ }
+    ensures { λ r. ⌜ PutsTo (now (out .entry)) at (viewsBytes (viewsIn picks n) (amountsIn amounts n)) (now (out .exit)) r ⌝ }
 {
     let mut i = 0;
     while i < n {
         write_line(out, at + LINE_SIZE * i, picks[i], amounts[i]);
         i += 1;
     }
+    at + LINE_SIZE * n
 }

@@ -12,7 +12,7 @@ use Rattle.rules.specs.Lines.{linesOf, lineSize, linesBytes}
 use Rattle.rules.specs.Refusals.{Result, done, refused, _>>=_, over, lentAfter}
 use Rattle.rules.specs.Price.{Answer, answerOf, written, answered, inRoom, price, shown}
 use Rattle.rules.specs.declared.PriceAnswer.{PriceAnswer}
-use Rattle.layout.specs.Ensures.{Puts}
+use Rattle.layout.specs.Ensures.{PutsTo}
 use Rattle.layout.proofs.StoreLaws.{puts-front}
 use Rattle.layout.specs.Records.{recordsLeft}
 use Rattle.question.specs.declared.Ask.{Ask}
@@ -95,7 +95,7 @@ module _ (b s lent : List ℕ) {w : Entered} (told : EnteredIs b s w) (t : w .nu
 
     -- with room, the lines go to the front, and what is read is the definition's
     pub has-answer : lineSize * k .n ≤ length lent
-        → {after : List ℕ} → Puts lent 0 (viewsBytes (viewsIn (k .rows) (k .n)) (amountsIn (k .verdict .amounts) (k .n))) after
+        → {after : List ℕ} {end : ℕ} → PutsTo lent 0 (viewsBytes (viewsIn (k .rows) (k .n)) (amountsIn (k .verdict .amounts) (k .n))) after end
         → {r : PriceAnswer} → r ≡ answerWith (w .ask .quantity) (k .n) (k .verdict .outcome) (k .unused .0) → PriceIs b s lent r after
     unfolding answerOf lentAfter
     has-answer h {after} put {r} e =
@@ -106,7 +106,7 @@ module _ (b s lent : List ℕ) {w : Entered} (told : EnteredIs b s w) (t : w .nu
         record {
           answer = e ∙ priced-shown (told .found-is t) f quoted z ∙ ap shown (told-so ∙ sym is-done);
           output =
-              puts-front put
+              puts-front (put .puts)
               ∙ ap (λ (new : List ℕ). over new lent) (priced-lines (told .found-is t) f quoted z)
               ∙ ap (λ (a : Result Answer). lentAfter written a lent) (sym is-done);
         }

@@ -1,4 +1,5 @@
 pub mod AnsweredLaws
+pub mod ReadyLaws
 pub mod CallLaws
 pub mod ReadLaws
 pub mod Promises

@@ -1,2 +1,3 @@
 pub mod Call
+pub mod Answered
 pub mod Read

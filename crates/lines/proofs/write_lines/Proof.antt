@@ -38,5 +38,7 @@ write-lines-spec =
     (λ c. search needs)  -- add-i
     (λ c. search needs)  -- loop-less
     loop-again
+    (λ c. search needs)  -- mul-result
+    (λ c. search needs)  -- add-result
     (λ c. search needs)  -- same-length
     (λ c. search laws))  -- returns

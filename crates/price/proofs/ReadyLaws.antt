@@ -1,0 +1,87 @@
+-- What is answered to the question in some bytes, from what was found for it: what is read of that, and its lines.
+use Prim.Native.Nat.{ℕ}
+use mathlib.Core.Path.{_≡_, refl, sym, _∙_, ap}
+use mathlib.Core.Bool.{true, false, not}
+use mathlib.Core.List.{List, []}
+use native.Mathlib.Omega.{arith}
+use lib.ListN.{length}
+use Rattle.rules.specs.Lines.{linesOf, linesBytes}
+use Rattle.rules.specs.Refusals.{refused}
+use Rattle.rules.specs.Price.{answerOf, answered, shown}
+use Rattle.rules.specs.Basket.{linesIn}
+use Rattle.rules.specs.declared.PriceAnswer.{PriceAnswer}
+use Rattle.layout.specs.Ensures.{PutsTo}
+use Rattle.layout.specs.Records.{recordsLeft}
+use Rattle.layout.proofs.StoreLaws.{puts-of}
+use Rattle.question.specs.declared.Ask.{Ask}
+use Rattle.question.specs.Asked.{askIn, AskIs}
+use Rattle.survey.specs.declared.Found.{Found}
+use Rattle.survey.specs.Window.{Windows}
+use Rattle.survey.specs.Survey.{FoundIs}
+use Rattle.lines.specs.Views.{viewsIn, viewsBytes, amountsIn}
+use Rattle.lines.specs.Contracts.{Writable}
+use Rattle.quote.specs.declared.Quote.{Quote}
+use Rattle.quote.specs.Quote.{Quoted}
+use Rattle.price.specs.Call.{answerWith}
+use Rattle.price.specs.Answered.{Ready, HasRoom, answeredTo, linesTo}
+use Rattle.price.proofs.AnsweredLaws.{unknown-article, can-write, size, unpriced, is-priced, priced-shown, priced-lines}
+
+module _ {b s : List ℕ} {f : Found} (ready : Ready b s f) {ask : Ask} (is : AskIs s ask) where
+  found-for : FoundIs b (askIn s ask .article) (ask .sort) f
+  found-for = ready .has (askIn s ask) (is .is)
+
+  pub ready-window : Windows b 5 (askIn s ask .article) (ask .sort) (f .window)
+  ready-window = found-for .window
+
+  as-asked : answeredTo (recordsLeft b 5) s ≡ answered (recordsLeft b 5) (askIn s ask)
+  unfolding answeredTo
+  as-asked = rw (is .is)
+
+  -- ---- what is read
+
+  refused-so : {k : ℕ} → answered (recordsLeft b 5) (askIn s ask) ≡ refused k → {r : PriceAnswer} → r ≡ shown (refused k) → r ≡ shown (answeredTo (recordsLeft b 5) s)
+  refused-so e h = h ∙ ap shown (sym (as-asked ∙ e))
+
+  pub ready-3 : not (f .article) ≡ true → {r : PriceAnswer} → r ≡ shown (refused 3) → r ≡ shown (answeredTo (recordsLeft b 5) s)
+  ready-3 n = refused-so (unknown-article (askIn s ask) found-for n)
+
+  module _ (n : not (f .article) ≡ false) {k : Quote} (quoted : Quoted b (askIn s ask) k) where
+    pub ready-no : (k .verdict .outcome .refusal ≡ 0 → ⊥) → {r : PriceAnswer} → r ≡ shown (refused (k .verdict .outcome .refusal))
+        → r ≡ shown (answeredTo (recordsLeft b 5) s)
+    ready-no z = refused-so (unpriced found-for n quoted z)
+
+    pub ready-answer : k .verdict .outcome .refusal ≡ 0 → {r : PriceAnswer} → r ≡ answerWith (ask .quantity) (k .n) (k .verdict .outcome) (k .unused .0)
+        → r ≡ shown (answeredTo (recordsLeft b 5) s)
+    ready-answer z h = h ∙ priced-shown found-for n quoted z ∙ ap shown (sym as-asked)
+
+  -- ---- its lines
+
+  module _ {out : List ℕ} {at : ℕ} (room : HasRoom out at (linesTo (recordsLeft b 5) s)) where
+    -- a refused question has none
+    none-put : {k : ℕ} → answered (recordsLeft b 5) (askIn s ask) ≡ refused k → PutsTo out at (linesTo (recordsLeft b 5) s) out at
+    none-put e =
+        let none : [] ≡ linesTo (recordsLeft b 5) s = ap linesIn (sym (as-asked ∙ e)) in
+        let nowhere : PutsTo out at [] out at = record { puts = puts-of (omega (arith, room .fits)) refl; ends = omega arith } in
+        subst-lines none nowhere
+      where
+        subst-lines : {x y : List ℕ} → x ≡ y → PutsTo out at x out at → PutsTo out at y out at
+        subst-lines e p = rw (sym e) p
+
+    pub no-lines-3 : not (f .article) ≡ true → PutsTo out at (linesTo (recordsLeft b 5) s) out at
+    no-lines-3 n = none-put (unknown-article (askIn s ask) found-for n)
+
+    module _ (n : not (f .article) ≡ false) {k : Quote} (quoted : Quoted b (askIn s ask) k) where
+      pub no-lines : (k .verdict .outcome .refusal ≡ 0 → ⊥) → PutsTo out at (linesTo (recordsLeft b 5) s) out at
+      no-lines z = none-put (unpriced found-for n quoted z)
+
+      module _ (z : k .verdict .outcome .refusal ≡ 0) where
+        lines-are : linesTo (recordsLeft b 5) s ≡ linesBytes (linesOf (recordsLeft b 5) (askIn s ask))
+        unfolding answerOf
+        lines-are = ap linesIn (as-asked ∙ is-priced found-for n quoted z)
+
+        pub lines-writable : Writable out at (k .verdict .amounts) (k .n)
+        lines-writable = can-write quoted (omega (arith, room .fits, ap length lines-are, size quoted))
+
+        pub lines-put : {new : List ℕ} {r : ℕ} → PutsTo out at (viewsBytes (viewsIn (k .rows) (k .n)) (amountsIn (k .verdict .amounts) (k .n))) new r
+            → PutsTo out at (linesTo (recordsLeft b 5) s) new r
+        lines-put p = rw (lines-are ∙ sym (priced-lines found-for n quoted z)) p
