@@ -1,4 +1,5 @@
 pub mod LayoutLaws
+pub mod PartLaws
 pub mod SequenceLaws
 pub mod NumberLaws
 pub mod StoreLaws
