@@ -1,13 +1,12 @@
 -- A record at a place of a book, the header, and the records one behind the other: what `book_ok` goes by.
 use Prim.Native.Nat.{ℕ, suc, _+_, _-_, _≤_, _<_}
 use mathlib.Core.Path.{_≡_, refl, sym, _∙_, ap, subst}
-use mathlib.Core.Bool.{Bool, true, false, _&&_, _||_, and-false, false≢true}
+use mathlib.Core.Bool.{Bool, true, false, _&&_, false≢true}
 use mathlib.Core.List.{List, [], _∷_}
 use mathlib.Core.Option.{Option, some, none}
 use native.Mathlib.Omega.{arith}
-use native.Mathlib.Decide.{decLt}
-use lib.Dec.{eqb, leb, ltb}
-use lib.ListN.{length, take, drop, getD, drop-of-length-le, List·getD-eq-default}
+use lib.Dec.{leb, ltb}
+use lib.ListN.{length, take, drop, getD, drop-of-length-le}
 use lib.Seq.{drop-cons}
 use borrow.Author.Tests.{lt-ltb, le-ltb}
 use Rattle.rules.specs.Lists.{isSome}
@@ -15,13 +14,14 @@ use Rattle.rules.specs.Layout.{andThen, give, whole, wholly, back, repeated}
 use Rattle.rules.specs.Bytes.{number, big}
 use Rattle.rules.specs.Book.{Record}
 use Rattle.rules.specs.BookLayout.{kinded, oneRecord, mostBytes, records}
+use Rattle.rules.proofs.TestLaws.{and-right}
 use Rattle.layout.specs.Reads.{when}
-use Rattle.layout.specs.Ensures.{Accepts, Number, Says}
-use Rattle.layout.proofs.LayoutLaws.{andThen-some, then-rest, then-broken, then-when, if-reads, bytes-cut, number-at, number-cut, sized-number}
-use Rattle.layout.proofs.FromLaws.{head-reads, head-cut}
+use Rattle.layout.specs.Ensures.{Accepts, Number, Says, headOk, bookHeadOk}
+use Rattle.layout.proofs.LayoutLaws.{andThen-some, then-rest, then-broken, then-when, bytes-cut, number-at, number-cut, sized-number}
+use Rattle.layout.proofs.FromLaws.{head-long, behind-head}
 use Rattle.layout.proofs.SequenceLaws.{repeated-step, repeated-broken, framed-at, framed-left}
 use Rattle.layout.specs.Records.{recordIn, recordsFrom}
-use Rattle.book.specs.Ensures.{RecordEnd, Decides, headerOk}
+use Rattle.book.specs.Ensures.{RecordEnd, Decides}
 
 -- ---- a record at a place
 
@@ -71,48 +71,19 @@ module _ (b : List ℕ) (at : ℕ) where
       unfolding recordIn
       record-bad e = no-record (one ∙ none-back (recordIn b at (at + 2 + n)) (drop (at + 2 + n) b) (p .is ∙ e))
 
--- ---- the header
+-- ---- the head
 module _ (b : List ℕ) where
-  -- in fewer bytes no version is read
-  pub header-short : length b < 5 → Says (headerOk b) false
-  header-short h = record { is = rw (List·getD-eq-default b 0 {n = 4} (omega arith)) (and-false (leb (length b) mostBytes && eqb (length b) (big (take 4 b)))) }
-
-  pub header-is : {n : ℕ} → Number (big (take 4 (drop 0 b))) 4294967296 n → Says (headerOk b) (leb (length b) 4_194_304 && eqb (length b) n && eqb (getD b 4 0) 1)
-  header-is p = record { is = rw (p .is) }
-
-  -- a book is a header and the records behind it
-  pub records-are : records b ≡ when (headerOk b) (recordsFrom b 5)
+  -- a book is a head and the records behind it
+  pub records-are : records b ≡ when (bookHeadOk b) (recordsFrom b 5)
   unfolding records recordsFrom
-  records-are = go (decLt (length b) 5)
-    where
-      joined : (t u v : Bool) (o : Option (List Record × List ℕ)) → wholly (when t (when (u && (v || false)) o)) ≡ when (t && u && v) (wholly o)
-      joined true true true o = refl
-      joined true true false o = refl
-      joined true false v o = refl
-      joined false u v o = refl
+  records-are = behind-head b (repeated oneRecord)
 
-      when-none : (t : Bool) → wholly (when {A = List Record × List ℕ} t none) ≡ none
-      when-none true = refl
-      when-none false = refl
-
-      go : Dec (length b < 5) → records b ≡ when (headerOk b) (recordsFrom b 5)
-      go (yes h) =
-          ap wholly (then-when _ _ (if-reads {s = b} {at = 0} (leb (length b) mostBytes) tt) (then-broken _ _ (head-cut (length b) b h) refl))
-          ∙ (when-none (leb (length b) mostBytes) ∙ ap (λ t. when t (recordsFrom b 5)) (sym (header-short h .is)))
-      go (no h) =
-          ap wholly (then-when _ _ (if-reads {s = b} {at = 0} (leb (length b) mostBytes) tt) (then-when _ _ (head-reads (length b) b (omega arith)) refl))
-          ∙ joined (leb (length b) mostBytes) (eqb (length b) (big (take 4 b))) (eqb (getD b 4 0) 1) (repeated oneRecord (drop 5 b))
-
-  module _ {r : Bool} (p : Says (headerOk b) r) where
+  module _ {r : Bool} (p : Says (bookHeadOk b) r) where
     pub book-not : r ≡ false → false ≡ isSome (records b)
     book-not e = rw (records-are, p .is, e)
 
     pub book-start : r ≡ true → Decides b 5
-    book-start e = record { fits = go (decLt (length b) 5); rest = rw (records-are, p .is, e) }
-      where
-        go : Dec (length b < 5) → 5 ≤ length b
-        go (yes h) = absurd (false≢true (sym (header-short h .is) ∙ (p .is ∙ e)))
-        go (no h) = omega arith
+    book-start e = record { fits = head-long b (and-right (leb (length b) mostBytes) (headOk b) (p .is ∙ e)); rest = rw (records-are, p .is, e) }
 
 -- ---- one record behind the other
 

@@ -7,8 +7,8 @@ use mathlib.Core.Option.{Option, some, none}
 use mathlib.Core.Logic.{_⊎_, inl, inr}
 use native.Mathlib.Omega.{arith}
 use native.Mathlib.Decide.{decLt}
-use lib.Dec.{eqb, leb}
-use lib.ListN.{length, take, drop, getD}
+use lib.Dec.{leb}
+use lib.ListN.{length, take, drop}
 use borrow.Author.Tests.{leb-true, lt-ltb}
 use Rattle.rules.specs.Lists.{isSome, consSome}
 use Rattle.rules.specs.Layout.{whole}
@@ -17,10 +17,11 @@ use Rattle.rules.specs.Book.{Record}
 use Rattle.rules.specs.BookLayout.{kinded, records, mostBytes}
 use Rattle.rules.proofs.TestLaws.{and-left, and-right}
 use Rattle.layout.specs.Reads.{when, part}
-use Rattle.layout.specs.Ensures.{Number}
+use Rattle.layout.specs.Ensures.{Number, headOk, bookHeadOk}
+use Rattle.layout.proofs.FromLaws.{head-long}
 use Rattle.layout.specs.Records.{recordIn, recordsFrom, recordStop, listed, recordsOf, recordsLeft, RecordHere, StopIs, Between}
-use Rattle.book.specs.Ensures.{RecordEnd, headerOk}
-use Rattle.book.proofs.BookLaws.{record-short, record-cut, record-good, record-bad, nothing-in, inFront, front-some, from-end, from-record, header-short, records-are}
+use Rattle.book.specs.Ensures.{RecordEnd}
+use Rattle.book.proofs.BookLaws.{record-short, record-cut, record-good, record-bad, nothing-in, inFront, front-some, from-end, from-record, records-are}
 
 -- ---- a record's end
 
@@ -78,8 +79,8 @@ module _ (b : List ℕ) (ok : isSome (records b) ≡ true) where
       go none e = absurd (false≢true e)
       go (some rs) e = refl
 
-  accepted-header : headerOk b ≡ true
-  accepted-header = go (headerOk b) (sym (ap isSome (records-are b)) ∙ ok)
+  accepted-head : bookHeadOk b ≡ true
+  accepted-head = go (bookHeadOk b) (sym (ap isSome (records-are b)) ∙ ok)
     where
       go : (t : Bool) → isSome (when t (recordsFrom b 5)) ≡ true → t ≡ true
       go true e = refl
@@ -87,21 +88,21 @@ module _ (b : List ℕ) (ok : isSome (records b) ≡ true) where
 
   -- so a count of its bytes or records is small
   pub book-size : length b ≤ mostBytes
-  book-size = leb-true (length b) mostBytes (and-left (leb (length b) mostBytes) (eqb (length b) (big (take 4 b))) (and-left (leb (length b) mostBytes && eqb (length b) (big (take 4 b))) (eqb (getD b 4 0) 1) accepted-header))
+  book-size = leb-true (length b) mostBytes (and-left (leb (length b) mostBytes) (headOk b) accepted-head)
 
   pub all-left : recordsFrom b 5 ≡ records b
-  all-left = sym (records-are b ∙ ap (λ t. when t (recordsFrom b 5)) accepted-header)
+  all-left = sym (records-are b ∙ ap (λ t. when t (recordsFrom b 5)) accepted-head)
 
   -- an accepted book is the list of its records
   pub book-left : records b ≡ some (recordsLeft b 5)
   book-left = book-records ∙ ap (λ o. some (listed o)) (sym all-left)
 
   pub pass-start : Between b 5
-  pass-start = record { low = omega arith; fits = go (decLt (length b) 5); ok = ap isSome all-left ∙ ok }
-    where
-      go : Dec (length b < 5) → 5 ≤ length b
-      go (yes l) = absurd (false≢true (sym (header-short b l .is) ∙ accepted-header))
-      go (no l) = omega arith
+  pass-start = record {
+    low = omega arith;
+    fits = head-long b (and-right (leb (length b) mostBytes) (headOk b) accepted-head);
+    ok = ap isSome all-left ∙ ok;
+  }
 
 -- ---- a step: the first of the records left stands here, and the others from its end on
 

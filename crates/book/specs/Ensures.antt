@@ -2,20 +2,14 @@
 use Prim.Native.Nat.{ℕ, _+_, _≤_, _<_}
 use mathlib.Core.Path.{_≡_}
 use mathlib.Core.List.{List}
-use mathlib.Core.Bool.{Bool, _&&_}
-use lib.Dec.{eqb, leb, ltb}
-use lib.ListN.{length, take, drop, getD}
+use lib.Dec.{ltb}
+use lib.ListN.{length, drop}
 use Rattle.rules.specs.Lists.{isSome}
 use Rattle.rules.specs.Layout.{back}
-use Rattle.rules.specs.Bytes.{big}
-use Rattle.rules.specs.BookLayout.{oneRecord, records, mostBytes}
+use Rattle.rules.specs.BookLayout.{oneRecord, records}
 use Rattle.layout.specs.Records.{recordIn, recordsFrom, recordStop}
 
 -- ---- the header
-
--- the length of the whole, the most that it may be, the version
-abbrev pub headerOk : List ℕ → Bool
-headerOk b = leb (length b) mostBytes && eqb (length b) (big (take 4 b)) && eqb (getD b 4 0) 1
 
 -- ---- a record
 

@@ -1,25 +1,14 @@
-// Which bytes are a price book: a header, and records one behind the other; and where each record of an accepted one ends.
+// Which bytes are a price book: a head, and records one behind the other; and where each record of an accepted one ends.
 use kinds::record_ok;
-use layout::numbers::four_at;
+use layout::heads::book_head_ok;
 use layout::numbers::two_at;
 ghost use mathlib.Core.Path.{_≡_};
 ghost use Prim.Native.Nat.{_≤_};
 ghost use lib.ListN.{length};
 ghost use Rattle.rules.specs.Lists.{isSome};
 ghost use Rattle.rules.specs.BookLayout.{records};
-ghost use Rattle.layout.specs.Ensures.{Says};
 ghost use Rattle.layout.specs.Records.{RecordHere, StopIs};
-ghost use Rattle.book.specs.Ensures.{RecordEnd, headerOk};
-
-pub fn header_ok(b: &[u8]) -> bool
-    ensures { λ r. ⌜ Says (headerOk (now (b .entry))) r ⌝ }
-{
-    let n = b.len();
-    if n < 5 {
-        return false;
-    }
-    (n <= 4_194_304) & (n == four_at(b, 0)) & (b[4] == 1)
-}
+ghost use Rattle.book.specs.Ensures.{RecordEnd};
 
 // The end of the record at `at`, or 0.
 pub fn record_end(b: &[u8], at: usize) -> usize
@@ -42,7 +31,7 @@ pub fn record_end(b: &[u8], at: usize) -> usize
 pub fn book_ok(b: &[u8]) -> bool
     ensures { λ r. ⌜ r ≡ isSome (records (now (b .entry))) ⌝ }
 {
-    if header_ok(b) {
+    if book_head_ok(b) {
         let mut at = 5;
         while at < b.len() {
             let end = record_end(b, at);

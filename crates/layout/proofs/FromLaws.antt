@@ -1,33 +1,70 @@
 -- The head of a layout at the front of the bytes, and values of one layout from a place to the end: for every layout that has such.
 use Prim.Native.Nat.{ℕ, suc, _≤_, _<_}
-use mathlib.Core.Path.{_≡_, refl, _∙_, ap, subst}
-use mathlib.Core.Bool.{true, false, _&&_, and-false}
+use mathlib.Core.Path.{_≡_, refl, sym, _∙_, ap, subst}
+use mathlib.Core.Bool.{Bool, true, false, _&&_, and-false, or-false, false≢true}
 use mathlib.Core.List.{List, [], _∷_}
 use mathlib.Core.Option.{Option, some, none}
 use native.Mathlib.Omega.{arith}
 use native.Mathlib.Decide.{decLt}
-use lib.Dec.{eqb}
-use lib.ListN.{length, take, drop, getD, drop-of-length-le}
+use lib.Dec.{eqb, leb}
+use lib.ListN.{length, take, drop, getD, drop-of-length-le, List·getD-eq-default}
 use lib.Seq.{drop-cons}
-use Rattle.rules.specs.Lists.{any}
-use Rattle.rules.specs.Layout.{Layout, andThen, give, repeated, whole, wholly}
+use Rattle.rules.specs.Layout.{Layout, andThen, _>>=_, give, must, repeated, whole, wholly}
 use Rattle.rules.specs.Bytes.{number, head, big}
-use Rattle.layout.specs.Reads.{Reads}
-use Rattle.layout.proofs.LayoutLaws.{then-reads, then-broken, such-reads, reads-as, number-at, number-cut, one-of-at, one-of-cut}
+use Rattle.rules.specs.BookLayout.{mostBytes}
+use Rattle.layout.specs.Reads.{only, when, Reads}
+use Rattle.layout.specs.Ensures.{Says, Number, headOk, bookHeadOk}
+use Rattle.layout.proofs.LayoutLaws.{then-reads, then-broken, then-when, if-reads, such-reads, reads-as, number-at, number-cut, one-of-at, one-of-cut}
 use Rattle.layout.proofs.SequenceLaws.{repeated-step, repeated-broken}
 
 -- ---- the head
 
-module _ (lent : ℕ) (s : List ℕ) where
-  pub head-reads : 5 ≤ length s → Reads (head lent) s 0 (eqb lent (big (take 4 s)) && any (eqb (getD s 4 0)) (1 ∷ [])) (getD s 4 0) 5
-  head-reads h = then-reads _ _ (such-reads (number 4) (eqb lent) (number-at s 0 4 (omega arith))) (one-of-at s 4 (1 ∷ []) (omega arith))
+module _ (s : List ℕ) where
+  -- in fewer bytes no version is read
+  pub head-short : length s < 5 → headOk s ≡ false
+  head-short h = rw (List·getD-eq-default s 0 {n = 4} (omega arith)) (and-false (eqb (length s) (big (take 4 s))))
 
-  pub head-cut : length s < 5 → Reads (head lent) s 0 false 0 0
-  head-cut h = go (decLt (length s) 4)
+  pub no-head : length s < 5 → Says (headOk s) false
+  no-head h = record { is = head-short h }
+
+  pub head-is : {n top : ℕ} → Number (big (take 4 (drop 0 s))) top n → Says (headOk s) (eqb (length s) n && eqb (getD s 4 0) 1)
+  head-is p = record { is = rw (p .is) }
+
+  pub book-head-is : {r : Bool} → Says (headOk s) r → Says (bookHeadOk s) (leb (length s) 4_194_304 && r)
+  book-head-is p = record { is = rw (p .is) }
+
+  pub head-long : headOk s ≡ true → 5 ≤ length s
+  head-long e = go (decLt (length s) 5)
     where
-      go : Dec (length s < 4) → Reads (head lent) s 0 false 0 0
-      go (yes k) = record { is = then-broken _ _ (such-reads (number 4) (eqb lent) (number-cut s 0 4 (omega arith) (omega arith))) refl }
-      go (no k) = reads-as (then-reads _ _ (such-reads (number 4) (eqb lent) (number-at s 0 4 (omega arith))) (one-of-cut s 4 (1 ∷ []) (omega arith))) (and-false (eqb lent (big (take 4 s)))) refl
+      go : Dec (length s < 5) → 5 ≤ length s
+      go (yes h) = absurd (false≢true (sym (head-short h) ∙ e))
+      go (no h) = omega arith
+
+  pub head-reads : Reads (head (length s)) s 0 (headOk s) (getD s 4 0) 5
+  head-reads = go (decLt (length s) 5)
+    where
+      cut : length s < 5 → Dec (length s < 4) → head (length s) (drop 0 s) ≡ none
+      cut h (yes k) = then-broken _ _ (such-reads (number 4) (eqb (length s)) (number-cut s 0 4 (omega arith) (omega arith))) refl
+      cut h (no k) =
+          reads-as (then-reads _ _ (such-reads (number 4) (eqb (length s)) (number-at s 0 4 (omega arith))) (one-of-cut s 4 (1 ∷ []) (omega arith)))
+          (and-false (eqb (length s) (big (take 4 s)))) refl .is
+
+      go : Dec (length s < 5) → Reads (head (length s)) s 0 (headOk s) (getD s 4 0) 5
+      go (yes h) = record { is = cut h (decLt (length s) 4) ∙ sym (ap (λ t. only t (getD s 4 0, drop 5 s)) (head-short h)) }
+      go (no h) =
+          reads-as (then-reads _ _ (such-reads (number 4) (eqb (length s)) (number-at s 0 4 (omega arith))) (one-of-at s 4 (1 ∷ []) (omega arith)))
+          (ap (λ b. eqb (length s) (big (take 4 s)) && b) (or-false (eqb (getD s 4 0) 1))) refl
+
+  -- a book, or a text book, is a head and what is behind it
+  pub behind-head : {A : Type 0} (m : Layout A) → whole (must (leb (length s) mostBytes) >>= λ _. head (length s) >>= λ _. m) s ≡ when (bookHeadOk s) (whole m (drop 5 s))
+  behind-head {A} m =
+      ap wholly (then-when _ _ (if-reads {s = s} {at = 0} (leb (length s) mostBytes) tt) (then-when _ _ head-reads refl))
+      ∙ joined (leb (length s) mostBytes) (headOk s) (m (drop 5 s))
+    where
+      joined : (t u : Bool) (o : Option (A × List ℕ)) → wholly (when t (when u o)) ≡ when (t && u) (wholly o)
+      joined true true o = refl
+      joined true false o = refl
+      joined false u o = refl
 
 -- ---- values to the end
 

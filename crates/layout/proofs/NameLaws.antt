@@ -13,24 +13,12 @@ use lib.ListN.{length, take, drop, getD, set, drop-of-length-le, length-map, Lis
 use lib.Seq.{drop-cons}
 use borrow.Author.Tests.{leb-true, lt-ltb, le-ltb, ne-eqb}
 use Rattle.rules.specs.Lists.{all, between, isSome, same}
-use Rattle.rules.specs.Layout.{Layout, _>>=_, _such_, bytes, byte, whole, wholly}
+use Rattle.rules.specs.Layout.{Layout, _>>=_, _such_, byte, whole, wholly}
 use Rattle.rules.specs.Bytes.{name, nameByte, raise}
 use Rattle.layout.specs.Reads.{Reads, part}
 use Rattle.layout.specs.Ensures.{Says, Accepts, Number, NameEnd, Puts}
 use Rattle.layout.proofs.LayoutLaws.{then-reads, then-rest, such-reads, then-when, then-broken, byte-at, bytes-at, byte-cut, bytes-cut}
 use Rattle.layout.proofs.StoreLaws.{Storing, store-again, store-end}
-
--- ---- the scan: the flag and what is left are the whole answer
-module _ (s : List ℕ) where
-  pub scan-start : (true && all nameByte (drop 0 s)) ≡ all nameByte s
-  scan-start = refl
-
-  module _ (i : ℕ) (ok : Bool) (inv : (ok && all nameByte (drop i s)) ≡ all nameByte s) where
-    pub scan-again : {r : Bool} → i < length s → Says (nameByte (getD s i 0)) r → ((ok && r) && all nameByte (drop (i + 1) s)) ≡ all nameByte s
-    scan-again h p = rw (← p .is, and-assoc, add-one) (sym (rw (drop-cons s i 0)) ∙ inv)
-
-    pub scan-end : length s ≤ i → Says (all nameByte s) ok
-    scan-end h = record { is = sym inv ∙ rw (drop-of-length-le s h) (and-true ok) }
 
 -- ---- the name
 module _ (lo hi : ℕ) (s : List ℕ) (at : ℕ) where

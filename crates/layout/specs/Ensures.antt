@@ -2,14 +2,15 @@
 use Prim.Native.Nat.{ℕ, _+_, _-_, _*_, _/_, _^_, _≤_, _<_}
 use mathlib.Core.Path.{_≡_}
 use mathlib.Core.List.{List, _++_}
-use mathlib.Core.Bool.{Bool, cond}
+use mathlib.Core.Bool.{Bool, _&&_, cond}
 use mathlib.Core.Option.{Option}
-use lib.Dec.{ltb}
+use lib.Dec.{eqb, leb, ltb}
 use lib.IntN.{ℤ, pos, negsuc, natAbs}
 use lib.Signed.{mag}
-use lib.ListN.{length, take, drop}
+use lib.ListN.{length, take, drop, getD}
 use Rattle.rules.specs.Lists.{isSome}
-use Rattle.rules.specs.Bytes.{name}
+use Rattle.rules.specs.Bytes.{name, big}
+use Rattle.rules.specs.BookLayout.{mostBytes}
 use Rattle.layout.specs.Reads.{Reads, part}
 
 -- `r` is the test
@@ -19,6 +20,14 @@ pub record Says (test r : Bool) : Type 0 where
 -- `r` says whether there is one
 pub record Accepts {A : Type 0} (o : Option A) (r : Bool) : Type 0 where
   pub is : isSome o ≡ r
+
+-- the head of a layout: the length of the whole as it was lent, and version 1
+abbrev pub headOk : List ℕ → Bool
+headOk s = eqb (length s) (big (take 4 s)) && eqb (getD s 4 0) 1
+
+-- that of a book and of a text book: they have so many bytes at most
+abbrev pub bookHeadOk : List ℕ → Bool
+bookHeadOk s = leb (length s) mostBytes && headOk s
 
 -- `r` is the number n, below `top`
 pub record Number (n top r : ℕ) : Type 0 where

@@ -12,7 +12,7 @@ use borrow.Author.Tests.{ne-eqb}
 use Rattle.rules.specs.Lists.{any, between}
 use Rattle.rules.specs.Layout.{_such_, byte}
 use Rattle.rules.specs.Bytes.{oneOf}
-use Rattle.rules.specs.Question.{property, valueFor, stateNumber}
+use Rattle.rules.specs.Question.{property, valueFor}
 use Rattle.rules.specs.declared.State.{State}
 use Rattle.rules.specs.declared.State.the-variants.{Valued, Hidden, Unselected}
 use Rattle.rules.proofs.TestLaws.{between-high}
@@ -22,7 +22,7 @@ use Rattle.layout.specs.Ensures.{Number}
 use Rattle.layout.proofs.LayoutLaws.{such-reads, reads-as, byte-at, one-of-reads}
 use Rattle.layout.proofs.ReadingLaws.{then-good, then-behind}
 use Rattle.layout.proofs.NameEndLaws.{name-any, name-size}
-use Rattle.properties.specs.Properties.{propertyAt, propertyStop, propertyIn, PropertyFits, PropertyIs, StateIs}
+use Rattle.properties.specs.Properties.{propertyAt, propertyStop, PropertyIs, StateIs}
 use Rattle.properties.proofs.PropertyLaws.{value-any}
 
 -- ---- what is known of it

@@ -17,14 +17,14 @@ use Rattle.rules.specs.Question.{property, questionLayout, questionOf}
 use Rattle.rules.proofs.TestLaws.{and-left, and-right, between-low, between-high}
 use Rattle.layout.specs.Reads.{nameStop, nameAt}
 use Rattle.layout.specs.Counted.{countedAt, countedStop, stopAfter}
-use Rattle.layout.specs.Ensures.{Number, NameEnd}
+use Rattle.layout.specs.Ensures.{headOk, Number, NameEnd}
 use Rattle.layout.proofs.LayoutLaws.{reads-as, accepted-is, taken-are}
 use Rattle.layout.proofs.NameLaws.{name-cases}
 use Rattle.layout.proofs.CountedLaws.{CountedEnd, counted-few}
 use Rattle.layout.proofs.NameEndLaws.{name-size}
 use Rattle.properties.specs.Properties.{propertyAt, propertyStop}
 use Rattle.properties.proofs.PropertyLaws.{properties-any}
-use Rattle.question.specs.Parts.{headOk, currencyOk, termsOk, NamesStand}
+use Rattle.question.specs.Parts.{currencyOk, termsOk, NamesStand}
 use Rattle.question.specs.Asked.{AskAt, AskIs}
 use Rattle.question.proofs.PartLaws.{granted-any}
 use Rattle.question.proofs.QuestionLaws.{question-short, question-nameless, question-cut, question-ungranted, question-some, question-reads}

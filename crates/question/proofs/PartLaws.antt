@@ -1,7 +1,7 @@
 -- The parts of a question: tests of its bytes, and its granted names at a place.
 use Prim.Native.Nat.{ℕ, _+_, _≤_}
 use mathlib.Core.Path.{_≡_}
-use mathlib.Core.Bool.{Bool, _&&_, _||_, and-true, and-assoc, or-false}
+use mathlib.Core.Bool.{Bool, _&&_, _||_, and-true, and-assoc}
 use mathlib.Core.List.{List, [], _∷_}
 use native.Mathlib.Omega.{arith}
 use lib.Dec.{eqb, leb}
@@ -18,12 +18,9 @@ use Rattle.layout.proofs.LayoutLaws.{taken-are}
 use Rattle.layout.proofs.CountedLaws.{CountedEnd, counted-any}
 use Rattle.layout.proofs.NameEndLaws.{name-any, name-size}
 use Rattle.question.specs.Asked.{NameStop}
-use Rattle.question.specs.Parts.{headOk, currencyOk, termsOk}
+use Rattle.question.specs.Parts.{currencyOk, termsOk}
 
 -- ---- tests
-
-pub head-is : (s : List ℕ) {n top : ℕ} → Number (big (take 4 (drop 0 s))) top n → Says (headOk s) (eqb (length s) n && eqb (getD s 4 0) 1)
-head-is s p = record { is = rw (p .is, or-false) }
 
 pub currency-is : (x y z : ℕ) {t u v : Bool} → Says (between 65 90 x) t → Says (between 65 90 y) u → Says (between 65 90 z) v
     → Says (currencyOk (x ∷ y ∷ z ∷ [])) (t && u && v || eqb x 0 && eqb y 0 && eqb z 0)

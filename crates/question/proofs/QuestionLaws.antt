@@ -16,25 +16,25 @@ use Rattle.rules.specs.Days.{isDay}
 use Rattle.rules.specs.Book.{sale, purchase}
 use Rattle.rules.specs.Question.{property, questionLayout, questionOf}
 use Rattle.layout.specs.Reads.{Reads}
-use Rattle.layout.specs.Ensures.{Says, NameEnd}
-use Rattle.layout.proofs.FromLaws.{head-reads}
-use Rattle.layout.proofs.LayoutLaws.{then-reads, then-broken, such-reads, reads-as, give-reads, number-reads, bytes-reads, one-of-at, sized-then, sized-such, sized-bytes, sized-number, sized-one-of}
+use Rattle.layout.specs.Ensures.{Says, headOk, NameEnd}
+use Rattle.layout.proofs.FromLaws.{head-short, head-reads}
+use Rattle.layout.proofs.LayoutLaws.{then-reads, then-broken, such-reads, reads-as, give-reads, number-reads, bytes-reads, one-of-at, sized-such, sized-bytes, sized-number, sized-one-of}
 use Rattle.layout.proofs.ReadingLaws.{then-none, wants-any, wants-then, wanted, whole-at}
 use Rattle.layout.proofs.CountedLaws.{counted-reads, ends-reads}
 use Rattle.properties.specs.Properties.{PropertiesEnd}
 use Rattle.properties.proofs.PropertyLaws.{properties-any}
-use Rattle.question.specs.Parts.{headOk, currencyOk, termsOk, questionAt, GrantedEnd}
+use Rattle.question.specs.Parts.{currencyOk, termsOk, questionAt, GrantedEnd}
 
 not-one : (s : List ℕ) → questionLayout (length s) (drop 0 s) ≡ none → false ≡ isSome (questionOf s)
 unfolding questionOf
 not-one s e = sym (ap (λ o. isSome (wholly o)) e)
 
 pub question-short : (s : List ℕ) → length s < 5 → false ≡ isSome (questionOf s)
-question-short s h = not-one s (wanted _ (wants-then (head (length s)) _ (sized-then _ _ (sized-such (number 4) (eqb (length s)) (sized-number 4)) λ n. sized-one-of (1 ∷ [])) λ version. wants-any) s 0 (omega arith))
+question-short s h = not-one s (then-broken _ _ (head-reads s) (head-short s h))
 
 module _ (s : List ℕ) (h : 5 ≤ length s) where
   here : Reads (head (length s)) s 0 (headOk s) (getD s 4 0) 5
-  here = head-reads (length s) s h
+  here = head-reads s
 
   module _ {a : ℕ} (p : NameEnd 1 40 s 5 a) where
     pub question-nameless : a < 1 → false ≡ isSome (questionOf s)

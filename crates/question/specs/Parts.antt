@@ -3,7 +3,7 @@ use Prim.Native.Nat.{ℕ, _+_}
 use mathlib.Core.Bool.{Bool, _&&_, _||_}
 use mathlib.Core.List.{List, [], _∷_}
 use lib.Dec.{eqb}
-use lib.ListN.{length, take, drop, getD}
+use lib.ListN.{take, drop, getD}
 use Rattle.rules.specs.Lists.{same, between, any}
 use Rattle.rules.specs.Bytes.{name, big, capitals}
 use Rattle.rules.specs.Days.{isDay}
@@ -27,10 +27,6 @@ abbrev pub NamesStand : List ℕ → ℕ → ℕ → Type 0
 NamesStand = Standing (name 1 20) nameAt nameStop
 
 -- ---- the tests of the fields around them
-
--- the length and the version in front
-abbrev pub headOk : List ℕ → Bool
-headOk s = eqb (length s) (big (take 4 (drop 0 s))) && any (eqb (getD s 4 0)) (1 ∷ [])
 
 abbrev pub currencyOk : List ℕ → Bool
 currencyOk c = capitals c || same c noCurrency

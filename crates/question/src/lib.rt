@@ -4,6 +4,7 @@ pub mod names;
 use crate::names::granted_end;
 use crate::names::names_stop;
 use days::Day;
+use layout::heads::head_ok;
 use layout::names::name_end;
 use layout::numbers::four_at;
 use layout::numbers::is_capital;
@@ -19,7 +20,7 @@ ghost use Rattle.rules.specs.Lists.{isSome};
 ghost use Rattle.rules.specs.Question.{questionOf};
 ghost use Rattle.layout.specs.Ensures.{Says};
 ghost use Rattle.question.specs.Asked.{AskAt, AskIs};
-ghost use Rattle.question.specs.Parts.{headOk, currencyOk, termsOk};
+ghost use Rattle.question.specs.Parts.{currencyOk, termsOk};
 
 // A question, read by value. The names in it stay there: `granted` is the place of the first granted name's length byte,
 // `conditions` how many there are; `properties` is the place of the first property, `count` how many there are.
@@ -37,13 +38,6 @@ pub struct Ask {
 }
 
 // ---- which bytes are one
-
-fn head_ok(s: &[u8]) -> bool
-    requires { ⌜ 5 ≤ length (now s) ⌝ }
-    ensures { λ r. ⌜ Says (headOk (now (s .entry))) r ⌝ }
-{
-    (s.len() == four_at(s, 0)) & (s[4] == 1)
-}
 
 // Three capitals, or three zeros where none is asked.
 fn currency_ok(x: u8, y: u8, z: u8) -> bool

@@ -13,9 +13,9 @@ use Rattle.rules.specs.Book.{Record, articleOf, rowsOf, roundings}
 use Rattle.rules.specs.BookLayout.{kinded, records}
 use Rattle.rules.proofs.TestLaws.{or-false, or-assoc, so, not-so}
 use Rattle.layout.specs.Reads.{part}
-use Rattle.layout.specs.Ensures.{Says}
+use Rattle.layout.specs.Ensures.{Says, bookHeadOk}
 use Rattle.layout.specs.Records.{recordsLeft, Between, RecordHere, StopIs}
-use Rattle.book.specs.Ensures.{Decides, RecordEnd, headerOk}
+use Rattle.book.specs.Ensures.{Decides, RecordEnd}
 use Rattle.book.proofs.BookLaws.{book-not, book-start, walk-bad, walk-again}
 use Rattle.book.proofs.BookLaws as Book
 use Rattle.book.proofs.WalkLaws.{end-stops, pass-start, pass-here, pass-next, pass-record, pass-end}
@@ -104,7 +104,7 @@ module _ (b article : List ℕ) (sort : ℕ) where
   refuses : false ≡ isSome (records b) → SurveyIs b article sort (record { ok = false; found = nothing })
   refuses e = record { ok = e; found = λ t. absurd (false≢true t); empty = λ t. refl }
 
-  module _ {r : Bool} (header : Says (headerOk b) r) where
+  module _ {r : Bool} (header : Says (bookHeadOk b) r) where
     pub survey-header : not r ≡ true → SurveyIs b article sort (record { ok = false; found = nothing })
     survey-header e = refuses (book-not b header (not-so r e))
 

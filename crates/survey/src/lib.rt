@@ -5,9 +5,9 @@ pub mod window;
 
 use crate::window::Window;
 use crate::window::window_after;
-use book::header_ok;
 use book::record_end;
 use book::record_stop;
+use layout::heads::book_head_ok;
 use records::is_article;
 use records::is_rounding;
 use records::is_row;
@@ -83,7 +83,7 @@ pub fn find(b: &[u8], article: &[u8], sort: u8) -> Found
 pub fn survey(b: &[u8], article: &[u8], sort: u8) -> Surveyed
     ensures { λ r. ⌜ SurveyIs (now (b .entry)) (now (article .entry)) sort r ⌝ }
 {
-    if !header_ok(b) {
+    if !book_head_ok(b) {
         return NO_BOOK;
     }
     let mut found = Found::NOTHING;

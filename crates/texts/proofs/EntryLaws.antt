@@ -1,24 +1,22 @@
 -- A text book by places: its head, an entry at a place, and the entries from a place on.
 use Prim.Native.Nat.{ℕ, _+_, _-_, _≤_, _<_}
-use mathlib.Core.Path.{_≡_, refl, sym, _∙_, ap, subst}
-use mathlib.Core.Bool.{Bool, true, false, _&&_, _||_}
+use mathlib.Core.Path.{_≡_, refl, sym, ap, subst}
+use mathlib.Core.Bool.{true}
 use mathlib.Core.List.{List, []}
 use mathlib.Core.Option.{Option, some, none, Option·some-injective}
 use mathlib.Core.Logic.{_⊎_, inl, inr}
 use native.Mathlib.Omega.{arith}
 use native.Mathlib.Decide.{decLt}
-use lib.Dec.{eqb, leb}
-use lib.ListN.{length, take, drop, getD, length-take, length-drop}
+use lib.ListN.{length, take, drop, length-take, length-drop}
 use borrow.Author.Tests.{lt-ltb, le-ltb}
-use Rattle.rules.specs.Layout.{Layout, _>>=_, give, bytes, left, repeated, whole, wholly}
+use Rattle.rules.specs.Layout.{Layout, _>>=_, give, bytes, left, repeated, whole}
 use Rattle.rules.specs.Bytes.{number, big}
-use Rattle.rules.specs.BookLayout.{mostBytes}
 use Rattle.rules.specs.TextBook.{Entry, entry, entries}
 use Rattle.layout.specs.Reads.{Reads, when}
-use Rattle.layout.specs.Ensures.{Number, Says}
-use Rattle.layout.proofs.LayoutLaws.{andThen-some, then-reads, then-when, then-broken, if-reads, reads-as, give-reads, number-at, number-reads, number-cut, bytes-at, bytes-cut, bytes-left, sized-number}
-use Rattle.texts.specs.Ensures.{headOk, entryAt, EntryIn, EntryEnd}
-use Rattle.layout.proofs.FromLaws.{more, head-reads, head-cut, from-end, from-broken, from-step}
+use Rattle.layout.specs.Ensures.{Number, bookHeadOk}
+use Rattle.layout.proofs.LayoutLaws.{andThen-some, then-reads, then-when, then-broken, reads-as, give-reads, number-at, number-reads, number-cut, bytes-at, bytes-cut, bytes-left, sized-number}
+use Rattle.texts.specs.Ensures.{entryAt, EntryIn, EntryEnd}
+use Rattle.layout.proofs.FromLaws.{more, behind-head, from-end, from-broken, from-step}
 
 -- ---- an entry at a place
 
@@ -141,26 +139,6 @@ module _ (s : List ℕ) (at : ℕ) where
 -- ---- the head, and the entries behind it
 
 module _ (s : List ℕ) where
-  pub head-is : {n top : ℕ} → Number (big (take 4 (drop 0 s))) top n → Says (headOk s) (leb (length s) 4194304 && eqb (length s) n && eqb (getD s 4 0) 1)
-  unfolding headOk
-  head-is p = record { is = rw (p .is) }
-
-  pub entries-short : length s < 5 → entries s ≡ none
-  unfolding entries
-  entries-short h = ap wholly (then-when _ _ (if-reads {s = s} {at = 0} (leb (length s) mostBytes) tt) (then-broken _ _ (head-cut (length s) s h) refl) ∙ go (leb (length s) mostBytes))
-    where
-      go : (t : Bool) → when {A = List Entry × List ℕ} t none ≡ none
-      go true = refl
-      go false = refl
-
-  pub entries-are : 5 ≤ length s → entries s ≡ when (headOk s) (entriesFrom s 5)
-  unfolding entries entriesFrom headOk
-  entries-are h =
-      ap wholly (then-when _ _ (if-reads {s = s} {at = 0} (leb (length s) mostBytes) tt) (then-when _ _ (head-reads (length s) s h) refl))
-      ∙ go (leb (length s) mostBytes) (eqb (length s) (big (take 4 s))) (eqb (getD s 4 0) 1) (repeated (entry (length s)) (drop 5 s))
-    where
-      go : (t u v : Bool) (o : Option (List Entry × List ℕ)) → wholly (when t (when (u && (v || false)) o)) ≡ when (t && u && v) (wholly o)
-      go true true true o = refl
-      go true true false o = refl
-      go true false v o = refl
-      go false u v o = refl
+  pub entries-are : entries s ≡ when (bookHeadOk s) (entriesFrom s 5)
+  unfolding entries entriesFrom
+  entries-are = behind-head s (repeated (entry (length s)))

@@ -5,20 +5,22 @@ use mathlib.Core.Bool.{Bool, true, false}
 use mathlib.Core.List.{List, [], _∷_}
 use mathlib.Core.Option.{Option, some, none}
 use native.Mathlib.Omega.{arith}
-use lib.Dec.{eqb}
+use lib.Dec.{eqb, leb}
 use lib.ListN.{length, take, drop}
 use borrow.Author.Tests.{eq-eqb, ne-eqb}
 use Rattle.rules.specs.Lists.{pick, isSome}
 use Rattle.rules.specs.Bytes.{big}
+use Rattle.rules.specs.BookLayout.{mostBytes}
 use Rattle.rules.specs.TextBook.{Entry, entries}
 use Rattle.rules.specs.Text.{entryOf}
+use Rattle.rules.proofs.TestLaws.{and-right}
 use Rattle.layout.specs.Reads.{when}
-use Rattle.layout.specs.Ensures.{Number, Says}
+use Rattle.layout.specs.Ensures.{Number, Says, headOk, bookHeadOk}
 use Rattle.texts.specs.declared.Looked.{Looked}
 use Rattle.texts.specs.declared.Looked.the-variants.{Broken, Absent, At}
-use Rattle.texts.specs.Ensures.{headOk, entryAt, EntryIn, EntryEnd, seen, looked, firstOf, Looks}
-use Rattle.layout.proofs.FromLaws.{more}
-use Rattle.texts.proofs.EntryLaws.{text-long, entriesFrom, entries-end, entries-broken, entries-step, entries-short, entries-are}
+use Rattle.texts.specs.Ensures.{entryAt, EntryIn, EntryEnd, seen, looked, firstOf, Looks}
+use Rattle.layout.proofs.FromLaws.{more, head-long}
+use Rattle.texts.proofs.EntryLaws.{text-long, entriesFrom, entries-end, entries-broken, entries-step, entries-are}
 
 -- ---- one entry
 
@@ -72,20 +74,16 @@ pub record Looking (s : List ℕ) (n : ℕ) (found : Looked) (at : ℕ) : Type 0
   pub rest : after found n (entriesFrom s at) ≡ looked n (entries s)
 
 module _ (s : List ℕ) (n : ℕ) where
-  pub look-short : length s < 5 → Looks (looked n (entries s)) Broken
-  unfolding looked
-  look-short h = record { is = ap (looked n) (entries-short s h) }
-
-  module _ (h : 5 ≤ length s) {r : Bool} (p : Says (headOk s) r) where
+  module _ {r : Bool} (p : Says (bookHeadOk s) r) where
     head-says : entries s ≡ when r (entriesFrom s 5)
-    head-says = entries-are s h ∙ ap (λ t. when t (entriesFrom s 5)) (p .is)
+    head-says = entries-are s ∙ ap (λ t. when t (entriesFrom s 5)) (p .is)
 
     pub look-headless : r ≡ false → Looks (looked n (entries s)) Broken
     unfolding looked
     look-headless e = record { is = ap (looked n) (head-says ∙ ap (λ t. when t (entriesFrom s 5)) e) }
 
     pub look-start : r ≡ true → Looking s n Absent 5
-    look-start e = record { fits = h; rest = after-absent n (entriesFrom s 5) ∙ ap (looked n) (sym (head-says ∙ ap (λ t. when t (entriesFrom s 5)) e)) }
+    look-start e = record { fits = head-long s (and-right (leb (length s) mostBytes) (headOk s) (p .is ∙ e)); rest = after-absent n (entriesFrom s 5) ∙ ap (looked n) (sym (head-says ∙ ap (λ t. when t (entriesFrom s 5)) e)) }
 
 module _ {s : List ℕ} {n : ℕ} {found : Looked} {at : ℕ} (inv : Looking s n found at) where
   pub look-end : length s ≤ at → Looks (looked n (entries s)) found

@@ -8,14 +8,18 @@ use mathlib.Core.Logic.{_⊎_, inl, inr}
 use native.Mathlib.Omega.{arith}
 use native.Mathlib.Decide.{decLt}
 use native.Mathlib.Nat.{not-suc-le-zero}
+use lib.Dec.{leb}
 use lib.ListN.{length, take, drop}
 use Rattle.rules.specs.Bytes.{big}
+use Rattle.rules.specs.BookLayout.{mostBytes}
 use Rattle.rules.specs.TextBook.{Entry, entries}
 use Rattle.rules.proofs.ListLaws.{All}
+use Rattle.rules.proofs.TestLaws.{and-right}
 use Rattle.layout.specs.Reads.{when}
-use Rattle.texts.specs.Ensures.{headOk, entryAt, EntryIn, EntryEnd}
-use Rattle.layout.proofs.FromLaws.{more}
-use Rattle.texts.proofs.EntryLaws.{entriesFrom, text-long, entry-cases, entries-end, entries-broken, entries-step, entries-short, entries-are}
+use Rattle.layout.specs.Ensures.{headOk, bookHeadOk}
+use Rattle.texts.specs.Ensures.{entryAt, EntryIn, EntryEnd}
+use Rattle.layout.proofs.FromLaws.{more, head-long}
+use Rattle.texts.proofs.EntryLaws.{entriesFrom, text-long, entry-cases, entries-end, entries-broken, entries-step, entries-are}
 
 -- the text t is the bytes of the book from its place on
 pub record Stands (book : List ℕ) (place size : ℕ) (t : List ℕ) : Type 0 where
@@ -53,12 +57,8 @@ module _ (s : List ℕ) where
       go ih (no h) = subst (All (StandsIn s)) (Option·some-injective [] es (sym (entries-end s at (omega arith)) ∙ e)) tt
 
   pub all-stand : (es : List Entry) → entries s ≡ some es → All (StandsIn s) es
-  all-stand es e = go (decLt (length s) 5)
+  all-stand es e = go (bookHeadOk s) refl (sym (entries-are s) ∙ e)
     where
-      behind : (t : Bool) → when t (entriesFrom s 5) ≡ some es → entriesFrom s 5 ≡ some es
-      behind true i = i
-      behind false i = absurd (Option·none-ne-some es i)
-
-      go : Dec (length s < 5) → All (StandsIn s) es
-      go (yes h) = absurd (Option·none-ne-some es (sym (entries-short s h) ∙ e))
-      go (no h) = from-stand (suc (length s)) 5 es (omega arith) (omega arith) (behind (headOk s) (sym (entries-are s (omega arith)) ∙ e))
+      go : (t : Bool) → bookHeadOk s ≡ t → when t (entriesFrom s 5) ≡ some es → All (StandsIn s) es
+      go true h i = from-stand (suc (length s)) 5 es (omega arith) (head-long s (and-right (leb (length s) mostBytes) (headOk s) h)) i
+      go false h i = absurd (Option·none-ne-some es i)

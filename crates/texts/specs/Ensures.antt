@@ -1,14 +1,12 @@
 -- What the functions over text books ensure, and what they ask: contracts that name a definition and a result.
 use Prim.Native.Nat.{ℕ, _+_, _≤_, _<_}
 use mathlib.Core.Path.{_≡_}
-use mathlib.Core.Bool.{Bool, _&&_}
 use mathlib.Core.List.{List}
 use mathlib.Core.Option.{Option, some, none}
-use lib.Dec.{eqb, leb, ltb}
-use lib.ListN.{length, take, drop, getD}
+use lib.Dec.{ltb}
+use lib.ListN.{length, take, drop}
 use denote.Ref.{RefT, now}
 use Rattle.rules.specs.Bytes.{big}
-use Rattle.rules.specs.BookLayout.{mostBytes}
 use Rattle.rules.specs.TextBook.{Entry, entry}
 use Rattle.rules.specs.Refusals.{Result, done, refused}
 use Rattle.rules.specs.Text.{Found, InAsked, InFallback, entryOf, text, part, shown}
@@ -18,10 +16,7 @@ use Rattle.layout.specs.Reads as reads
 use Rattle.texts.specs.declared.Looked.{Looked}
 use Rattle.texts.specs.declared.Looked.the-variants.{Broken, Absent, At}
 
--- ---- the head and an entry of a text book
-
-unfoldable pub headOk : List ℕ → Bool
-headOk s = leb (length s) mostBytes && eqb (length s) (big (take 4 s)) && eqb (getD s 4 0) 1
+-- ---- an entry of a text book
 
 -- the entry that stands from `at` to `to`
 abbrev pub entryAt : List ℕ → ℕ → ℕ → Entry

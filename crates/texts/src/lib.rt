@@ -1,4 +1,5 @@
 // Texts of two lent text books: which bytes are a text book, and the text of a number as a part of the book that has it.
+use layout::heads::book_head_ok;
 use layout::numbers::four_at;
 use layout::numbers::two_at;
 use rules::TextAnswer;
@@ -10,8 +11,7 @@ ghost use Rattle.rules.specs.Lists.{isSome};
 ghost use Rattle.rules.specs.Refusals.{refused};
 ghost use Rattle.rules.specs.TextBook.{entries};
 ghost use Rattle.rules.specs.Text.{text, shown, entryOf};
-ghost use Rattle.layout.specs.Ensures.{Says};
-ghost use Rattle.texts.specs.Ensures.{EntryEnd, EntryIn, Looks, IsPart, Handed, entryAt, headOk, seen, looked, firstOf, foundAt};
+ghost use Rattle.texts.specs.Ensures.{EntryEnd, EntryIn, Looks, IsPart, Handed, entryAt, seen, looked, firstOf, foundAt};
 
 // What a look for a number through some bytes says.
 pub enum Looked {
@@ -21,15 +21,6 @@ pub enum Looked {
     Absent,
     // the place of the first text that has it, and its length
     At(usize, usize),
-}
-
-// At most 4 MB, the length as lent, and version 1.
-fn head_ok(s: &[u8]) -> bool
-    requires { ⌜ 5 ≤ length (now s) ⌝ }
-    ensures { λ r. ⌜ Says (headOk (now (s .entry))) r ⌝ }
-{
-    let lent = s.len();
-    (lent <= 4194304) & (lent == four_at(s, 0)) & (s[4] == 1)
 }
 
 // Where the entry at `at` ends, or 0: a number of four bytes, a length of two, and as many bytes.
@@ -72,10 +63,7 @@ fn first_of(found: Looked, next: Looked) -> Looked
 fn look(s: &[u8], number: u32) -> Looked
     ensures { λ r. ⌜ Looks (looked number (entries (now (s .entry)))) r ⌝ }
 {
-    if s.len() < 5 {
-        return Looked::Broken;
-    }
-    if head_ok(s) {
+    if book_head_ok(s) {
         let mut found = Looked::Absent;
         let mut at = 5;
         while at < s.len() {

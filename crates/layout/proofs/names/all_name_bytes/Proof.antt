@@ -1,4 +1,4 @@
--- `layout::names::all_name_bytes` meets its contract: the flag and what is left are the whole answer, by the laws `scan-..`.
+-- `layout::names::all_name_bytes` meets its contract: the flag and what is left are the whole answer, by the laws `flag-..`.
 use Prim.Native.Nat.{_-_}
 use mathlib.Core.Path.{_≡_}
 use mathlib.Core.Bool.{_&&_}
@@ -6,11 +6,11 @@ use lib.ListN.{length, drop}
 use Rattle.rules.specs.Lists.{all}
 use Rattle.rules.specs.Bytes.{nameByte}
 use borrow.Author.Needs.{needs}
-use Rattle.layout.proofs.NameLaws.{scan-start, scan-again, scan-end}
+use Rattle.layout.proofs.ReadingLaws.{flag-start, flag-again, flag-end}
 use Rattle.layout.proofs.names.all_name_bytes.Statement.{statement}
 use Rattle.layout.proofs.names.all_name_bytes.Tie as tie
 
-ruleset laws = (needs, scan-start, scan-again, scan-end)
+ruleset laws = (needs, flag-start, flag-again, flag-end)
 
 abbrev Inv-loop : tie.InvT-loop
 Inv-loop s ok₀ i₀ ok i = (ok && all nameByte (drop i s)) ≡ all nameByte s
