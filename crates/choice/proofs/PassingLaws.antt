@@ -12,10 +12,13 @@ use borrow.Author.Tests.{lt-leb, le-leb, lt-ltb, le-ltb, eq-eqb, ne-eqb, eqb-tru
 use Rattle.rules.specs.Lists.{same, ifSome, between}
 use Rattle.rules.specs.Layout.{whole}
 use Rattle.rules.specs.Days.{isDay}
-use Rattle.rules.specs.Book.{Row, Record, PriceRecord, asRow}
+use Rattle.rules.specs.Book.{Row, Record, PriceRecord, asRow, base, letterOf}
 use Rattle.rules.specs.BookLayout.{kinded}
 use Rattle.rules.specs.Question.{Question, noCurrency, askedOf, lettersOf}
 use Rattle.rules.specs.Choice.{isPercent}
+use Rattle.rules.specs.declared.Level.{Level}
+use Rattle.rules.specs.declared.Level.the-variants.{Base, Surcharge, Discount}
+use Rattle.rules.specs.declared.Value.{Value}
 use Rattle.rules.specs.declared.PriceRow.{PriceRow}
 use Rattle.rules.specs.declared.Currency.{Currency}
 use Rattle.rules.proofs.TestLaws.{and-true, and-false, so, not-so}
@@ -33,27 +36,22 @@ use Rattle.choice.specs.Walk.{slotAt, slotOf, standing, passingOf, isOwn
 
 -- ---- the slot
 
-module _ (level place : ℕ) where
-  pub slot-high : 3 ≤ level → Number (slotAt level place) 100 99
+module _ (level : Level) (place : ℕ) where
+  pub slot-far : 33 ≤ place → Number (slotAt (levelOf (letterOf level)) place) 100 99
   unfolding slotAt
-  slot-high h = record { is = rw (le-ltb level 3 h); below = omega arith }
+  slot-far h = record { is = rw (le-ltb place 33 h, and-false (ltb (levelOf (letterOf level)) 3)); below = omega arith }
 
-  module _ (l : level < 3) where
-    pub slot-far : 33 ≤ place → Number (slotAt level place) 100 99
-    unfolding slotAt
-    slot-far h = record { is = rw (lt-ltb level 3 l, le-ltb place 33 h); below = omega arith }
+  pub slot-near : {n : ℕ} → Number (levelOf (letterOf level)) 3 n → place < 33 → Number (slotAt (levelOf (letterOf level)) place) 100 (n * 33 + place)
+  unfolding slotAt
+  slot-near {n} l h = record { is = rw (← l .is, lt-ltb n 3 (l .below), lt-ltb place 33 h); below = omega (arith, l .below) }
 
-    pub slot-near : place < 33 → Number (slotAt level place) 100 (level * 33 + place)
-    unfolding slotAt
-    slot-near h = record { is = rw (lt-ltb level 3 l, lt-ltb place 33 h); below = omega arith }
-
-pub slot-is : (t : List ℕ) (row : PriceRow) {table : List ℕ} {terms : Terms} {level place i : ℕ} → Number (levelOf (row .level)) 4 level
+pub slot-is : (t : List ℕ) (row : PriceRow) {table : List ℕ} {terms : Terms} {place i : ℕ}
     → PlaceIs table (terms .names) (take (row .condition .at + row .condition .size - row .condition .at) (drop (row .condition .at) t)) place
-    → Number (slotAt level place) 100 i → SlotIs table terms (rowIn t row) i
+    → Number (slotAt (levelOf (letterOf (row .level))) place) 100 i → SlotIs table terms (rowIn t row) i
 unfolding slotOf rowIn
-slot-is t row l p s =
+slot-is t row p s =
     let k : row .condition .at + row .condition .size - row .condition .at ≡ row .condition .size = omega arith in
-    record { below = s .below; of = λ q a. s .is ∙ rw (l .is, p .of (q .granted) (a .granted) (a .count) .is, k) }
+    record { below = s .below; of = λ q a. s .is ∙ rw (p .of (q .granted) (a .granted) (a .count) .is, k) }
 
 -- a slot has one level and one place
 slot-test : (a b level place : ℕ) → level < 3 → place < 33 → eqb (slotAt a b) (level * 33 + place) ≡ (eqb a level && eqb b place)
@@ -135,26 +133,36 @@ in-asked : (o : Option (List ℕ)) (r : Row) → isAsked o r ≡ inAsked o (r .c
 in-asked none r = refl
 in-asked (some c) r = refl
 
-module _ (t : List ℕ) (row : PriceRow) (at end : ℕ) (table : List ℕ) (terms : Terms) {percent holds : Bool} (p : Says (isPercent (row .value)) percent)
+module _ (level : Level) (value : Value) where
+  pub base-percent : level ≡ Base → {r : Bool} → Says (isPercent value) r → Says (eqb (letterOf level) base && isPercent value) r
+  base-percent e p = record { is = rw e (p .is) }
+
+  pub surcharge-percent : level ≡ Surcharge → Says (eqb (letterOf level) base && isPercent value) false
+  surcharge-percent e = record { is = rw e }
+
+  pub discount-percent : level ≡ Discount → Says (eqb (letterOf level) base && isPercent value) false
+  discount-percent e = record { is = rw e }
+
+module _ (t : List ℕ) (row : PriceRow) (at end : ℕ) (table : List ℕ) (terms : Terms) {percent holds : Bool} (p : Says (eqb (letterOf (row .level)) base && isPercent (row .value)) percent)
     (h : Says (isDay (row .from) && (isDay (row .to) && between (row .from) (row .to) (terms .date .0))) holds) where
   counts : {article : List ℕ} (q : Question) → Asks q article table terms
-      → stands (q .date) (rowIn t row) ≡ (not (eqb (row .level) 66 && percent) && holds)
+      → stands (q .date) (rowIn t row) ≡ (not percent && holds)
   unfolding rowIn
-  counts q a = ap (λ (d : ℕ). stands d (rowIn t row)) (a .date) ∙ (λ i. not (eqb (row .level) 66 && p .is i) && h .is i)
+  counts q a = ap (λ (d : ℕ). stands d (rowIn t row)) (a .date) ∙ (λ i. not (p .is i) && h .is i)
 
-  pub row-past : not (not (eqb (row .level) 66 && percent) && holds) ≡ true → RowPasses table terms at end (rowIn t row) uncounted
+  pub row-past : not (not percent && holds) ≡ true → RowPasses table terms at end (rowIn t row) uncounted
   unfolding passingOf
   row-past e = record {
     below = omega arith;
     of = λ q a. ap (λ (x : Bool). cond x (standing q at end (rowIn t row)) uncounted) (sym (counts q a ∙ not-so _ e));
   }
 
-  pub row-passes : not (not (eqb (row .level) 66 && percent) && holds) ≡ false → {slot : ℕ} {asked : Bool} → SlotIs table terms (rowIn t row) slot
+  pub row-passes : not (not percent && holds) ≡ false → {slot : ℕ} {asked : Bool} → SlotIs table terms (rowIn t row) slot
       → Says (inAsked (askedOf (lettersOf (terms .currency))) (lettersOf (row .currency))) asked
       → RowPasses table terms at end (rowIn t row)
       (record {
         slot = slot;
-        stands = not (eqb (row .level) 66 && percent) && holds;
+        stands = not percent && holds;
         asked = asked;
         reaches = eqb (row .upto) 0 || leb (terms .quantity) (row .upto);
         hand = record { at = at; end = end; upto = row .upto; from = row .from; rounding = row .rounding };

@@ -2,9 +2,8 @@
 use crate::hands::Hand;
 use crate::hands::NO_SLOT;
 use crate::hands::Passing;
-use crate::slots::LEVELS;
 use crate::slots::PLACES;
-use crate::slots::level_of;
+use crate::slots::level_number;
 use days::Day;
 use grants::NOWHERE;
 use grants::place_of;
@@ -12,10 +11,13 @@ use grants::terms::Terms;
 use records::is_row;
 use records::row_of;
 use rules::Currency;
+use rules::Level;
 use rules::PriceRow;
 use rules::Value;
 ghost use mathlib.Core.Bool.{_&&_};
+ghost use lib.Dec.{eqb};
 ghost use Rattle.rules.specs.Lists.{between};
+ghost use Rattle.rules.specs.Book.{base, letterOf};
 ghost use Rattle.rules.specs.Days.{isDay};
 ghost use Rattle.rules.specs.Layout.{whole};
 ghost use Rattle.rules.specs.BookLayout.{kinded};
@@ -25,18 +27,16 @@ ghost use Rattle.layout.specs.Ensures.{Says, Number};
 ghost use Rattle.records.specs.Asks.{Accepted};
 ghost use Rattle.records.specs.Ensures.{rowIn, RowIs};
 ghost use Rattle.grants.specs.Asks.{Tabled};
+ghost use Rattle.choice.specs.Slots.{levelOf};
 ghost use Rattle.choice.specs.Walk.{slotAt, inAsked, SlotIs, RowPasses, Passes};
 
-fn slot_at(level: usize, place: usize) -> usize
-    ensures { λ r. ⌜ Number (slotAt level place) 100 r ⌝ }
+fn slot_at(level: Level, place: usize) -> usize
+    ensures { λ r. ⌜ Number (slotAt (levelOf (letterOf level)) place) 100 r ⌝ }
 {
-    if LEVELS <= level {
-        return NO_SLOT;
-    }
     if NOWHERE <= place {
         return NO_SLOT;
     }
-    level * PLACES + place
+    level_number(level) * PLACES + place
 }
 
 // The slot of a row of the asked article and sort: none if its condition is not granted.
@@ -49,7 +49,8 @@ fn slot_of(t: &[u8], row: PriceRow, table: &[u8], terms: Terms) -> usize
     let from = condition.at;
     let end = from + condition.size;
     let place = place_of(table, terms.names, &t[from..end]);
-    slot_at(level_of(row.level), place)
+    let level = row.level;
+    slot_at(level, place)
 }
 
 fn is_percent(value: Value) -> bool
@@ -58,6 +59,17 @@ fn is_percent(value: Value) -> bool
     match value {
         Value::Fixed(_) => false,
         Value::Percent(_) => true,
+    }
+}
+
+// A base row with a percentage never counts.
+fn is_percent_base(level: Level, value: Value) -> bool
+    ensures { λ r. ⌜ Says (eqb (letterOf level) base && isPercent value) r ⌝ }
+{
+    match level {
+        Level::Base => is_percent(value),
+        Level::Surcharge => false,
+        Level::Discount => false,
     }
 }
 
@@ -95,9 +107,9 @@ fn row_passing(
     requires { ⌜ Tabled (now table) terms ⌝ }
     ensures { λ r. ⌜ RowPasses (now (table .entry)) terms at end (rowIn (now (t .entry)) row) r ⌝ }
 {
+    let level = row.level;
     let value = row.value;
-    let percent_base = (row.level == b'B') & is_percent(value);
-    let stands = !percent_base & holds(row.from, row.to, terms.date);
+    let stands = !is_percent_base(level, value) & holds(row.from, row.to, terms.date);
     if !stands {
         return Passing::UNCOUNTED;
     }

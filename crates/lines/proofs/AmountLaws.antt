@@ -10,12 +10,16 @@ use lib.IntN.{ℤ, pos, natAbs, _+ℤ_}
 use lib.ListN.{length, take, drop, getD, set, replicate, length-set}
 use lib.Seq.{take-suc-set}
 use Rattle.rules.specs.Lists.{any}
+use Rattle.rules.specs.Book.{ruleNumber}
 use Rattle.rules.specs.Amounts.{exact, rounded}
 use Rattle.rules.specs.Lines.{mostTotal, totalOf}
 use Rattle.rules.specs.declared.Cents.{Cents}
 use Rattle.rules.specs.declared.Fraction.{Fraction}
+use Rattle.rules.specs.declared.Rule.{Rule}
+use Rattle.rules.specs.declared.Rule.the-variants.{OfBase, OfTotal}
 use Rattle.rules.specs.declared.Total.the-variants.{InRange, OutOfRange}
 use Rattle.rules.proofs.ListLaws.{All}
+use Rattle.layout.specs.Ensures.{Says}
 use Rattle.layout.proofs.StoreLaws.{all-same, behind-store}
 use Rattle.amounts.specs.Contracts.{BookValue, ExactAmount, Roundable, RoundedCents, Addable, totalAfter}
 use Rattle.amounts.proofs.TotalLaws.{totalFrom, from-zero, from-end, from-in, from-out, after-sum, after-in-range}
@@ -25,6 +29,18 @@ use Rattle.lines.specs.Contracts.{OneOfTwo, Sound, LineOn, mostAmount, L
 use Rattle.lines.proofs.WalkLaws.{next-view, views-end}
 
 -- ---- one line
+
+-- by a test that was said
+pub one-said : {a t : Bool} {x y r : ℤ} → Says a t → OneOfTwo t x y r → OneOfTwo a x y r
+one-said s o = record { is = rw (s .is) (o .is) }
+
+-- what a percentage is of
+module _ (rule : Rule) (base total : ℤ) where
+  pub of-base : rule ≡ OfBase → OneOfTwo (eqb (ruleNumber rule) 1) base total base
+  of-base e = record { is = rw e }
+
+  pub of-total : rule ≡ OfTotal → OneOfTwo (eqb (ruleNumber rule) 1) base total total
+  of-total e = record { is = rw e }
 
 -- one of two amounts is within the bound of both
 pub one-in : (t : Bool) (a b r : ℤ) (most : ℕ) → OneOfTwo t a b r → natAbs a ≤ most → natAbs b ≤ most → natAbs r ≤ most

@@ -7,10 +7,13 @@ use native.Mathlib.Numerals.{add-one}
 use lib.IntN.{ℤ}
 use lib.ListN.{length, drop, getD, set, length-append}
 use lib.Seq.{sets}
-use Rattle.rules.specs.Lines.{lineSize}
 use Rattle.rules.specs.Bytes.{bytesOf, signedBytesOf}
+use Rattle.rules.specs.Book.{letterOf}
+use Rattle.rules.specs.Lines.{lineSize}
 use Rattle.rules.specs.declared.Cents.{Cents}
-use Rattle.layout.specs.Ensures.{Puts, PutsTo}
+use Rattle.rules.specs.declared.Level.{Level}
+use Rattle.rules.specs.declared.Level.the-variants.{Base, Surcharge, Discount}
+use Rattle.layout.specs.Ensures.{Number, Puts, PutsTo}
 use Rattle.layout.proofs.StoreLaws.{puts-of, puts-then, sets-of, sets-sets}
 use Rattle.lines.specs.declared.Pick.{Pick}
 use Rattle.lines.specs.Views.{View, viewIn, viewsIn, noPick, amountsIn, noCents, viewBytes, viewsBytes}
@@ -26,9 +29,19 @@ module _ (v : View) (z : ℤ) where
   pub line-length : length (viewBytes v z) ≡ lineSize
   line-length = refl
 
-  pub line-puts : {a b c d : List ℕ} {at : ℕ} → Puts a at (bytesOf 4 (v .text)) b → Puts b (at + 4) (v .level ∷ v .place ∷ []) c
+  pub line-puts : {a b c d : List ℕ} {at letter top : ℕ} → Number (v .level) top letter → Puts a at (bytesOf 4 (v .text)) b → Puts b (at + 4) (letter ∷ v .place ∷ []) c
       → Puts c (at + 6) (signedBytesOf 8 z) d → Puts a at (viewBytes v z) d
-  line-puts p q r = puts-then p refl (puts-then q (omega arith) r)
+  line-puts l p q r = puts-then p refl (puts-then (rw (l .is) at q) (omega arith) r)
+
+module _ (level : Level) where
+  pub letter-base : level ≡ Base → Number (letterOf level) 256 66
+  letter-base e = record { is = rw e; below = omega arith }
+
+  pub letter-surcharge : level ≡ Surcharge → Number (letterOf level) 256 88
+  letter-surcharge e = record { is = rw e; below = omega arith }
+
+  pub letter-discount : level ≡ Discount → Number (letterOf level) 256 68
+  letter-discount e = record { is = rw e; below = omega arith }
 
 -- ---- lines
 

@@ -1,7 +1,7 @@
 -- Rows one by one: the first base row, and one currency.
 use Prim.Native.Nat.{ℕ, _+_, _≤_, _<_}
 use mathlib.Core.Path.{_≡_, refl, sym, ap, _∙_}
-use mathlib.Core.Bool.{Bool, true, _&&_, and-true, and-assoc}
+use mathlib.Core.Bool.{Bool, true, false, _&&_, and-true, and-assoc}
 use mathlib.Core.List.{List, [], _∷_, map}
 use native.Mathlib.Omega.{arith}
 use native.Mathlib.Numerals.{add-one}
@@ -9,16 +9,18 @@ use native.Mathlib.Nat.{le-refl}
 use lib.Dec.{eqb}
 use lib.ListN.{length, take, drop, getD, length-map, List·getD-map, drop-of-length-le}
 use lib.Seq.{drop-cons, getD-take, length-take-le}
-use borrow.Author.Tests.{lt-ltb, le-ltb, eq-eqb, ne-eqb}
+use borrow.Author.Tests.{lt-ltb, le-ltb}
 use Rattle.rules.specs.Lists.{first, pick}
 use Rattle.rules.specs.Question.{lettersOf}
 use Rattle.rules.specs.declared.Cents.{Cents}
 use Rattle.rules.specs.declared.Currency.{Currency}
 use Rattle.rules.specs.declared.Hundredths.{Hundredths}
+use Rattle.rules.specs.declared.Level.{Level}
+use Rattle.rules.specs.declared.Level.the-variants.{Base, Surcharge, Discount}
 use Rattle.rules.specs.declared.Value.the-variants.{Fixed, Percent}
 use Rattle.layout.specs.Ensures.{Says}
 use Rattle.lines.specs.declared.Pick.{Pick}
-use Rattle.lines.specs.Views.{viewIn, viewsIn, noPick, isBase, fits, oneCurrency, amountsIn, noCents}
+use Rattle.lines.specs.Views.{viewIn, viewsIn, noPick, isBase, baseLevel, fits, oneCurrency, amountsIn, noCents}
 use Rattle.lines.specs.Contracts.{FirstBase}
 
 -- ---- the next of the first n
@@ -54,6 +56,16 @@ module _ (picks : List Pick) (n i : ℕ) (h : i < n) (k : n ≤ length picks) wh
 
 -- ---- the first base row
 
+module _ (level : Level) where
+  pub is-base : level ≡ Base → Says (baseLevel level) true
+  is-base e = record { is = rw e }
+
+  pub surcharge-not : level ≡ Surcharge → Says (baseLevel level) false
+  surcharge-not e = record { is = rw e }
+
+  pub discount-not : level ≡ Discount → Says (baseLevel level) false
+  discount-not e = record { is = rw e }
+
 -- there is none before row i
 pub record Seeking (picks : List Pick) (n i : ℕ) : Type 0 where
   pub place : i ≤ n
@@ -75,18 +87,19 @@ module _ (picks : List Pick) (n : ℕ) where
     module _ (h : i < n) where
       -- row i is the first of the rows left, or what the others give
       here : first isBase (viewsIn picks n)
-          ≡ pick (eqb (getD picks i noPick .level) 66) (viewIn (getD picks i noPick)) (first isBase (drop (i + 1) (viewsIn picks n)))
+          ≡ pick (baseLevel (getD picks i noPick .level)) (viewIn (getD picks i noPick)) (first isBase (drop (i + 1) (viewsIn picks n)))
       here = sym (inv .rest) ∙ ap (first isBase) (next-view picks n i h (inv .long))
 
-      pub seek-found : getD picks i noPick .level ≡ 66 → FirstBase picks n i
-      seek-found e = record { is = here ∙ rw (eq-eqb (getD picks i noPick .level) 66 e, lt-ltb i n h); within = omega arith }
+      module _ {r : Bool} (said : Says (baseLevel (getD picks i noPick .level)) r) where
+        pub seek-found : r ≡ true → FirstBase picks n i
+        seek-found e = record { is = here ∙ rw (said .is, e, lt-ltb i n h); within = omega arith }
 
-      pub seek-again : (getD picks i noPick .level ≡ 66 → ⊥) → Seeking picks n (i + 1)
-      seek-again e = record {
-        place = omega arith;
-        long = inv .long;
-        rest = sym (here ∙ rw (ne-eqb (getD picks i noPick .level) 66 e));
-      }
+        pub seek-again : r ≡ false → Seeking picks n (i + 1)
+        seek-again e = record {
+          place = omega arith;
+          long = inv .long;
+          rest = sym (here ∙ rw (said .is, e));
+        }
 
 -- ---- one currency
 

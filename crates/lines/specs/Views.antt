@@ -7,12 +7,15 @@ use lib.IntN.{ℤ, pos, _+ℤ_}
 use lib.ListN.{take}
 use Rattle.rules.specs.Lists.{same, all, any}
 use Rattle.rules.specs.Bytes.{bytesOf, signedBytesOf}
-use Rattle.rules.specs.Book.{base, roundingFor}
+use Rattle.rules.specs.Book.{base, letterOf, ruleNumber, roundingFor}
 use Rattle.rules.specs.Question.{lettersOf}
 use Rattle.rules.specs.Choice.{isPercent}
 use Rattle.rules.specs.Amounts.{exact, rounded}
 use Rattle.rules.specs.Lines.{Chosen}
 use Rattle.rules.specs.declared.Cents.{Cents}
+use Rattle.rules.specs.declared.Level.{Level}
+use Rattle.rules.specs.declared.Level.the-variants.{Base}
+use Rattle.rules.specs.declared.Rule.the-variants.{OfBase}
 use Rattle.rules.specs.declared.Value.{Value}
 use Rattle.rules.specs.declared.Value.the-variants.{Fixed}
 use Rattle.rules.specs.declared.Way.the-variants.{Down}
@@ -46,8 +49,8 @@ abbrev pub viewIn : Pick → View
 viewIn p =
     record {
       place = p .place;
-      level = p .level;
-      rule = p .rule;
+      level = letterOf (p .level);
+      rule = ruleNumber (p .rule);
       text = p .text;
       value = p .value;
       currency = lettersOf (p .currency);
@@ -62,8 +65,8 @@ abbrev pub noPick : Pick
 noPick =
     record {
       place = 0;
-      level = 0;
-      rule = 0;
+      level = Base;
+      rule = OfBase;
       text = 0;
       value = Fixed (record { 0 = pos 0 });
       currency = record { 0 = 0; 1 = 0; 2 = 0 };
@@ -80,6 +83,10 @@ noPick =
 
 abbrev pub isBase : View → Bool
 isBase v = eqb (v .level) base
+
+-- and by a level of the code
+abbrev pub baseLevel : Level → Bool
+baseLevel level = eqb (letterOf level) base
 
 -- no base row stands behind one that is none
 unfoldable pub baseFirst : List View → Bool

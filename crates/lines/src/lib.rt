@@ -7,23 +7,27 @@ use layout::numbers::put_signed_eight;
 use rules::Cents;
 use rules::Currency;
 use rules::LINE_SIZE;
+use rules::Level;
 use rules::Rounding;
+use rules::Rule;
 use rules::Total;
 use rules::Value;
 ghost use Prim.Native.Nat.{_+_, _≤_};
 ghost use mathlib.Core.List.{[], _∷_};
+ghost use lib.Dec.{eqb};
 ghost use lib.ListN.{length};
+ghost use Rattle.rules.specs.Book.{letterOf, ruleNumber};
 ghost use Rattle.rules.specs.Question.{lettersOf};
 ghost use Rattle.rules.specs.Lines.{lineSize};
-ghost use Rattle.layout.specs.Ensures.{Says, Puts, PutsTo};
-ghost use Rattle.lines.specs.Views.{viewIn, viewsIn, fits, oneCurrency, amountsIn, viewBytes, viewsBytes};
+ghost use Rattle.layout.specs.Ensures.{Says, Number, Puts, PutsTo};
+ghost use Rattle.lines.specs.Views.{viewIn, viewsIn, baseLevel, fits, oneCurrency, amountsIn, viewBytes, viewsBytes};
 ghost use Rattle.lines.specs.Contracts.{FirstBase, OneOfTwo, LineOn, LineAmount, Listable, ListedIs, Writable};
 
 // A chosen row and the rounding that its record names: all that its line needs. Place 0: no granted name brought it.
 pub struct Pick {
     pub place: u8,
-    pub level: u8,
-    pub rule: u8,
+    pub level: Level,
+    pub rule: Rule,
     pub text: u32,
     pub value: Value,
     pub currency: Currency,
@@ -38,6 +42,16 @@ struct Listed {
 
 // ---- base and currency
 
+fn is_base(level: Level) -> bool
+    ensures { λ r. ⌜ Says (baseLevel level) r ⌝ }
+{
+    match level {
+        Level::Base => true,
+        Level::Surcharge => false,
+        Level::Discount => false,
+    }
+}
+
 // The place of the first base row among the first n, or n.
 fn first_base(picks: [Pick; 99], n: usize) -> usize
     requires { ⌜ n ≤ 99 ⌝ }
@@ -46,7 +60,8 @@ fn first_base(picks: [Pick; 99], n: usize) -> usize
     let mut i = 0;
     while i < n {
         let pick = picks[i];
-        if pick.level == b'B' {
+        let level = pick.level;
+        if is_base(level) {
             return i;
         }
         i += 1;
@@ -89,6 +104,16 @@ fn either(test: bool, first: Cents, second: Cents) -> Cents
     if test { first } else { second }
 }
 
+// What a percentage is of.
+fn share_of(rule: Rule, base: Cents, total: Cents) -> Cents
+    ensures { λ r. ⌜ OneOfTwo (eqb (ruleNumber rule) 1) (base .0) (total .0) (r .0) ⌝ }
+{
+    match rule {
+        Rule::OfBase => base,
+        Rule::OfTotal => total,
+    }
+}
+
 // The amount of a line behind others: `base` is what the base lines among them come to, and `total` all of them.
 fn amount_of(pick: Pick, base: Cents, total: Cents) -> Cents
     requires { ⌜ LineOn (viewIn pick) (base .0) (total .0) ⌝ }
@@ -96,7 +121,8 @@ fn amount_of(pick: Pick, base: Cents, total: Cents) -> Cents
 {
     let value = pick.value;
     let rounding = pick.rounding;
-    let of = either(pick.rule == 1, base, total);
+    let rule = pick.rule;
+    let of = share_of(rule, base, total);
     let exact = amounts::exact(value, of);
     amounts::rounded(rounding, exact)
 }
@@ -121,7 +147,8 @@ fn list_amounts(picks: [Pick; 99], n: usize) -> Listed
                 total: Total::OutOfRange,
             };
         };
-        base = either(pick.level == b'B', after, base);
+        let level = pick.level;
+        base = either(is_base(level), after, base);
         total = after;
         listed[i] = amount;
         i += 1;
@@ -142,13 +169,25 @@ fn put_pair(out: &mut [u8], at: usize, first: u8, second: u8)
     out[at + 1] = second;
 }
 
+fn letter_of(level: Level) -> u8
+    ensures { λ r. ⌜ Number (letterOf level) 256 r ⌝ }
+{
+    match level {
+        Level::Base => b'B',
+        Level::Surcharge => b'X',
+        Level::Discount => b'D',
+    }
+}
+
 // The 14 bytes of a line: the text's number, the level's letter, the place of the granted name, the amount.
 fn write_line(out: &mut [u8], at: usize, pick: Pick, amount: Cents)
     requires { ⌜ at + lineSize ≤ length (now out) ⌝ }
     ensures { λ _. ⌜ Puts (now (out .entry)) at (viewBytes (viewIn pick) (amount .0)) (now (out .exit)) ⌝ }
 {
+    let level = pick.level;
+    let letter = letter_of(level);
     put_four(out, at, pick.text);
-    put_pair(out, at + 4, pick.level, pick.place);
+    put_pair(out, at + 4, letter, pick.place);
     put_signed_eight(out, at + 6, amount.0);
 }
 

@@ -8,7 +8,7 @@ use native.Mathlib.Omega.{arith}
 use lib.ListN.{length, take, drop, getD, set, length-set}
 use lib.Seq.{length-take-le, take-set-le, take-suc-set}
 use Rattle.rules.specs.Lists.{gather, consSome}
-use Rattle.rules.specs.Book.{Row, Record, rows, roundings, roundingFor}
+use Rattle.rules.specs.Book.{Row, Record, rows, roundings, roundingFor, letterOf, ruleNumber}
 use Rattle.rules.specs.Question.{Question}
 use Rattle.rules.specs.Lines.{Chosen}
 use Rattle.rules.proofs.ListLaws.{All}
@@ -79,8 +79,8 @@ module _ {b : List ℕ} {w : Window} {at end found : ℕ} (held : Held b at end)
             rounding-used told (found-used (row-found .is r there) stands) ∙ ap (λ (x : Row). roundingFor (x .rounding) (roundings (recordsLeft b 5))) (sym e) in
             subst (λ (x : Row). _≡_ {A = View} (record {
               place = place;
-              level = row .level;
-              rule = row .rule;
+              level = letterOf (row .level);
+              rule = ruleNumber (row .rule);
               text = row .text;
               value = row .value;
               currency = row .currency .0 ∷ row .currency .1 ∷ row .currency .2 ∷ [];
@@ -89,8 +89,8 @@ module _ {b : List ℕ} {w : Window} {at end found : ℕ} (held : Held b at end)
             (viewOf (roundings (recordsLeft b 5)) (record { place = place; row = x }))) e
             (λ i. record {
               place = place;
-              level = row .level;
-              rule = row .rule;
+              level = letterOf (row .level);
+              rule = ruleNumber (row .rule);
               text = row .text;
               value = row .value;
               currency = row .currency .0 ∷ row .currency .1 ∷ row .currency .2 ∷ [];

@@ -13,7 +13,9 @@ use lookup::roundings::rounding_at;
 use lookup::roundings::rounding_places;
 use rules::Cents;
 use rules::Currency;
+use rules::Level;
 use rules::Rounding;
+use rules::Rule;
 use rules::Value;
 use rules::Way;
 use survey::window::Window;
@@ -29,8 +31,8 @@ pub struct Picks {
 
 const NONE: Pick = Pick {
     place: 0,
-    level: 0,
-    rule: 0,
+    level: Level::Base,
+    rule: Rule::OfBase,
     text: 0,
     value: Value::Fixed(Cents(0)),
     currency: Currency(0, 0, 0),
@@ -53,12 +55,14 @@ fn row_pick(b: &[u8], window: Window, at: usize, end: usize, place: u8, found: u
     let row = records::row_of(&b[at..end]);
     let to = window.to;
     let rounding = rounding_at(&b[..to], found);
+    let level = row.level;
+    let rule = row.rule;
     let value = row.value;
     let currency = row.currency;
     Pick {
         place,
-        level: row.level,
-        rule: row.rule,
+        level,
+        rule,
         text: row.text,
         value,
         currency,

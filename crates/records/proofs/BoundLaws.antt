@@ -29,18 +29,18 @@ gives-price =
     gives-field (name 1 40) _ (gives-any (name 1 40)) λ article _.
     gives-field (name 0 20) _ (gives-any (name 0 20)) λ condition _.
     gives-field (oneOf (sale ∷ purchase ∷ [])) _ (gives-any (oneOf (sale ∷ purchase ∷ []))) λ sort _.
-    gives-field (oneOf (base ∷ surcharge ∷ discount ∷ [])) _ (gives-any (oneOf (base ∷ surcharge ∷ discount ∷ []))) λ level _.
-    gives-field (oneOf (1 ∷ 2 ∷ [])) _ (gives-any (oneOf (1 ∷ 2 ∷ []))) λ rule _.
+    gives-field (oneOf (base ∷ surcharge ∷ discount ∷ [])) _ (gives-such byte (λ b. any (eqb b) (base ∷ surcharge ∷ discount ∷ []))) λ level h₁.
+    gives-field (oneOf (1 ∷ 2 ∷ [])) _ (gives-such byte (λ b. any (eqb b) (1 ∷ 2 ∷ []))) λ rule h₂.
     gives-field (number 4) _ (gives-any (number 4)) λ text _.
     gives-field (oneOf (0 ∷ 1 ∷ [])) _ (gives-any (oneOf (0 ∷ 1 ∷ []))) λ fixed _.
     gives-field (signed 4) _ (gives-any (signed 4)) λ v _.
-    gives-field _ _ (gives-if (λ (u : Unit {0}). inBounds (valueOf fixed v)) tt) λ u h.
+    gives-field _ _ (gives-if (λ (u : Unit {0}). inBounds (valueOf fixed v)) tt) λ u h₃.
     gives-field (bytes 3 such capitals) _ (gives-any (bytes 3 such capitals)) λ currency _.
     gives-field (number 4) _ (gives-any (number 4)) λ from _.
     gives-field (number 4) _ (gives-any (number 4)) λ to _.
     gives-field (number 4) _ (gives-any (number 4)) λ upTo _.
     gives-field (number 2) _ (gives-any (number 2)) λ rounding _.
-    gives-value _ h
+    gives-value _ (record { level = h₁; rule = h₂; value = h₃ })
 
 gives-rounding : Gives roundingBody Bounded
 gives-rounding =

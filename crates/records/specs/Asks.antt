@@ -4,8 +4,9 @@ use mathlib.Core.Path.{_≡_}
 use mathlib.Core.List.{List}
 use mathlib.Core.Bool.{true}
 use mathlib.Core.Option.{some}
+use lib.Dec.{eqb}
 use lib.ListN.{length, getD}
-use Rattle.rules.specs.Lists.{isSome}
+use Rattle.rules.specs.Lists.{any, isSome}
 use Rattle.rules.specs.Layout.{whole}
 use Rattle.rules.specs.Book.{Record, SchemeRecord}
 use Rattle.rules.specs.BookLayout.{kinded}
@@ -34,3 +35,7 @@ pub record SchemeNames (t : List ℕ) (a b p : ℕ) : Type 0 where
   pub high : b + 1 ≤ p
   pub long : p + 4 ≡ length t
   pub is : whole kinded t ≡ some (SchemeRecord (schemeAt t 1 a b p))
+
+-- the byte b is one of these
+pub record OneOf (bs : List ℕ) (b : ℕ) : Type 0 where
+  pub is : any (eqb b) bs ≡ true

@@ -4,13 +4,17 @@ use mathlib.Core.Path.{_≡_}
 use mathlib.Core.List.{List, [], _∷_, _++_}
 use mathlib.Core.Bool.{true}
 use mathlib.Core.Option.{some}
+use lib.Dec.{eqb}
 use lib.ListN.{length, take, drop, getD}
 use lib.IntN.{ℤ, pos, natAbs}
+use Rattle.rules.specs.Lists.{any}
 use Rattle.rules.specs.Layout.{whole}
-use Rattle.rules.specs.Book.{Record, ArticleRecord, PriceRecord, RoundingRecord, PackagingRecord, SchemeRecord, Article, Row, Pack, Scheme}
+use Rattle.rules.specs.Book.{Record, ArticleRecord, PriceRecord, RoundingRecord, PackagingRecord, SchemeRecord, Article, Row, Pack, Scheme, base, surcharge, discount, letterOf, ruleNumber}
 use Rattle.rules.specs.BookLayout.{kinded, valueOf, inBounds, wayOf, zeroUnlessPresent}
 use Rattle.rules.specs.Amounts.{SoundRounding}
 use Rattle.rules.specs.declared.Part.{Part}
+use Rattle.rules.specs.declared.Level.{Level}
+use Rattle.rules.specs.declared.Rule.{Rule}
 use Rattle.rules.specs.declared.Value.{Value}
 use Rattle.rules.specs.declared.Way.{Way}
 use Rattle.rules.specs.declared.PriceRow.{PriceRow}
@@ -26,6 +30,11 @@ abbrev pub bytesIn : List ℕ → Part → List ℕ
 bytesIn t p = take (p .size) (drop (p .at) t)
 
 -- ---- the bounds of a record's numbers
+
+pub record RowBounds (r : Row) : Type 0 where
+  pub level : any (eqb (r .level)) (base ∷ surcharge ∷ discount ∷ []) ≡ true
+  pub rule : any (eqb (r .rule)) (1 ∷ 2 ∷ []) ≡ true
+  pub value : inBounds (r .value) ≡ true
 
 pub record RoundingBounds (r : Rounding) : Type 0 where
   pub number-low : 1 ≤ r .number
@@ -49,7 +58,7 @@ pub record PackBounds (p : Pack) : Type 0 where
 
 abbrev pub Bounded : Record → Type 0
 Bounded (ArticleRecord a) = Unit {0}
-Bounded (PriceRecord r) = inBounds (r .value) ≡ true
+Bounded (PriceRecord r) = RowBounds r
 Bounded (RoundingRecord r) = RoundingBounds r
 Bounded (PackagingRecord p) = PackBounds p
 Bounded (SchemeRecord s) = SchemeBounds s
@@ -72,8 +81,8 @@ rowIn t r = record {
   article = bytesIn t (r .article);
   condition = bytesIn t (r .condition);
   sort = r .sort;
-  level = r .level;
-  rule = r .rule;
+  level = letterOf (r .level);
+  rule = ruleNumber (r .rule);
   text = r .text;
   value = r .value;
   currency = r .currency .0 ∷ r .currency .1 ∷ r .currency .2 ∷ [];
@@ -82,6 +91,13 @@ rowIn t r = record {
   upTo = r .upto;
   rounding = r .rounding;
 }
+
+-- `r` is the level of this letter, and the rule of this number
+pub record LevelIs (letter : ℕ) (r : Level) : Type 0 where
+  pub is : letter ≡ letterOf r
+
+pub record RuleIs (number : ℕ) (r : Rule) : Type 0 where
+  pub is : number ≡ ruleNumber r
 
 -- the value behind the names that end at p
 pub record ValueIs (t : List ℕ) (p : ℕ) (r : Value) : Type 0 where

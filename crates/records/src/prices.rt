@@ -7,19 +7,45 @@ use layout::numbers::signed_four_at;
 use rules::Cents;
 use rules::Currency;
 use rules::Hundredths;
+use rules::Level;
 use rules::Part;
 use rules::PriceRow;
+use rules::Rule;
 use rules::Value;
 ghost use Prim.Native.Nat.{_+_, _≤_};
+ghost use mathlib.Core.List.{[], _∷_};
 ghost use lib.ListN.{length};
 ghost use Rattle.rules.specs.Layout.{whole};
-ghost use Rattle.rules.specs.Book.{PriceRecord};
+ghost use Rattle.rules.specs.Book.{PriceRecord, base, surcharge, discount};
 ghost use Rattle.rules.specs.BookLayout.{kinded};
 ghost use Rattle.layout.specs.Ensures.{Says};
 ghost use Rattle.kinds.specs.Fields.{rowAt};
-ghost use Rattle.records.specs.Asks.{Accepted, OfKind, TwoNames};
+ghost use Rattle.records.specs.Asks.{Accepted, OfKind, TwoNames, OneOf};
 ghost use Rattle.records.specs.Tests.{isRow};
-ghost use Rattle.records.specs.Ensures.{ValueIs, RowIs};
+ghost use Rattle.records.specs.Ensures.{LevelIs, RuleIs, ValueIs, RowIs};
+
+fn level_of(letter: u8) -> Level
+    requires { ⌜ OneOf (base ∷ surcharge ∷ discount ∷ []) letter ⌝ }
+    ensures { λ r. ⌜ LevelIs letter r ⌝ }
+{
+    if letter == b'B' {
+        return Level::Base;
+    }
+    if letter == b'X' {
+        return Level::Surcharge;
+    }
+    Level::Discount
+}
+
+fn rule_of(number: u8) -> Rule
+    requires { ⌜ OneOf (1 ∷ 2 ∷ []) number ⌝ }
+    ensures { λ r. ⌜ RuleIs number r ⌝ }
+{
+    if number == 1 {
+        return Rule::OfBase;
+    }
+    Rule::OfTotal
+}
 
 // The value behind the names of a price: a flag, and four bytes with a sign.
 fn value_at(t: &[u8], terms: usize) -> Value
@@ -47,14 +73,16 @@ fn row_from(t: &[u8], condition: usize, terms: usize) -> PriceRow
         at: condition + 1,
         size: terms - (condition + 1),
     };
+    let level = level_of(t[terms + 1]);
+    let rule = rule_of(t[terms + 2]);
     let value = value_at(t, terms);
     let currency = Currency(t[terms + 12], t[terms + 13], t[terms + 14]);
     PriceRow {
         article,
         condition: named,
         sort: t[terms],
-        level: t[terms + 1],
-        rule: t[terms + 2],
+        level,
+        rule,
         text: word(t, terms + 3),
         value,
         currency,

@@ -1,5 +1,6 @@
 -- "The price book": what its records hold, and finding the record that counts.
--- `Value`, `Way` and `Rounding` are the code's own types; names are lists of bytes here, and places in the book in the code.
+-- `Value`, `Way` and `Rounding` are the code's own types; names are lists of bytes here, and places in the book in the code. Levels are
+-- letters here and rules numbers, as on the paper, and both are enums in the code.
 use Prim.Native.Nat.{ℕ}
 use mathlib.Core.Bool.{_&&_}
 use mathlib.Core.List.{List}
@@ -8,6 +9,10 @@ use lib.Dec.{eqb}
 use lib.IntN.{ℤ, pos}
 use Rattle.rules.specs.Lists.{same, keep, first, gather, ifSome}
 use Rattle.rules.specs.Letters.{text, letter}
+use Rattle.rules.specs.declared.Level.{Level}
+use Rattle.rules.specs.declared.Level.the-variants.{Base, Surcharge, Discount}
+use Rattle.rules.specs.declared.Rule.{Rule}
+use Rattle.rules.specs.declared.Rule.the-variants.{OfBase, OfTotal}
 use Rattle.rules.specs.declared.Value.{Value}
 use Rattle.rules.specs.declared.Way.the-variants.{Commercial}
 use Rattle.rules.specs.declared.Rounding.{Rounding}
@@ -28,6 +33,16 @@ surcharge = letter "X"
 
 abbrev pub discount : ℕ
 discount = letter "D"
+
+-- the letter of a level in the code, and the number of a rule
+abbrev pub letterOf : Level → ℕ
+letterOf Base = base
+letterOf Surcharge = surcharge
+letterOf Discount = discount
+
+abbrev pub ruleNumber : Rule → ℕ
+ruleNumber OfBase = 1
+ruleNumber OfTotal = 2
 
 -- ---- the five kinds
 

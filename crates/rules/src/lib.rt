@@ -18,6 +18,19 @@ pub enum Value {
     Percent(Hundredths),
 }
 
+// The levels of a price, in the order of its lines.
+pub enum Level {
+    Base,
+    Surcharge,
+    Discount,
+}
+
+// What a percentage is of: the sum of the base lines, or the running total before it.
+pub enum Rule {
+    OfBase,
+    OfTotal,
+}
+
 // Three capitals; or three zeros, where there is none.
 #[repr(C)]
 pub struct Currency(pub u8, pub u8, pub u8);
@@ -33,8 +46,8 @@ pub struct PriceRow {
     pub article: Part,
     pub condition: Part,
     pub sort: u8,
-    pub level: u8,
-    pub rule: u8,
+    pub level: Level,
+    pub rule: Rule,
     pub text: u32,
     pub value: Value,
     pub currency: Currency,

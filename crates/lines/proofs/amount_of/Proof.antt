@@ -8,18 +8,18 @@ use Rattle.lines.proofs.amount_of.Tie as tie
 
 exact-requires : tie.Need-exact-requires
 exact-requires c κs =
-    let s = c .before .before .before in
-    share-of (viewIn (s .args .pick)) _ _ (s .pre) _ _ (c .either .ensures)
+    let s = c .before .before in
+    share-of (viewIn (s .args .pick)) _ _ (s .pre) _ _ (c .share-of .ensures)
 
 rounded-requires : tie.Need-rounded-requires
 rounded-requires c κs =
-    let s = c .before .before .before .before in
-    can-round (viewIn (s .args .pick)) _ _ (s .pre) _ _ (c .before .either .ensures) _ (c .exact .ensures)
+    let s = c .before .before .before in
+    can-round (viewIn (s .args .pick)) _ _ (s .pre) _ _ (c .before .share-of .ensures) _ (c .exact .ensures)
 
 returns : tie.Need-returns
 returns c =
-    let s = c .before .before .before .before .before in
-    line-is (viewIn (s .args .pick)) _ _ (s .pre) _ _ (c .before .before .either .ensures) _ (c .before .exact .ensures) refl _ (c .rounded .ensures)
+    let s = c .before .before .before .before in
+    line-is (viewIn (s .args .pick)) _ _ (s .pre) _ _ (c .before .before .share-of .ensures) _ (c .before .exact .ensures) refl _ (c .rounded .ensures)
 
 pub amount-of-spec : {M : Type 1} → statement M
 amount-of-spec = tie.close (tie.spec (λ c κs. search needs) exact-requires rounded-requires returns)

@@ -22,6 +22,7 @@ first-base-spec =
     (λ c. search laws)  -- loop-holds
     (λ c. search needs)  -- mul-pick
     (λ c. search needs)  -- array-copy-out-pick
+    (λ c κs. search needs)  -- is-base-requires
     (λ c. search laws)  -- returns
     (λ c. search needs)  -- add-i
     (λ c. search needs)  -- loop-less

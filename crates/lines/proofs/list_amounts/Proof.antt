@@ -3,7 +3,7 @@ use Prim.Native.Nat.{_-_}
 use mathlib.Core.Path.{sym, _∙_}
 use native.Mathlib.Omega.{arith}
 use borrow.Author.Needs.{needs}
-use Rattle.lines.proofs.AmountLaws.{Listing, can-add, list-start, list-end, list-line, list-out, list-again}
+use Rattle.lines.proofs.AmountLaws.{one-said, Listing, can-add, list-start, list-end, list-line, list-out, list-again}
 use Rattle.lines.proofs.list_amounts.Statement.{statement}
 use Rattle.lines.proofs.list_amounts.Tie as tie
 
@@ -33,12 +33,13 @@ returns c =
 
 loop-again : tie.Need-loop-again Inv-loop μ-loop
 loop-again c =
-    let next = c .before .before .before in
+    let based = c .before in
+    let next = based .before .before in
     let added = next .before .before in
     let amount = added .before in
     let l = amount .before .before .before in
     let r = amount .amount-of .result in
-    list-again _ _ _ _ _ _ (l .loop .inv) (omega arith) r (amount .amount-of .ensures) (next .next .given .0 .0) (sym (added .add-line .ensures) ∙ next .next .given .1) _ (c .either .ensures)
+    list-again _ _ _ _ _ _ (l .loop .inv) (omega arith) r (amount .amount-of .ensures) (next .next .given .0 .0) (sym (added .add-line .ensures) ∙ next .next .given .1) _ (one-said (based .is-base .ensures) (c .either .ensures))
 
 returns-2 : tie.Need-returns-2 Inv-loop μ-loop
 returns-2 c = list-end _ _ _ _ _ _ (c .before .loop .inv) (omega arith)
@@ -57,6 +58,7 @@ list-amounts-spec =
     (λ c. search needs)  -- enum-known-next
     (λ c. search needs)  -- enum-told
     returns
+    (λ c κs. search needs)  -- is-base-requires
     (λ c κs. search needs)  -- either-requires
     (λ c. search needs)  -- mul-listed
     (λ c. omega arith)  -- array-set-from-listed

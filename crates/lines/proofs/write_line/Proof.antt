@@ -13,14 +13,16 @@ returns c =
     let eight = c .before .before in
     let pair = eight .before .before .before .before .before in
     let four = pair .before .before .before .before in
-    let s = four .before .before .before in
-    line-puts (viewIn (s .args .pick)) (s .args .amount .0) (four .put-four .ensures) (pair .put-pair .ensures)
+    let letter = four .before .before in
+    let s = letter .before .before in
+    line-puts (viewIn (s .args .pick)) (s .args .amount .0) (letter .letter-of .ensures) (four .put-four .ensures) (pair .put-pair .ensures)
     (let fits : SFits w64 (s .args .amount .0) = search needs in simp (toZ-ofZ, fits) at (eight .put-signed-eight .ensures))
 
 pub write-line-spec : {M : Type 1} → statement M
 write-line-spec =
     tie.close
     (tie.spec
+    (λ c κs. search needs)  -- letter-of-requires
     (λ c κs. search needs)  -- put-four-requires
     (λ c. search needs)  -- add-put-pair
     (λ c κs. search needs)  -- put-pair-requires

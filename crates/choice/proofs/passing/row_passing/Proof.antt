@@ -10,7 +10,7 @@ pub row-passing-spec : {M : Type 1} → statement M
 row-passing-spec =
     tie.close
     (tie.spec
-    (λ c κs. search laws)  -- is-percent-requires
+    (λ c κs. search laws)  -- is-percent-base-requires
     (λ c κs. search laws)  -- holds-requires
     (λ c. search laws)  -- returns
     (λ c κs. search laws)  -- slot-of-requires

@@ -15,6 +15,5 @@ slot-of-spec =
     (λ c. search needs)  -- part-place-of-start
     (λ c. search needs)  -- part-place-of-end
     (λ c κs. search laws)  -- place-of-requires
-    (λ c κs. search laws)  -- level-of-requires
     (λ c κs. search laws)  -- slot-at-requires
     (λ c. search laws))  -- returns

@@ -1,10 +1,10 @@
 -- `records::prices::row_from` meets its contract: each field at its place, by `row-is`.
 use borrow.Author.Needs.{needs}
-use Rattle.records.proofs.PriceLaws.{row-is}
+use Rattle.records.proofs.PriceLaws.{row-level, row-rule, row-is}
 use Rattle.records.proofs.prices.row_from.Statement.{statement}
 use Rattle.records.proofs.prices.row_from.Tie as tie
 
-ruleset laws = (needs, row-is)
+ruleset laws = (needs, row-level, row-rule, row-is)
 
 pub row-from-spec : {M : Type 1} → statement M
 row-from-spec =
@@ -14,6 +14,12 @@ row-from-spec =
     (λ c. search needs)  -- add-t8
     (λ c. search needs)  -- add-t9
     (λ c. search needs)  -- sub-t10
+    (λ c. search needs)  -- add-level-of
+    (λ c. search needs)  -- shared-slice-read-level-of
+    (λ c κs. search laws)  -- level-of-requires
+    (λ c. search needs)  -- add-rule-of
+    (λ c. search needs)  -- shared-slice-read-rule-of
+    (λ c κs. search laws)  -- rule-of-requires
     (λ c κs. search laws)  -- value-at-requires
     (λ c. search needs)  -- add-t8-2
     (λ c. search needs)  -- shared-slice-read-t12
@@ -22,10 +28,6 @@ row-from-spec =
     (λ c. search needs)  -- add-t9-2
     (λ c. search needs)  -- shared-slice-read-t16
     (λ c. search needs)  -- shared-slice-read-t12-2
-    (λ c. search needs)  -- add-t8-3
-    (λ c. search needs)  -- shared-slice-read-t16-2
-    (λ c. search needs)  -- add-t9-3
-    (λ c. search needs)  -- shared-slice-read-t14-2
     (λ c. search needs)  -- add-word
     (λ c κs. search laws)  -- word-requires
     (λ c. search needs)  -- add-word-2
