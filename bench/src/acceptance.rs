@@ -2,7 +2,7 @@
 
 use crate::books::{self, Book, ALL_KINDS, LONG, MOST_BYTES, PRICES, SHORT};
 use crate::dice::Dice;
-use crate::timing::{self, Row, Subject};
+use crate::timing::{self, Pass, Row, Subject};
 use crate::{library, reference};
 use std::time::Duration;
 
@@ -54,7 +54,7 @@ fn same(bytes: &[u8]) -> bool {
 
 fn time(books: &[(&str, Book)]) -> Vec<Row> {
     let subjects = [
-        Subject::new(1, |book| book.iter().map(|&byte| u64::from(byte)).sum()),
+        Subject::new(1, timing::byte_sum),
         Subject::new(1, |book| reference::book_ok(book).into()),
         Subject::new(1, |book| library::book_ok(book).into()),
     ];
@@ -70,6 +70,7 @@ fn row(what: &str, book: &Book, times: &[Duration]) -> Row {
         input: what.to_string(),
         size: format!("bytes {bytes}, records {}", book.records),
         times,
+        pass: Some(Pass { records: book.records, time: times[0] }),
         beside: format!("{speeds} MB/s"),
     }
 }

@@ -3,6 +3,7 @@
 use crate::dice::Dice;
 
 pub const MOST_BYTES: usize = 4_194_304;
+pub const HEAD: usize = 5;
 
 /// How long names are: of articles, of conditions.
 #[derive(Clone, Copy)]
@@ -38,6 +39,17 @@ pub fn book(dice: &mut Dice, kinds: &[u8], names: Names, records: usize, most: u
     }
     mend_length(&mut bytes);
     Book { bytes, records: made }
+}
+
+/// How many records a good book has.
+pub fn count(book: &[u8]) -> usize {
+    let mut rest = &book[HEAD..];
+    let mut records = 0;
+    while let [high, low, ..] = *rest {
+        rest = &rest[2 + usize::from(u16::from_be_bytes([high, low]))..];
+        records += 1;
+    }
+    records
 }
 
 /// A small book, usually broken somewhere. Half of the time its length is right all the same, so that a reader has to look inside.

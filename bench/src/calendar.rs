@@ -1,9 +1,10 @@
 //! The price calendar: the library beside its acceptance alone, and beside the second implementation, which prices day after day.
 
+use crate::books;
 use crate::catalog::{self, Catalog, Manner};
 use crate::dice::Dice;
 use crate::library;
-use crate::timing::{self, Row, Subject};
+use crate::timing::{self, Pass, Row, Subject};
 use second::book::Book;
 use second::days::{next_day, period};
 use std::collections::BTreeSet;
@@ -48,6 +49,7 @@ fn time(what: &str, book: &Catalog, article: &str, end: u32, rounds: usize) -> R
     let question = question.bytes();
     let (stretches, by_second) = same(&book.bytes, &question, end);
     let subjects = [
+        Subject::new(1, timing::byte_sum),
         Subject::new(1, |book| library::book_ok(book).into()),
         Subject::new(1, |book| library::calendar(book, &question, end, &mut [0; MOST_BYTES]).length),
     ];
@@ -57,7 +59,8 @@ fn time(what: &str, book: &Catalog, article: &str, end: u32, rounds: usize) -> R
         call: "calendar",
         input: what.to_string(),
         size: format!("days {days}, change days {}, stretches {stretches}", change_days(&book.bytes, article, end)),
-        times: [times[0], by_second, times[1]],
+        times: [times[1], by_second, times[2]],
+        pass: Some(Pass { records: books::count(&book.bytes), time: times[0] }),
         beside: String::new(),
     }
 }

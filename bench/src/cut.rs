@@ -1,5 +1,6 @@
 //! Two hundred prices from one large book, and the same from books that were cut from it beforehand, one for each article.
 
+use crate::books::HEAD;
 use crate::catalog::{self, Catalog, Manner};
 use crate::dice::Dice;
 use crate::library;
@@ -11,7 +12,6 @@ const GRANTED: usize = 5;
 const ROUNDS: usize = 10;
 const MOST_LINES: usize = 99 * 14;
 
-const HEAD: usize = 5;
 const ARTICLE: u8 = 1;
 const PRICE: u8 = 2;
 
@@ -35,6 +35,7 @@ pub fn measure(dice: &mut Dice) -> Vec<Row> {
         input: format!("{PRICES} prices, one book or a book for each article"),
         size: format!("price rows {ROWS}, names {GRANTED}"),
         times: [times[0], times[1], times[2]],
+        pass: None,
         beside: "same answers and lines".to_string(),
     }]
 }

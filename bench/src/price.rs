@@ -1,9 +1,10 @@
 //! The price of an article: the library beside its acceptance alone, and beside the second implementation in Rust.
 
+use crate::books;
 use crate::catalog::{self, Catalog, Manner};
 use crate::dice::Dice;
 use crate::library;
-use crate::timing::{self, Row, Subject};
+use crate::timing::{self, Pass, Row, Subject};
 use second::PriceAnswer;
 use std::time::Duration;
 
@@ -58,15 +59,15 @@ fn same(book: &[u8], question: &[u8]) -> PriceAnswer {
     answer
 }
 
-/// An article of a book, with a question for each number of granted names. The times are of acceptance, then for each question
-/// of the second implementation and of the library.
+/// An article of a book, with a question for each number of granted names. The times are of a byte sum, of acceptance, then for each
+/// question of the second implementation and of the library.
 struct Case<'a> {
     what: &'a str,
     price_rows: usize,
     book: &'a [u8],
     questions: [Vec<u8>; 3],
     lines: [u64; 3],
-    best: [Duration; 7],
+    best: [Duration; 8],
 }
 
 impl<'a> Case<'a> {
@@ -74,11 +75,11 @@ impl<'a> Case<'a> {
         let questions = GRANTED.map(|granted| catalog::question(article, granted).bytes());
         let lines = questions.each_ref().map(|question| same(&book.bytes, question).lines);
         assert!(!lines.contains(&0), "a question that is timed has no price");
-        Case { what, price_rows, book: &book.bytes, questions, lines, best: [Duration::MAX; 7] }
+        Case { what, price_rows, book: &book.bytes, questions, lines, best: [Duration::MAX; 8] }
     }
 
     fn lap(&mut self) {
-        let mut subjects = vec![Subject::new(1, |book| library::book_ok(book).into())];
+        let mut subjects = vec![Subject::new(1, timing::byte_sum), Subject::new(1, |book| library::book_ok(book).into())];
         for question in &self.questions {
             subjects.push(Subject::new(ROUNDS, |book| second::price(book, question, &mut [0; MOST_LINES]).lines));
             subjects.push(Subject::new(1, |book| library::price(book, question, &mut [0; MOST_LINES]).lines));
@@ -89,18 +90,18 @@ impl<'a> Case<'a> {
     }
 
     fn rows(&self) -> Vec<Row> {
-        self.best[1..].chunks(2).enumerate().map(|(index, pair)| self.row(index, pair[0], pair[1])).collect()
+        self.best[2..].chunks(2).enumerate().map(|(index, pair)| self.row(index, pair[0], pair[1])).collect()
     }
 
     fn row(&self, index: usize, by_second: Duration, by_library: Duration) -> Row {
-        let no_names = self.best[2];
-        let each = by_library.as_secs_f64() * 1e9 / self.price_rows as f64;
+        let no_names = self.best[3];
         Row {
             call: "price",
             input: self.what.to_string(),
             size: format!("price rows {}, names {}, lines {}", self.price_rows, GRANTED[index], self.lines[index]),
-            times: [self.best[0], by_second, by_library],
-            beside: format!("{each:.1} ns a row, {} of no names", timing::ratio(by_library, no_names)),
+            times: [self.best[1], by_second, by_library],
+            pass: Some(Pass { records: books::count(self.book), time: self.best[0] }),
+            beside: format!("{} of no names", timing::ratio(by_library, no_names)),
         }
     }
 }

@@ -32,25 +32,44 @@ pub fn best_times(subjects: &[Subject], input: &[u8], rounds: usize) -> Vec<Dura
     best
 }
 
-/// A row of the table of figures: what was timed on what, the times of a, b and c, and what else is to be said.
+/// A row of the table of figures: what was timed on what, the times of a, b and c, what a plain pass over the same book takes, and what
+/// else is to be said.
 pub struct Row {
     pub call: &'static str,
     pub input: String,
     pub size: String,
     pub times: [Duration; 3],
+    pub pass: Option<Pass>,
     pub beside: String,
+}
+
+/// A book's records, and the time of its byte sum.
+#[derive(Clone, Copy)]
+pub struct Pass {
+    pub records: usize,
+    pub time: Duration,
+}
+
+/// The plain pass: every byte is read once, and next to nothing is done with it.
+pub fn byte_sum(book: &[u8]) -> u64 {
+    book.iter().map(|&byte| u64::from(byte)).sum()
 }
 
 /// The table of all figures, in Markdown.
 pub fn print_table(rows: &[Row]) {
-    println!("\n| call | input | size | a | b | c | c/a | c/b | beside |");
-    println!("|---|---|---|---:|---:|---:|---:|---:|---|");
+    println!("\n| call | input | size | a | b | c | c/a | c/b | c, a record | c/pass | beside |");
+    println!("|---|---|---|---:|---:|---:|---:|---:|---:|---:|---|");
     for row in rows {
         let [a, b, c] = row.times;
         let times = row.times.map(milliseconds).join(" | ");
         let (by_a, by_b) = (ratio(c, a), ratio(c, b));
-        println!("| {} | {} | {} | {times} | {by_a} | {by_b} | {} |", row.call, row.input, row.size, row.beside);
+        let (each, by_pass) = row.pass.map_or_else(Default::default, |pass| (nanoseconds(c, pass.records), ratio(c, pass.time)));
+        println!("| {} | {} | {} | {times} | {by_a} | {by_b} | {each} | {by_pass} | {} |", row.call, row.input, row.size, row.beside);
     }
+}
+
+fn nanoseconds(time: Duration, records: usize) -> String {
+    format!("{:.1} ns", time.as_secs_f64() * 1e9 / records as f64)
 }
 
 fn milliseconds(time: Duration) -> String {
