@@ -21,6 +21,8 @@ use Rattle.layout.proofs.LayoutLaws.{andThen-some, then-rest, then-broken, then
 use Rattle.layout.proofs.FromLaws.{head-long, behind-head}
 use Rattle.layout.proofs.SequenceLaws.{repeated-step, repeated-broken, framed-at, framed-left}
 use Rattle.layout.specs.Records.{recordIn, recordsFrom}
+use Rattle.pairs.specs.Pairs.{Front}
+use Rattle.pairs.proofs.PairLaws.{front-part}
 use Rattle.book.specs.Ensures.{RecordEnd, Decides}
 
 -- ---- a record at a place
@@ -45,6 +47,10 @@ module _ (b : List ℕ) (at : ℕ) where
 
   pub record-short : at ≤ length b → length b - at < 2 → RecordEnd b at 0
   record-short g h = no-record (then-broken _ _ (number-cut b at 2 g (omega arith)) refl)
+
+  -- the bytes of a record, and all from its first on
+  pub record-front : {n : ℕ} → 2 ≤ length b - at → n ≤ length b - (at + 2) → Front (take (at + 2 + n - (at + 2)) (drop (at + 2) b)) (take (length b - (at + 2)) (drop (at + 2) b))
+  record-front {n} g h = front-part b (at + 2) (at + 2 + n - (at + 2)) (length b - (at + 2)) (omega arith) (omega arith)
 
   module _ {n top : ℕ} (size : Number (big (take 2 (drop at b))) top n) (g : 2 ≤ length b - at) where
     pub record-cut : length b - (at + 2) < n → RecordEnd b at 0

@@ -24,7 +24,11 @@ pub fn record_end(b: &[u8], at: usize) -> usize
         return 0;
     }
     let end = from + n;
-    if record_ok(&b[from..end]) { end } else { 0 }
+    if record_ok(&b[from..end], &b[from..]) {
+        end
+    } else {
+        0
+    }
 }
 
 // Whether b is a price book.

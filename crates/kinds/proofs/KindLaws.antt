@@ -16,9 +16,9 @@ use Rattle.rules.specs.BookLayout.{articleBody, priceBody, roundingBody, scheme
 use Rattle.layout.specs.Reads.{Reads, part, nameStop}
 use Rattle.layout.specs.Ensures.{Accepts, Number, Says, NameEnd}
 use Rattle.layout.proofs.LayoutLaws.{then-reads, such-reads, give-reads, if-reads, number-at, one-of-at, byte-reads, bytes-reads, number-reads, signed-reads, one-of-reads, body-as, taken-are, not-sized, sized-then, sized-give, sized-if, sized-such, sized-byte, sized-bytes, sized-number, sized-signed, sized-one-of}
-use Rattle.layout.proofs.NameLaws.{name-rest}
-use Rattle.pairs.specs.Pairs.{Names}
-use Rattle.pairs.proofs.PairLaws.{no-names, first-name, second-name, stop-low}
+use Rattle.layout.proofs.NameLaws.{name-rest, no-first, after-name}
+use Rattle.pairs.specs.Pairs.{Named}
+use Rattle.pairs.proofs.PairLaws.{shorter, too-long}
 use Rattle.kinds.specs.Fields.{numberAt, signedAt, articleAt, rowAt, roundingAt, schemeAt}
 use Rattle.kinds.specs.Ensures.{trimOk}
 
@@ -37,6 +37,10 @@ module _ {s : List ℕ} {at a : ℕ} (p : NameEnd 1 40 s at a) (h : 1 ≤ a) {b 
       go : Dec (b < length s) → Accepts (whole articleBody (drop at s)) (eqb b (length s))
       go (yes e) = rw (ne-eqb b (length s) (λ i. omega arith)) (article-no (λ i. omega arith))
       go (no e) = body-as articleBody article-reads (omega arith) (rw (lt-ltb 0 a h, lt-ltb 0 b g, eq-eqb b (length s) (omega (arith, q .fits))))
+
+-- behind both names
+pub article-all : {s : List ℕ} {at b : ℕ} → Named s at b → Accepts (whole articleBody (drop at s)) (eqb b (length s))
+article-all p = article-is (p .first) (omega arith) (p .second) (omega (arith, p .low))
 
 -- ---- price
 module _ {s : List ℕ} {at a : ℕ} (p : NameEnd 1 40 s at a) (h : 1 ≤ a) {b : ℕ} (q : NameEnd 0 20 s a b) (g : 1 ≤ b) where
@@ -66,14 +70,11 @@ module _ {s : List ℕ} {at a : ℕ} (p : NameEnd 1 40 s at a) (h : 1 ≤ a) {b 
         (then-reads _ _ (number-reads s b 2 27 (omega arith)) give-reads)))))))))))))
 
 -- behind both names
-module _ {s : List ℕ} {at b : ℕ} (p : Names s at b) where
-  pub price-none : b < 1 → Accepts (whole priceBody (drop at s)) false
-  price-none h = no-names p _ h
+module _ {s : List ℕ} {at b : ℕ} (p : Named s at b) where
+  pub price-size : (length s - b ≡ 29 → ⊥) → Accepts (whole priceBody (drop at s)) false
+  price-size = price-no (p .first) (omega arith) (p .second) (omega (arith, p .low))
 
-  pub price-size : 1 ≤ b → (length s - b ≡ 29 → ⊥) → Accepts (whole priceBody (drop at s)) false
-  price-size g = price-no (first-name p g) (stop-low s at) (second-name p g) g
-
-  module _ (g : 1 ≤ b) (n : length s - b ≡ 29) where
+  module _ (n : length s - b ≡ 29) where
     pub price-is : {t₁ t₂ t₃ t₄ t₅ t₆ t₇ t₈ : Bool} {v : ℕ}
         → Says (any (eqb (getD s b 0)) (sale ∷ purchase ∷ [])) t₁
         → Says (any (eqb (getD s (b + 1) 0)) (base ∷ surcharge ∷ discount ∷ [])) t₂
@@ -84,7 +85,8 @@ module _ {s : List ℕ} {at b : ℕ} (p : Names s at b) where
         → Says (between 65 90 (getD s (b + 12) 0)) t₆ → Says (between 65 90 (getD s (b + 13) 0)) t₇ → Says (between 65 90 (getD s (b + 14) 0)) t₈
         → Accepts (whole priceBody (drop at s)) (t₁ && t₂ && t₃ && t₄ && t₅ && t₆ && t₇ && t₈)
     price-is {t₅} {t₆} {t₇} {t₈} e₁ e₂ e₃ e₄ e e₅ e₆ e₇ e₈ =
-        body-as priceBody (price-reads (first-name p g) (stop-low s at) (second-name p g) g n) (omega arith) (rw (lt-ltb 0 (nameStop s at) (stop-low s at), lt-ltb 0 b g, e₁ .is, e₂ .is, e₃ .is, e₄ .is, value, caps) (simp (and-assoc, and-true)))
+        let g : 1 ≤ b = omega (arith, p .low) in
+        body-as priceBody (price-reads (p .first) (omega arith) (p .second) g n) (omega arith) (rw (lt-ltb 0 (nameStop s at) (omega arith), lt-ltb 0 b g, e₁ .is, e₂ .is, e₃ .is, e₄ .is, value, caps) (simp (and-assoc, and-true)))
       where
         caps : capitals (take 3 (drop (b + 12) s)) ≡ (t₆ && (t₇ && (t₈ && true)))
         caps = rw (taken-are s b 3 12 (omega arith), e₆ .is, e₇ .is, e₈ .is)
@@ -148,3 +150,41 @@ module _ {s : List ℕ} {at a : ℕ} (p : NameEnd 1 20 s at a) (h : 1 ≤ a) {b 
         → Accepts (whole schemeBody (drop at s)) (t₁ && t₂ && t₃ && t₄ && t₅)
     scheme-is e₁ e₂ e₃ e₄ e₅ =
         body-as schemeBody scheme-reads (omega arith) (rw (lt-ltb 0 a h, lt-ltb 0 b g, lt-ltb 0 c k, e₁ .is, e₂ .is, e₃ .is, e₄ .is, e₅ .is) (simp (and-assoc, and-true)))
+
+-- behind both names, where the first has at most 20 bytes and the second at most 8
+module _ {s : List ℕ} {b : ℕ} (p : Named s 1 b) where
+  pub scheme-id : 20 < getD s 1 0 → Accepts (whole schemeBody (drop 1 s)) false
+  scheme-id h = no-first (too-long (p .first) (omega arith) 20 h) _ (omega arith)
+
+  module _ (h : getD s 1 0 ≤ 20) {w : ℕ} (size : Number (getD s 1 0) 256 w) where
+    id-there : NameEnd 1 20 s 1 (nameStop s 1)
+    id-there = shorter (p .first) (omega arith) 20 h
+
+    second-byte : getD s (2 + w) 0 ≡ getD s (nameStop s 1) 0
+    second-byte = ap (λ x. getD s (2 + x) 0) (size .is)
+
+    pub scheme-numbers : 8 < getD s (2 + w) 0 → Accepts (whole schemeBody (drop 1 s)) false
+    scheme-numbers k = after-name id-there _ (omega arith) (no-first (too-long (p .second) (omega (arith, p .low)) 8 (omega (arith, second-byte))) _ (omega arith))
+
+    module _ (k : getD s (2 + w) 0 ≤ 8) {c : ℕ} (r : NameEnd 0 8 s b c) where
+      numbers-there : NameEnd 0 8 s (nameStop s 1) b
+      numbers-there = shorter (p .second) (omega (arith, p .low)) 8 (omega (arith, second-byte))
+
+      -- a name that is there ends behind its place
+      pub scheme-values : c ≤ b → Accepts (whole schemeBody (drop 1 s)) false
+      scheme-values l = after-name id-there _ (omega arith) (after-name numbers-there _ (omega (arith, p .low)) (no-first r _ (go (decLt 0 c))))
+        where
+          go : Dec (0 < c) → c < 1
+          go (yes g) = absurd (omega (arith, r .low g))
+          go (no g) = omega arith
+
+      module _ (l : b < c) where
+        pub scheme-size : (length s - c ≡ 4 → ⊥) → Accepts (whole schemeBody (drop 1 s)) false
+        scheme-size = scheme-no id-there (omega arith) numbers-there (omega (arith, p .low)) r (omega arith)
+
+        pub scheme-all : {t₁ t₂ t₃ t₄ t₅ : Bool} → length s - c ≡ 4 → Says (any (eqb (getD s c 0)) (0 ∷ 1 ∷ [])) t₁
+            → Says (eqb (getD s (c + 1) 0) 0 || nameByte (getD s (c + 1) 0)) t₂ → Says (eqb (getD s (c + 2) 0) 0 || nameByte (getD s (c + 2) 0)) t₃
+            → Says (any (eqb (getD s (c + 3) 0)) (0 ∷ 1 ∷ [])) t₄
+            → Says (trimOk (part s (b + 1) c) (getD s (c + 1) 0) (getD s (c + 2) 0) (getD s (c + 3) 0)) t₅
+            → Accepts (whole schemeBody (drop 1 s)) (t₁ && t₂ && t₃ && t₄ && t₅)
+        scheme-all n e₁ e₂ e₃ e₄ e₅ = scheme-is id-there (omega arith) numbers-there (omega (arith, p .low)) r (omega arith) n e₁ e₂ e₃ e₄ e₅

@@ -1,5 +1,5 @@
-// The bodies of articles, prices, roundings and schemes, each from `at` to the end of its record.
-// A name's end is the place of the field behind it.
+// The bodies of articles, prices, roundings and schemes, each from the byte behind the kind to the end of its record. That of a rounding has no
+// names; of the others each is handed the end of its first two, which is the place of the field behind them.
 use layout::names::is_name_byte;
 use layout::names::name_end;
 use layout::numbers::four_at;
@@ -8,7 +8,7 @@ use layout::numbers::is_either;
 use layout::numbers::is_of_three;
 use layout::numbers::near_zero;
 use layout::numbers::two_at;
-use pairs::names_end;
+use layout::numbers::wide;
 ghost use Prim.Native.Nat.{_≤_, _<_};
 ghost use mathlib.Core.Bool.{_||_};
 ghost use mathlib.Core.List.{[], _∷_};
@@ -19,20 +19,13 @@ ghost use Rattle.rules.specs.Layout.{whole};
 ghost use Rattle.rules.specs.Bytes.{signedOf, nameByte};
 ghost use Rattle.rules.specs.BookLayout.{articleBody, priceBody, roundingBody, schemeBody, valueOf, inBounds, given};
 ghost use Rattle.layout.specs.Ensures.{Accepts, Number, Says};
+ghost use Rattle.pairs.specs.Pairs.{Named};
 ghost use Rattle.kinds.specs.Ensures.{trimOk};
 
-pub fn article_ok(s: &[u8], at: usize) -> bool
-    requires { ⌜ at ≤ length (now s) ⌝ }
-    ensures { λ r. ⌜ Accepts (whole articleBody (drop at (now (s .entry)))) r ⌝ }
+pub fn article_ok(s: &[u8], end: usize) -> bool
+    requires { ⌜ Named (now s) 1 end ⌝ }
+    ensures { λ r. ⌜ Accepts (whole articleBody (drop 1 (now (s .entry)))) r ⌝ }
 {
-    let scheme = name_end(s, at, 1, 40);
-    if scheme < 1 {
-        return false;
-    }
-    let end = name_end(s, scheme, 0, 20);
-    if end < 1 {
-        return false;
-    }
     end == s.len()
 }
 
@@ -47,14 +40,10 @@ fn value_ok(fixed: u8, n: usize) -> bool
     near_zero(n, 100_000_000)
 }
 
-pub fn price_ok(s: &[u8], at: usize) -> bool
-    requires { ⌜ at ≤ length (now s) ⌝ }
-    ensures { λ r. ⌜ Accepts (whole priceBody (drop at (now (s .entry)))) r ⌝ }
+pub fn price_ok(s: &[u8], terms: usize) -> bool
+    requires { ⌜ Named (now s) 1 terms ⌝ }
+    ensures { λ r. ⌜ Accepts (whole priceBody (drop 1 (now (s .entry)))) r ⌝ }
 {
-    let terms = names_end(s, at);
-    if terms < 1 {
-        return false;
-    }
     if s.len() - terms != 29 {
         return false;
     }
@@ -98,7 +87,7 @@ fn character_ok(c: u8) -> bool
     (c == 0) | is_name_byte(c)
 }
 
-fn is_one_byte(s: &[u8], c: u8) -> bool
+pub fn is_one_byte(s: &[u8], c: u8) -> bool
     ensures { λ r. ⌜ Says (same (now (s .entry)) (c ∷ [])) r ⌝ }
 {
     if s.len() != 1 {
@@ -116,20 +105,21 @@ fn trim_ok(separator: &[u8], hidden: u8, unselected: u8, trim: u8) -> bool
     (trim == 0) | !((separator.len() == 0) | in_a_run)
 }
 
-pub fn scheme_ok(s: &[u8], at: usize) -> bool
-    requires { ⌜ at ≤ length (now s) ⌝ }
-    ensures { λ r. ⌜ Accepts (whole schemeBody (drop at (now (s .entry)))) r ⌝ }
+// The first two names of a scheme are shorter than those of the other kinds.
+pub fn scheme_ok(s: &[u8], values: usize) -> bool
+    requires { ⌜ Named (now s) 1 values ⌝ }
+    ensures { λ r. ⌜ Accepts (whole schemeBody (drop 1 (now (s .entry)))) r ⌝ }
 {
-    let numbers = name_end(s, at, 1, 20);
-    if numbers < 1 {
+    let id = s[1];
+    if 20 < id {
         return false;
     }
-    let values = name_end(s, numbers, 0, 8);
-    if values < 1 {
+    let numbers = 2 + wide(id);
+    if 8 < s[numbers] {
         return false;
     }
     let choices = name_end(s, values, 0, 8);
-    if choices < 1 {
+    if choices <= values {
         return false;
     }
     if s.len() - choices != 4 {

@@ -1,9 +1,9 @@
 use borrow.Author.Needs.{needs}
-use Rattle.book.proofs.BookLaws.{record-short, record-cut, record-good, record-bad}
+use Rattle.book.proofs.BookLaws.{record-short, record-cut, record-good, record-bad, record-front}
 use Rattle.book.proofs.record_end.Statement.{statement}
 use Rattle.book.proofs.record_end.Tie as tie
 
-ruleset laws = (needs, record-short, record-cut, record-good, record-bad)
+ruleset laws = (needs, record-short, record-cut, record-good, record-bad, record-front)
 
 pub record-end-spec : {M : Type 1} → statement M
 record-end-spec =
@@ -19,6 +19,9 @@ record-end-spec =
     (λ c. search needs)  -- sub-record-ok
     (λ c. search needs)  -- part-record-ok-start
     (λ c. search needs)  -- part-record-ok-end
+    (λ c. search needs)  -- sub-record-ok-2
+    (λ c. search needs)  -- part-record-ok-start-2
+    (λ c. search needs)  -- part-record-ok-end-2
     (λ c κs. search laws)  -- record-ok-requires
     (λ c. search laws)  -- returns-3
     (λ c. search laws))  -- returns-4

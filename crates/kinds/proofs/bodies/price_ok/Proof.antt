@@ -1,19 +1,16 @@
 use borrow.Author.Needs.{needs}
-use Rattle.pairs.proofs.PairLaws.{names-fit}
-use Rattle.kinds.proofs.KindLaws.{price-none, price-size, price-is}
+use Rattle.kinds.proofs.KindLaws.{price-size, price-is}
 use Rattle.kinds.proofs.bodies.price_ok.Statement.{statement}
 use Rattle.kinds.proofs.bodies.price_ok.Tie as tie
 
-ruleset laws = (needs, price-none, price-size, price-is, names-fit)
+ruleset laws = (needs, price-size, price-is)
 
 pub price-ok-spec : {M : Type 1} → statement M
 price-ok-spec =
     tie.close
     (tie.spec
-    (λ c κs. search needs)  -- names-end-requires
+    (λ c. search laws)  -- sub-if1
     (λ c. search laws)  -- returns
-    (λ c. search laws)  -- sub-if2
-    (λ c. search laws)  -- returns-2
     (λ c. search needs)  -- shared-slice-read-is-either
     (λ c κs. search laws)  -- is-either-requires
     (λ c. search needs)  -- add-is-of-three

@@ -1,19 +1,19 @@
 use borrow.Author.Needs.{needs}
-use Rattle.layout.proofs.NameLaws.{no-first, after-name}
-use Rattle.kinds.proofs.FieldLaws.{name-low}
-use Rattle.kinds.proofs.KindLaws.{scheme-no, scheme-is}
+use Rattle.kinds.proofs.KindLaws.{scheme-id, scheme-numbers, scheme-values, scheme-size, scheme-all}
 use Rattle.kinds.proofs.bodies.scheme_ok.Statement.{statement}
 use Rattle.kinds.proofs.bodies.scheme_ok.Tie as tie
 
-ruleset laws = (needs, scheme-no, scheme-is, no-first, after-name, name-low)
+ruleset laws = (needs, scheme-id, scheme-numbers, scheme-values, scheme-size, scheme-all)
 
 pub scheme-ok-spec : {M : Type 1} → statement M
 scheme-ok-spec =
     tie.close
     (tie.spec
-    (λ c κs. search laws)  -- name-end-requires
+    (λ c. search laws)  -- shared-slice-read-id
     (λ c. search laws)  -- returns
-    (λ c κs. search laws)  -- name-end-requires-2
+    (λ c κs. search laws)  -- wide-requires
+    (λ c. search needs)  -- add-numbers
+    (λ c. search laws)  -- shared-slice-read-if2
     (λ c. search laws)  -- returns-2
     (λ c κs. search laws)  -- name-end-requires-3
     (λ c. search laws)  -- returns-3
@@ -31,8 +31,8 @@ scheme-ok-spec =
     (λ c κs. search laws)  -- character-ok-requires
     (λ c κs. search laws)  -- character-ok-requires-2
     (λ c κs. search laws)  -- is-either-requires-2
-    (λ c. search laws)  -- sub-trim-ok
-    (λ c. search laws)  -- part-trim-ok-start
+    (λ c. search needs)  -- sub-trim-ok
+    (λ c. search needs)  -- part-trim-ok-start
     (λ c. search needs)  -- part-trim-ok-end
     (λ c κs. search laws)  -- trim-ok-requires
     (λ c. search laws))  -- returns-5

@@ -9,12 +9,10 @@ pub length-unit-ok-spec : {M : Type 1} → statement M
 length-unit-ok-spec =
     tie.close
     (tie.spec
-    (λ c. search needs)  -- slice-aggregate-same-bytes
-    (λ c κs. search laws)  -- same-bytes-requires
-    (λ c. search needs)  -- slice-aggregate-same-bytes-2
-    (λ c κs. search laws)  -- same-bytes-requires-2
-    (λ c. search needs)  -- slice-aggregate-unit-ok
-    (λ c. search needs)  -- slice-aggregate-unit-ok-2
-    (λ c. search needs)  -- slice-aggregate-unit-ok-3
-    (λ c κs. search laws)  -- unit-ok-requires
+    (λ c κs. search laws)  -- is-unit-requires
+    (λ c κs. search laws)  -- is-unit-requires-2
+    (λ c κs. search laws)  -- is-unit-requires-3
+    (λ c κs. search laws)  -- is-unit-requires-4
+    (λ c κs. search laws)  -- is-unit-requires-5
+    (λ c κs. search laws)  -- is-unit-requires-6
     (λ c. search laws))  -- returns
