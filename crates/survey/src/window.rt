@@ -10,13 +10,13 @@ pub struct Window {
 }
 
 // From the first record that counts to the end of the last; while there is none, both are the same.
-struct Span {
-    first: usize,
-    last: usize,
+pub struct Span {
+    pub first: usize,
+    pub last: usize,
 }
 
 // The span once the record from `at` to `end` has gone by, if that counts.
-fn widened(span: Span, counts: bool, at: usize, end: usize) -> Span
+pub fn widened(span: Span, counts: bool, at: usize, end: usize) -> Span
     ensures { λ r. ⌜ SpanAfter span counts at end r ⌝ }
 {
     if counts {

@@ -1,0 +1,4 @@
+pub mod MarkLaws
+pub mod TableLaws
+pub mod EntryLaws
+pub mod WalkLaws

@@ -1,0 +1,101 @@
+-- What is seen of the articles on the list, record by record, and what is told of each in the end.
+use Prim.Native.Nat.{ℕ, _≤_, _<_}
+use mathlib.Core.Path.{_≡_}
+use mathlib.Core.Bool.{Bool, true, false, _||_, not, cond}
+use mathlib.Core.List.{List}
+use mathlib.Core.Option.{Option, some, none}
+use lib.Dec.{eqb}
+use lib.ListN.{getD}
+use Rattle.rules.specs.Book.{Record, ArticleRecord, PriceRecord, RoundingRecord, PackagingRecord, SchemeRecord, sale}
+use Rattle.layout.specs.Names.{nameAt}
+use Rattle.survey.specs.declared.Found.{Found}
+use Rattle.survey.specs.declared.window.Span.{Span}
+use Rattle.survey.specs.declared.window.Window.{Window}
+use Rattle.survey.specs.Window.{SpanAfter}
+use Rattle.survey.specs.Survey.{FoundIs}
+use Rattle.wanted.specs.declared.entries.Entry.{Entry}
+use Rattle.wanted.specs.Table.{FoundAt}
+
+-- ---- a record that goes by
+
+-- the article that it is of, if it is an article or a row
+unfoldable pub ofArticle : Option Record → Option (List ℕ)
+ofArticle none = none
+ofArticle (some (ArticleRecord a)) = some (a .number)
+ofArticle (some (PriceRecord r)) = some (r .article)
+ofArticle (some (RoundingRecord r)) = none
+ofArticle (some (PackagingRecord p)) = none
+ofArticle (some (SchemeRecord s)) = none
+
+unfoldable pub isArticle : Option Record → Bool
+isArticle none = false
+isArticle (some (ArticleRecord a)) = true
+isArticle (some (PriceRecord r)) = false
+isArticle (some (RoundingRecord r)) = false
+isArticle (some (PackagingRecord p)) = false
+isArticle (some (SchemeRecord s)) = false
+
+-- whether it is a row, and for sale, or not for sale
+unfoldable pub isRow : Bool → Option Record → Bool
+isRow sold none = false
+isRow sold (some (ArticleRecord a)) = false
+isRow sold (some (PriceRecord r)) = cond sold (eqb (r .sort) sale) (not (eqb (r .sort) sale))
+isRow sold (some (RoundingRecord r)) = false
+isRow sold (some (PackagingRecord p)) = false
+isRow sold (some (SchemeRecord s)) = false
+
+-- `r` is the place on the list of the article that the record is of, or n
+pub record PlaceIs (names starts ends : List ℕ) (n : ℕ) (o : Option Record) (r : ℕ) : Type 0 where
+  pub fits : r ≤ n
+  pub listed : (x : List ℕ) → ofArticle o ≡ some x → FoundAt names starts ends n x r
+  pub other : ofArticle o ≡ none → r ≡ n
+
+-- `r` is what is kept of an article once a record of it has gone by
+pub record EntryAfter (e : Entry) (o : Option Record) (at end : ℕ) (r : Entry) : Type 0 where
+  pub found : r .found ≡ (e .found || isArticle o)
+  pub sale : SpanAfter (e .sale) (isRow true o) at end (r .sale)
+  pub purchase : SpanAfter (e .purchase) (isRow false o) at end (r .purchase)
+
+-- and so if the article is wanted
+pub record SeenIs (wanted : Bool) (e : Entry) (o : Option Record) (at end : ℕ) (r : Entry) : Type 0 where
+  pub after : wanted ≡ true → EntryAfter e o at end r
+
+-- ---- what is told
+
+-- where the rows of a sort stand
+abbrev pub rowsFor : Entry → ℕ → Span
+rowsFor e sort = cond (eqb sort sale) (e .sale) (e .purchase)
+
+abbrev pub windowIn : Span → Span → Window
+windowIn rows roundings = record { first = rows .first; last = rows .last; from = roundings .first; to = roundings .last }
+
+abbrev pub foundIn : Entry → ℕ → Span → Found
+foundIn e sort roundings = record { article = e .found; window = windowIn (rowsFor e sort) roundings }
+
+pub record ToldIs (e : Entry) (sort : ℕ) (roundings : Span) (r : Found) : Type 0 where
+  pub is : r ≡ foundIn e sort roundings
+
+-- an entry past the end of them all
+abbrev pub noEntry : Entry
+noEntry = record { found = false; sale = record { first = 0; last = 0 }; purchase = record { first = 0; last = 0 } }
+
+abbrev pub noFound : Found
+noFound = record { article = false; window = record { first = 0; last = 0; from = 0; to = 0 } }
+
+-- the entry at the place of an article has what is found of it, for rows of any sort
+pub record SeenAll (b names starts ends : List ℕ) (n : ℕ) (entries : List Entry) (roundings : Span) : Type 0 where
+  pub each : (article : List ℕ) (sort r : ℕ) → FoundAt names starts ends n article r → r < n
+      → FoundIs b article sort (foundIn (getD entries r noEntry) sort roundings)
+
+-- these are places on the list
+pub record PlacesIn (n : ℕ) (places : List ℕ) : Type 0 where
+  pub few : n ≤ 500
+  pub each : (j : ℕ) → j < n → getD places j 0 ≤ n
+
+-- what the entries there tell, for the sorts beside them
+pub record ToldAll (places sorts : List ℕ) (n : ℕ) (entries : List Entry) (roundings : Span) (all : List Found) : Type 0 where
+  pub each : (j : ℕ) → j < n → getD all j noFound ≡ foundIn (getD entries (getD places j 0) noEntry) (getD sorts j 0) roundings
+
+-- of each of the first n names: what a search of the book for this article and sort alone finds
+pub record FoundAll (b names starts ends sorts : List ℕ) (n : ℕ) (all : List Found) : Type 0 where
+  pub each : (j : ℕ) → j < n → FoundIs b (nameAt names starts ends j) (getD sorts j 0) (getD all j noFound)

@@ -1,0 +1,134 @@
+// The wanted list: up to 500 articles looked for in one walk over a book.
+mod entries;
+mod marks;
+mod table;
+
+use crate::entries::Entry;
+use crate::entries::seen;
+use crate::entries::told;
+use crate::table::find;
+use crate::table::places_of;
+use crate::table::table_of;
+use book::record_stop;
+use layout::numbers::wide;
+use records::is_rounding;
+use survey::Found;
+use survey::window::Span;
+use survey::window::widened;
+ghost use mathlib.Core.Path.{_≡_};
+ghost use mathlib.Core.Bool.{true};
+ghost use Rattle.rules.specs.Lists.{isSome};
+ghost use Rattle.rules.specs.Layout.{whole};
+ghost use Rattle.rules.specs.BookLayout.{kinded, records};
+ghost use Rattle.records.specs.Asks.{Accepted};
+ghost use Rattle.layout.specs.Names.{Listed};
+ghost use Rattle.wanted.specs.Table.{Filled};
+ghost use Rattle.wanted.specs.Entries.{PlaceIs, SeenAll, PlacesIn, ToldAll, FoundAll};
+
+// Of each place on the list what was seen of its article, and where the roundings stand. What is at place n nobody reads.
+struct Sightings {
+    entries: [Entry; 501],
+    roundings: Span,
+}
+
+// Behind the header, and still empty.
+const START: Span = Span { first: 5, last: 5 };
+
+const UNSEEN: Entry = Entry {
+    found: false,
+    sale: START,
+    purchase: START,
+};
+
+// The place on the list of the article whose record or row t is; n if it is of no article on it.
+fn place_of(
+    t: &[u8],
+    names: &[u8],
+    starts: &[usize; 500],
+    ends: &[usize; 500],
+    n: usize,
+    heads: &[usize; 1024],
+    links: &[usize; 500],
+) -> usize
+    requires { ⌜ Accepted (now t) ⌝ }
+    requires { ⌜ Listed (now names) (now starts) (now ends) n ⌝ }
+    requires { ⌜ Filled (now names) (now starts) (now ends) n (now heads) (now links) ⌝ }
+    ensures { λ r. ⌜ PlaceIs (now (names .entry)) (now (starts .entry)) (now (ends .entry)) n (whole kinded (now (t .entry))) r ⌝ }
+{
+    let kind = t[0];
+    if (kind == 1) | (kind == 2) {
+        let end = 2 + wide(t[1]);
+        return find(&t[2..end], names, starts, ends, n, heads, links);
+    }
+    n
+}
+
+// Each record of the book once.
+fn walk(
+    b: &[u8],
+    names: &[u8],
+    starts: &[usize; 500],
+    ends: &[usize; 500],
+    n: usize,
+    heads: &[usize; 1024],
+    links: &[usize; 500],
+) -> Sightings
+    requires { ⌜ isSome (records (now b)) ≡ true ⌝ }
+    requires { ⌜ Listed (now names) (now starts) (now ends) n ⌝ }
+    requires { ⌜ Filled (now names) (now starts) (now ends) n (now heads) (now links) ⌝ }
+    ensures { λ r. ⌜ SeenAll (now (b .entry)) (now (names .entry)) (now (starts .entry)) (now (ends .entry)) n (r .entries) (r .roundings) ⌝ }
+{
+    let mut entries = [UNSEEN; 501];
+    let mut roundings = START;
+    let mut at = 5;
+    while at < b.len() {
+        let end = record_stop(b, at);
+        let start = at + 2;
+        let t = &b[start..end];
+        let i = place_of(t, names, starts, ends, n, heads, links);
+        let old = entries[i];
+        entries[i] = seen(old, i < n, t, at, end);
+        roundings = widened(roundings, is_rounding(t), at, end);
+        at = end;
+    }
+    Sightings { entries, roundings }
+}
+
+// What was seen at these places on the list, for rows of the sorts beside them.
+fn tell(places: [usize; 500], sorts: &[u8; 500], n: usize, sightings: Sightings) -> [Found; 500]
+    requires { ⌜ PlacesIn n places ⌝ }
+    ensures { λ r. ⌜ ToldAll places (now (sorts .entry)) n (sightings .entries) (sightings .roundings) r ⌝ }
+{
+    let entries = sightings.entries;
+    let roundings = sightings.roundings;
+    let mut all = [Found::NOTHING; 500];
+    let mut j = 0;
+    while j < n {
+        let i = places[j];
+        let entry = entries[i];
+        all[j] = told(entry, sorts[j], roundings);
+        j += 1;
+    }
+    all
+}
+
+// Of each name on the list whether the book has the article, and the window of its rows of the sort beside it.
+pub fn find_all(
+    b: &[u8],
+    names: &[u8],
+    starts: &[usize; 500],
+    ends: &[usize; 500],
+    sorts: &[u8; 500],
+    n: usize,
+) -> [Found; 500]
+    requires { ⌜ isSome (records (now b)) ≡ true ⌝ }
+    requires { ⌜ Listed (now names) (now starts) (now ends) n ⌝ }
+    ensures { λ r. ⌜ FoundAll (now (b .entry)) (now (names .entry)) (now (starts .entry)) (now (ends .entry)) (now (sorts .entry)) n r ⌝ }
+{
+    let table = table_of(names, starts, ends, n);
+    let heads = table.heads;
+    let links = table.links;
+    let places = places_of(names, starts, ends, n, &heads, &links);
+    let sightings = walk(b, names, starts, ends, n, &heads, &links);
+    tell(places, sorts, n, sightings)
+}
