@@ -112,7 +112,7 @@ fn number_in(b: &[u8], q: &[u8], out: &mut [u8]) -> Written
 pub fn final_number(book: &[u8], question: &[u8], out: &mut [u8]) -> Written
     ensures { λ r. ⌜ NumberCall (now (book .entry)) (now (question .entry)) (now (out .entry)) (now (out .exit)) r ⌝ }
 {
-    if book::book_ok(book) {
+    if survey::is_book(book) {
         if question::question_ok(question) {
             return number_in(book, question, out);
         }

@@ -57,7 +57,7 @@ fn answered(b: &[u8], q: &[u8]) -> PackagingAnswer
 pub fn packaging(book: &[u8], question: &[u8]) -> PackagingAnswer
     ensures { λ r. ⌜ r ≡ shown (packaging (now (book .entry)) (now (question .entry))) ⌝ }
 {
-    if book::book_ok(book) {
+    if survey::is_book(book) {
         if question::question_ok(question) {
             return answered(book, question);
         }

@@ -6,7 +6,9 @@ use mathlib.Core.Bool.{Bool, true, false, _||_, not, false≢true}
 use mathlib.Core.List.{List}
 use mathlib.Core.Option.{Option}
 use native.Mathlib.Omega.{arith}
-use lib.ListN.{length, take, drop}
+use lib.Dec.{eqb}
+use lib.ListN.{length, take, drop, getD}
+use borrow.Author.Tests.{eqb-true, eq-eqb, ne-eqb}
 use Rattle.rules.specs.Lists.{isSome}
 use Rattle.rules.specs.Layout.{whole}
 use Rattle.rules.specs.Book.{Record, articleOf, rowsOf, roundings}
@@ -22,15 +24,19 @@ use Rattle.book.proofs.WalkLaws.{end-stops, pass-start, pass-here, pass-next, p
 use Rattle.records.specs.Asks.{Accepted}
 use Rattle.records.specs.Tests as Tests
 use Rattle.records.proofs.TestLaws.{article-turn}
+use Rattle.records.proofs.FieldLaws.{starts-not}
+use Rattle.records.proofs.PriceLaws.{no-row}
+use Rattle.records.proofs.RoundingLaws.{rounding-told}
 use Rattle.survey.specs.declared.Found.{Found}
+use Rattle.survey.specs.declared.Surveyed.{Surveyed}
 use Rattle.survey.specs.declared.window.Window.{Window}
 use Rattle.survey.specs.Window.{rowSpan, roundingSpan, WindowAfter}
-use Rattle.survey.specs.Survey.{nothing, FoundAfter, FoundIs, SurveyIs}
-use Rattle.survey.proofs.WindowLaws.{Spanning, rows-gather, roundings-gather, rows-outside, roundings-outside, span-start, span-turn, span-end, windows}
+use Rattle.survey.specs.Survey.{nothing, FoundAfter, FoundIs, PassIs, SurveyIs}
+use Rattle.survey.proofs.WindowLaws.{span-kept, Spanning, rows-gather, roundings-gather, rows-outside, roundings-outside, span-start, span-turn, span-end, windows}
 
 -- ---- a record goes by
 
-pub noted-is : (f : Found) (article : List ℕ) (sort : ℕ) (o : Option Record) {at end : ℕ} {own rounding art : Bool} {window : Window}
+noted-is : (f : Found) (article : List ℕ) (sort : ℕ) (o : Option Record) {at end : ℕ} {own rounding art : Bool} {window : Window}
     → Says (Tests.isRow article sort o) own → Says (Tests.isRounding o) rounding → WindowAfter (f .window) own rounding at end window → Says (Tests.articleOf article o) art
     → FoundAfter f article sort o at end (record { article = f .article || art; window = window })
 noted-is f article sort o {at} {end} {own} {window = window} mine kind after there = record {
@@ -39,6 +45,32 @@ noted-is f article sort o {at} {end} {own} {window = window} mine kind after the
       subst (λ (x : Bool). WindowAfter (f .window) x (Tests.isRounding o) at end window) (sym (mine .is))
       (subst (λ (x : Bool). WindowAfter (f .window) own x at end window) (sym (kind .is)) after);
 }
+
+by-kind : (t : List ℕ) → Accepted t → {r : Bool} → eqb (getD t 0 0) 3 ≡ r → Says (Tests.isRounding (whole kinded t)) r
+by-kind t a e = record { is = rounding-told t a .is ∙ e }
+
+module _ (f : Found) (t article : List ℕ) (sort : ℕ) (a : Accepted t) {at end : ℕ} where
+  -- a price is no article and no rounding
+  pub noted-row : {own : Bool} {window : Window} → getD t 0 0 ≡ 2 → Says (Tests.isRow article sort (whole kinded t)) own → WindowAfter (f .window) own false at end window
+      → FoundAfter f article sort (whole kinded t) at end (record { article = f .article; window = window })
+  noted-row {window = window} e mine after =
+      subst (λ (x : Bool). FoundAfter f article sort (whole kinded t) at end (record { article = x; window = window })) (or-false (f .article))
+      (noted-is f article sort (whole kinded t) mine (by-kind t a (ne-eqb (getD t 0 0) 3 (λ i. omega (arith, e)))) after (starts-not t 1 article a (λ i. omega (arith, e))))
+
+  module _ {r : Bool} (said : Says (Tests.isRounding (whole kinded t)) r) where
+    pub noted-rounding : {window : Window} → r ≡ true → WindowAfter (f .window) false true at end window
+        → FoundAfter f article sort (whole kinded t) at end (record { article = f .article; window = window })
+    noted-rounding {window} y after =
+        let e : getD t 0 0 ≡ 3 = eqb-true (getD t 0 0) 3 (sym (rounding-told t a .is) ∙ (said .is ∙ y)) in
+        subst (λ (x : Bool). FoundAfter f article sort (whole kinded t) at end (record { article = x; window = window })) (or-false (f .article))
+        (noted-is f article sort (whole kinded t) (no-row t article sort (starts-not t 2 article a (λ i. omega (arith, e))) refl) (by-kind t a (eq-eqb (getD t 0 0) 3 e)) after
+        (starts-not t 1 article a (λ i. omega (arith, e))))
+
+    pub noted-other : {there : Bool} → (getD t 0 0 ≡ 2 → ⊥) → r ≡ false → Says (Tests.articleOf article (whole kinded t)) there
+        → FoundAfter f article sort (whole kinded t) at end (record { article = f .article || there; window = f .window })
+    noted-other d n there =
+        noted-is f article sort (whole kinded t) (no-row t article sort (starts-not t 2 article a d) refl) (record { is = said .is ∙ n })
+        (record { rows = span-kept (rowSpan (f .window)) at end refl; roundings = span-kept (roundingSpan (f .window)) at end refl }) there
 
 -- ---- the pass over an accepted book
 
@@ -100,13 +132,13 @@ pub record Surveying (b article : List ℕ) (sort : ℕ) (found : Found) (at : �
   pub passed : isSome (records b) ≡ true → Passed b article sort found at
 
 module _ (b article : List ℕ) (sort : ℕ) where
-  -- what a survey tells of no book
-  refuses : false ≡ isSome (records b) → SurveyIs b article sort (record { ok = false; found = nothing })
-  refuses e = record { ok = e; found = λ t. absurd (false≢true t); empty = λ t. refl }
+  -- what the pass tells of no book
+  refuses : (found : Found) → false ≡ isSome (records b) → PassIs b article sort (record { ok = false; found = found })
+  refuses found e = record { ok = e; found = λ t. absurd (false≢true t) }
 
   module _ {r : Bool} (header : Says (bookHeadOk b) r) where
-    pub survey-header : not r ≡ true → SurveyIs b article sort (record { ok = false; found = nothing })
-    survey-header e = refuses (book-not b header (not-so r e))
+    pub survey-header : not r ≡ true → PassIs b article sort (record { ok = false; found = nothing })
+    survey-header e = refuses nothing (book-not b header (not-so r e))
 
     pub survey-start : not r ≡ false → Surveying b article sort nothing 5
     survey-start e = record { decides = book-start b header (so r e); passed = find-start b article sort }
@@ -115,18 +147,14 @@ module _ (b article : List ℕ) (sort : ℕ) where
     pub survey-here : at < length b → at ≤ length b
     survey-here h = omega arith
 
-    pub survey-end : length b ≤ at → SurveyIs b article sort (record { ok = true; found = found })
+    pub survey-end : length b ≤ at → PassIs b article sort (record { ok = true; found = found })
     survey-end h =
         let ok : true ≡ isSome (records b) = Book.walk-end (inv .decides) h in
-        record {
-          ok = ok;
-          found = λ t. find-end b article sort (inv .passed (sym ok)) h;
-          empty = λ t. absurd (false≢true (sym t));
-        }
+        record { ok = ok; found = λ t. find-end b article sort (inv .passed (sym ok)) h }
 
     module _ (h : at < length b) {end : ℕ} (e : RecordEnd b at end) where
-      pub survey-bad : end < 1 → SurveyIs b article sort (record { ok = false; found = nothing })
-      survey-bad g = refuses (walk-bad (inv .decides) h e g)
+      pub survey-bad : end < 1 → PassIs b article sort (record { ok = false; found = found })
+      survey-bad g = refuses found (walk-bad (inv .decides) h e g)
 
       module _ (g : 1 ≤ end) where
         pub survey-low : at + 2 ≤ end
@@ -144,3 +172,14 @@ module _ (b article : List ℕ) (sort : ℕ) where
           decides = walk-again (inv .decides) h e g;
           passed = λ ok. find-turn b article sort (inv .passed ok) h (end-stops e g) after;
         }
+
+-- ---- what is told of a pass
+module _ (b article : List ℕ) (sort : ℕ) {r : Surveyed} (p : PassIs b article sort r) where
+  pub survey-some : r .ok ≡ true → SurveyIs b article sort r
+  survey-some t = record { ok = p .ok; found = p .found; empty = λ f. absurd (false≢true (sym f ∙ t)) }
+
+  pub survey-none : r .ok ≡ false → SurveyIs b article sort (record { ok = false; found = nothing })
+  survey-none f = record { ok = sym f ∙ p .ok; found = λ t. absurd (false≢true t); empty = λ t. refl }
+
+  pub survey-book : r .ok ≡ isSome (records b)
+  survey-book = p .ok

@@ -28,6 +28,11 @@ pub record FoundIs (b article : List ℕ) (sort : ℕ) (r : Found) : Type 0 wher
   pub window : Windows b 5 article sort (r .window)
 
 -- whether b is a book, and what is found in one
+pub record PassIs (b article : List ℕ) (sort : ℕ) (r : Surveyed) : Type 0 where
+  pub ok : r .ok ≡ isSome (records b)
+  pub found : r .ok ≡ true → FoundIs b article sort (r .found)
+
+-- and nothing is found in no book
 pub record SurveyIs (b article : List ℕ) (sort : ℕ) (r : Surveyed) : Type 0 where
   pub ok : r .ok ≡ isSome (records b)
   pub found : r .ok ≡ true → FoundIs b article sort (r .found)

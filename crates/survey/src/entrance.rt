@@ -1,7 +1,7 @@
 // The entrance of a call on a book and a question: refusals 1 and 2, and behind them the question by value and what it asks for found in the book.
 use crate::Found;
+use crate::is_book;
 use crate::survey;
-use book::book_ok;
 use days::Day;
 use question::Ask;
 use question::ask_of;
@@ -61,7 +61,7 @@ pub fn enter(book: &[u8], question: &[u8]) -> Entered
         }
         return NO_BOOK;
     }
-    if book_ok(book) {
+    if is_book(book) {
         return NO_QUESTION;
     }
     NO_BOOK

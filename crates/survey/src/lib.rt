@@ -17,7 +17,7 @@ ghost use Rattle.rules.specs.Lists.{isSome};
 ghost use Rattle.rules.specs.Layout.{whole};
 ghost use Rattle.rules.specs.BookLayout.{kinded, records};
 ghost use Rattle.records.specs.Asks.{Accepted};
-ghost use Rattle.survey.specs.Survey.{FoundAfter, FoundIs, SurveyIs};
+ghost use Rattle.survey.specs.Survey.{FoundAfter, FoundIs, PassIs, SurveyIs};
 
 // Whether the article has a record, and where its rows of the sort and the roundings stand.
 pub struct Found {
@@ -49,14 +49,27 @@ const NO_BOOK: Surveyed = Surveyed {
     found: Found::NOTHING,
 };
 
-// What is found once the record t, which stands from `at` to `end`, has gone by too.
+// What is found once the record t, which stands from `at` to `end`, has gone by too. Each kind is looked at for one thing alone.
 fn noted(found: Found, t: &[u8], at: usize, end: usize, article: &[u8], sort: u8) -> Found
     requires { ⌜ Accepted (now t) ⌝ }
     ensures { λ r. ⌜ FoundAfter found (now (article .entry)) sort (whole kinded (now (t .entry))) at end r ⌝ }
 {
-    let own = is_row(t, article, sort);
-    let rounding = is_rounding(t);
-    let window = window_after(found.window, own, rounding, at, end);
+    if t[0] == 2 {
+        let own = is_row(t, article, sort);
+        let window = window_after(found.window, own, false, at, end);
+        return Found {
+            article: found.article,
+            window,
+        };
+    }
+    if is_rounding(t) {
+        let window = window_after(found.window, false, true, at, end);
+        return Found {
+            article: found.article,
+            window,
+        };
+    }
+    let window = found.window;
     Found {
         article: found.article | is_article(t, article),
         window,
@@ -79,23 +92,39 @@ pub fn find(b: &[u8], article: &[u8], sort: u8) -> Found
     found
 }
 
-// Each record is tested and looked at once. What was found counts only if all are records.
-pub fn survey(b: &[u8], article: &[u8], sort: u8) -> Surveyed
-    ensures { λ r. ⌜ SurveyIs (now (b .entry)) (now (article .entry)) sort r ⌝ }
+// Each record is tested and looked at once. What was found counts only if all are records. Beside bytes that are no book stands what was
+// found so far: were nothing to stand there, each turn of the loop would make that anew for the case that its record is bad.
+fn pass(b: &[u8], article: &[u8], sort: u8) -> Surveyed
+    ensures { λ r. ⌜ PassIs (now (b .entry)) (now (article .entry)) sort r ⌝ }
 {
-    if !book_head_ok(b) {
-        return NO_BOOK;
-    }
     let mut found = Found::NOTHING;
+    if !book_head_ok(b) {
+        return Surveyed { ok: false, found };
+    }
     let mut at = 5;
     while at < b.len() {
         let end = record_end(b, at);
         if end < 1 {
-            return NO_BOOK;
+            return Surveyed { ok: false, found };
         }
         let start = at + 2;
         found = noted(found, &b[start..end], at, end, article, sort);
         at = end;
     }
     Surveyed { ok: true, found }
+}
+
+pub fn survey(b: &[u8], article: &[u8], sort: u8) -> Surveyed
+    ensures { λ r. ⌜ SurveyIs (now (b .entry)) (now (article .entry)) sort r ⌝ }
+{
+    let passed = pass(b, article, sort);
+    if passed.ok { passed } else { NO_BOOK }
+}
+
+// Whether b is a price book, by the same pass: so the calls have one loop over the records of a book, into which their tests are written.
+pub fn is_book(b: &[u8]) -> bool
+    ensures { λ r. ⌜ r ≡ isSome (records (now (b .entry))) ⌝ }
+{
+    let passed = pass(b, &b[..0], 0);
+    passed.ok
 }

@@ -10,7 +10,7 @@ pub final-number-spec : {M : Type 1} → statement M
 final-number-spec =
     tie.close
     (tie.spec
-    (λ c κs. search laws)  -- book-ok-requires
+    (λ c κs. search laws)  -- is-book-requires
     (λ c κs. search laws)  -- question-ok-requires
     (λ c κs. search laws)  -- number-in-requires
     (λ c. search needs)  -- same-length

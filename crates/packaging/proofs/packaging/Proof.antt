@@ -10,7 +10,7 @@ pub packaging-spec : {M : Type 1} → statement M
 packaging-spec =
     tie.close
     (tie.spec
-    (λ c κs. search laws)  -- book-ok-requires
+    (λ c κs. search laws)  -- is-book-requires
     (λ c κs. search laws)  -- question-ok-requires
     (λ c κs. search laws)  -- answered-requires
     (λ c. search laws)  -- returns

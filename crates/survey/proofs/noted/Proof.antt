@@ -1,17 +1,22 @@
--- `survey::noted` meets its contract: by the law `noted-is`.
+-- `survey::noted` meets its contract: each kind by its law `noted-..`.
 use borrow.Author.Needs.{needs}
-use Rattle.survey.proofs.SurveyLaws.{noted-is}
+use Rattle.records.proofs.FieldLaws.{accepted-long}
+use Rattle.survey.proofs.SurveyLaws.{noted-row, noted-rounding, noted-other}
 use Rattle.survey.proofs.noted.Statement.{statement}
 use Rattle.survey.proofs.noted.Tie as tie
 
-ruleset laws = (needs, noted-is)
+ruleset laws = (needs, accepted-long, noted-row, noted-rounding, noted-other)
 
 pub noted-spec : {M : Type 1} → statement M
 noted-spec =
     tie.close
     (tie.spec
+    (λ c. search laws)  -- shared-slice-read-if1
     (λ c κs. search laws)  -- is-row-requires
-    (λ c κs. search laws)  -- is-rounding-requires
     (λ c κs. search laws)  -- window-after-requires
+    (λ c. search laws)  -- returns
+    (λ c κs. search laws)  -- is-rounding-requires
+    (λ c κs. search laws)  -- window-after-requires-2
+    (λ c. search laws)  -- returns-2
     (λ c κs. search laws)  -- is-article-requires
-    (λ c. search laws))  -- returns
+    (λ c. search laws))  -- returns-3

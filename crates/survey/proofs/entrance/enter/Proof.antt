@@ -19,6 +19,6 @@ enter-spec =
     (λ c κs. search laws)  -- survey-requires
     (λ c. search laws)  -- returns
     (λ c. search laws)  -- returns-2
-    (λ c κs. search laws)  -- book-ok-requires
+    (λ c κs. search laws)  -- is-book-requires
     (λ c. search laws)  -- returns-3
     (λ c. search laws))  -- returns-4
