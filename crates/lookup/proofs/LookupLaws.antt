@@ -7,8 +7,8 @@ use mathlib.Core.Option.{Option, some, none}
 use native.Mathlib.Omega.{arith}
 use native.Mathlib.Decide.{decLt, ℕ-discrete}
 use lib.Dec.{eqb}
-use lib.ListN.{length, drop, getD, set, replicate, length-set, length-replicate, getD-replicate}
-use lib.Seq.{getD-set-same, getD-set-other}
+use lib.ListN.{length, drop, getD, set, replicate, length-set, length-drop, length-replicate, getD-replicate}
+use lib.Seq.{length-take-le, getD-set-same, getD-set-other}
 use borrow.Author.Tests.{eq-eqb, ne-eqb, not-true}
 use Rattle.rules.specs.Lists.{isSome, consSome, ifSome}
 use Rattle.rules.specs.Layout.{whole}
@@ -29,7 +29,7 @@ use Rattle.records.specs.Asks.{Accepted, OfKind}
 use Rattle.records.specs.Ensures.{Bounded, RoundingBounds, RoundingIs}
 use Rattle.records.specs.Tests.{roundingNumber}
 use Rattle.records.proofs.BoundLaws.{gives-record}
-use Rattle.records.proofs.RoundingLaws.{number-kind}
+use Rattle.records.proofs.RoundingLaws.{number-kind, rounding-long}
 use Rattle.lookup.specs.declared.roundings.Open.{Open}
 use Rattle.lookup.specs.Roundings.{RoundingUsed, roundingHeld, placedOr, RoundingHere, PlaceHeld, RoundingAt, Found, PlacesFound, Sought, Placing, Wants, OpenAre, NextOpen, PlaceAfter, PlacesAfter}
 
@@ -143,6 +143,19 @@ module _ {b : List ℕ} {at e : ℕ} (s : StopIs b at e) where
 
 pub here-record : {b : List ℕ} {at : ℕ} → RoundingHere b at → RecordHere b at
 here-record h = record { fits = h .fits; ok = h .kind .ok }
+
+-- with its length in front it has 18 bytes
+module _ {b : List ℕ} {at : ℕ} (w : RoundingHere b at) where
+  rounding-end : recordStop b at ≡ at + 18
+  rounding-end =
+      let long : length (part b (at + 2) (recordStop b at)) ≡ recordStop b at - (at + 2) = length-take-le (recordStop b at - (at + 2)) (drop (at + 2) b) (simp length-drop (omega (arith, w .fits))) in
+      omega (arith, long, rounding-long (w .kind))
+
+  pub rounding-fits : at + 18 ≤ length b
+  rounding-fits = omega (arith, rounding-end, w .fits)
+
+  pub rounding-stops : StopIs b at (at + 18)
+  rounding-stops = record { is = sym rounding-end; low = omega arith; fits = rounding-fits; ok = rw rounding-end at (w .kind .ok) }
 
 -- ---- the next that is looked for
 
@@ -330,8 +343,11 @@ module _ {b : List ℕ} {from : ℕ} {numbers : List ℕ} {n : ℕ} where
     }
 
     module _ (h : at < length b) where
-      pub placing-here : RecordHere b at
-      placing-here = here-record (inv .here h)
+      pub placing-here : RoundingHere b at
+      placing-here = inv .here h
+
+      pub placing-fits : at + 18 ≤ length b
+      placing-fits = rounding-fits (inv .here h)
 
       module _ {e : ℕ} (s : StopIs b at e) where
         pub placing-kind : OfKind 3 (part b (at + 2) e)

@@ -5,11 +5,12 @@ use records::rounding_of;
 use rules::Cents;
 use rules::Rounding;
 use rules::Way;
-ghost use Prim.Native.Nat.{_≤_};
+ghost use Prim.Native.Nat.{_+_, _≤_};
 ghost use mathlib.Core.Path.{_≡_};
 ghost use Rattle.rules.specs.Book.{plain};
-ghost use Rattle.layout.specs.Records.{Between};
-ghost use Rattle.lookup.specs.Roundings.{PlaceAfter, PlacesAfter, OpenAre, NextOpen, PlacesFound, PlaceHeld, RoundingAt};
+ghost use lib.ListN.{length};
+ghost use Rattle.layout.specs.Records.{Between, StopIs};
+ghost use Rattle.lookup.specs.Roundings.{PlaceAfter, PlacesAfter, OpenAre, NextOpen, PlacesFound, RoundingHere, PlaceHeld, RoundingAt};
 
 // What is still looked for: the low bytes of those numbers, and whether there are any.
 struct Open {
@@ -58,6 +59,15 @@ fn next_open(b: &[u8], from: usize, wanted: Open) -> usize
     at
 }
 
+// Where the rounding at `at` ends: they all have one length. So the walk reads a record's length once, on its way to the next.
+fn rounding_stop(b: &[u8], at: usize) -> usize
+    requires { ⌜ RoundingHere (now b) at ⌝ }
+    requires { ⌜ at + 18 ≤ length (now b) ⌝ }
+    ensures { λ r. ⌜ StopIs (now (b .entry)) at r ⌝ }
+{
+    at + 18
+}
+
 // A number's place once a record at `at` has gone by: the first that has the number counts.
 fn first_place(place: usize, here: bool, at: usize) -> usize
     ensures { λ r. ⌜ PlaceAfter place here at r ⌝ }
@@ -95,7 +105,7 @@ pub fn rounding_places(b: &[u8], from: usize, numbers: [u16; 99], n: usize) -> [
     let mut places = [0; 99];
     let mut at = next_open(b, from, open_numbers(numbers, places, n));
     while at < b.len() {
-        let end = record_stop(b, at);
+        let end = rounding_stop(b, at);
         let body = at + 2;
         let rounding = rounding_of(&b[body..end]);
         let after = places_after(places, numbers, n, rounding.number, at);

@@ -44,9 +44,11 @@ module _ {t : List ℕ} (p : OfKind 3 t) where
   rounding-at : whole kinded t ≡ some (RoundingRecord (roundingAt t 1))
   rounding-at = record-is t 3 (p .ok) (p .kind) ∙ stands .is
 
-  -- it has 16 bytes
+  pub rounding-long : length t ≡ 16
+  rounding-long = omega (arith, stands .long)
+
   pub rounding-room : (n : ℕ) → T (leb n 16) → n ≤ length t
-  rounding-room n h = let l = leb→le n 16 h in omega (arith, stands .long)
+  rounding-room n h = let l = leb→le n 16 h in omega (arith, rounding-long)
 
   pub rounding-is : {number step : ℕ} {before after : ℤ} {way : Way} → WayIs (getD t 3 0) way
       → SignedNumber (signedAt t 8) 2147483648 before → SignedNumber (signedAt t 12) 2147483648 after

@@ -3,11 +3,11 @@ use Prim.Native.Nat.{_-_}
 use lib.ListN.{length}
 use Rattle.lookup.specs.Roundings.{Placing}
 use borrow.Author.Needs.{needs}
-use Rattle.lookup.proofs.LookupLaws.{placing-start, placing-end, placing-here, placing-kind, placing-between, placing-less, placing-again}
+use Rattle.lookup.proofs.LookupLaws.{placing-start, placing-end, placing-here, placing-fits, placing-kind, placing-between, placing-less, placing-again}
 use Rattle.lookup.proofs.roundings.rounding_places.Statement.{statement}
 use Rattle.lookup.proofs.roundings.rounding_places.Tie as tie
 
-ruleset laws = (needs, placing-start, placing-end, placing-here, placing-kind, placing-between, placing-less, placing-again)
+ruleset laws = (needs, placing-start, placing-end, placing-here, placing-fits, placing-kind, placing-between, placing-less, placing-again)
 
 abbrev Inv-loop : tie.InvT-loop
 Inv-loop b from numbers n places₀ at₀ places at = Placing b from numbers n places at
@@ -24,7 +24,7 @@ rounding-places-spec =
     (λ c κs. search laws)  -- open-numbers-requires
     (λ c κs. search laws)  -- next-open-requires
     (λ c. search laws)  -- loop-holds
-    (λ c κs. search laws)  -- record-stop-requires
+    (λ c κs. search laws)  -- rounding-stop-requires
     (λ c. search needs)  -- add-body
     (λ c. search needs)  -- sub-rounding-of
     (λ c. search needs)  -- part-rounding-of-start
