@@ -1,21 +1,27 @@
 //! Acceptance of a book: the library beside a byte sum and a reading in plain Rust.
 
-use crate::books::{self, Book, ALL_KINDS, LONG, MOST_BYTES, PRICES, SHORT};
+use crate::books::{self, Book, ALL_KINDS, ANY, LONG, MOST_BYTES, PRICES, SHORT};
 use crate::dice::Dice;
 use crate::timing::{self, Pass, Row, Subject};
 use crate::{library, reference};
 use std::time::Duration;
 
 const DAMAGED: usize = 20_000;
-const DAMAGED_LARGE: usize = 40;
+const DAMAGED_LARGE: usize = 15;
 const ROUNDS: usize = 200;
 
 pub fn measure(dice: &mut Dice) -> Vec<Row> {
     let books = [
-        ("price rows, long names", books::book(dice, PRICES, LONG, usize::MAX, MOST_BYTES)),
-        ("price rows, short names", books::book(dice, PRICES, SHORT, usize::MAX, MOST_BYTES)),
-        ("all five kinds mixed", books::book(dice, ALL_KINDS, books::ANY, usize::MAX, MOST_BYTES)),
-    ];
+        ("price rows, long names", PRICES, LONG),
+        ("price rows, short names", PRICES, SHORT),
+        ("all five kinds mixed", ALL_KINDS, ANY),
+        ("articles alone", &[1], ANY),
+        ("price rows alone", PRICES, ANY),
+        ("roundings alone", &[3], ANY),
+        ("packagings alone", &[4], ANY),
+        ("schemes alone", &[5], ANY),
+    ]
+    .map(|(what, kinds, names)| (what, books::book(dice, kinds, names, usize::MAX, MOST_BYTES)));
     agree(dice, &books);
     time(&books)
 }
