@@ -6,7 +6,7 @@ use mathlib.Core.List.{List}
 use mathlib.Core.Option.{Option, some, none}
 use native.Mathlib.Omega.{arith}
 use lib.ListN.{length, take, drop, length-drop, length-take}
-use lib.Seq.{drop-drop, take-all, length-take-le}
+use lib.Seq.{drop-drop, take-all}
 use Rattle.rules.specs.Lists.{isSome}
 use Rattle.rules.specs.Layout.{back}
 use Rattle.rules.specs.Bytes.{big, ownLength}
@@ -17,7 +17,7 @@ use Rattle.rules.proofs.TakesLaws.{back-is}
 use Rattle.rules.proofs.QuestionsLaws.{own-length}
 use Rattle.layout.specs.Reads.{part, Reads}
 use Rattle.layout.specs.Ensures.{Number}
-use Rattle.questions.specs.Questions.{QuestionHere, QuestionEnd}
+use Rattle.questions.specs.Questions.{QuestionEnd}
 
 -- bytes that are no question, or not as many as it says
 no-question : (t : List ℕ) → ((q : Question) → questionOf (take (ownLength t) t) ≡ some q → ⊥) → oneQuestion t ≡ none

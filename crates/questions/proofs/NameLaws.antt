@@ -1,6 +1,6 @@
 -- Where a question among many names its article: a part of the question is a part of all bytes.
-use Prim.Native.Nat.{ℕ, _+_, _-_, _*_, _^_, _≤_, _<_}
-use mathlib.Core.Path.{_≡_, refl, sym, _∙_, ap, subst}
+use Prim.Native.Nat.{ℕ, _+_, _-_, _≤_, _<_}
+use mathlib.Core.Path.{_≡_, sym, _∙_, ap, subst}
 use mathlib.Core.List.{List}
 use mathlib.Core.Option.{some, Option·some-injective}
 use native.Mathlib.Omega.{arith}
@@ -10,7 +10,7 @@ use lib.Seq.{getD-set-same, getD-set-other}
 use Rattle.rules.specs.Question.{Question, questionOf}
 use Rattle.layout.specs.Reads.{part}
 use Rattle.layout.proofs.PartLaws.{part-within, part-length}
-use Rattle.layout.specs.Names.{nameAt, Listed}
+use Rattle.layout.specs.Names.{Listed}
 use Rattle.question.specs.declared.Ask.{Ask}
 use Rattle.question.specs.Asked.{askIn, AskIs}
 use Rattle.questions.specs.declared.Name.{Name}

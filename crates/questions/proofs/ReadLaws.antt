@@ -1,12 +1,11 @@
 -- The walk over questions end to end: those gone by stand where it was noted, and those that are left are the rest of the definition's.
-use Prim.Native.Nat.{ℕ, zero, suc, _+_, _-_, _≤_, _<_}
+use Prim.Native.Nat.{ℕ, suc, _+_, _-_, _≤_, _<_}
 use mathlib.Core.Path.{_≡_, refl, sym, _∙_, ap, subst}
 use mathlib.Core.Bool.{Bool, true, false, false≢true}
 use mathlib.Core.List.{List, [], _∷_}
 use mathlib.Core.Option.{Option, some, none, Option·none-ne-some, Option·some-injective}
 use native.Mathlib.Omega.{arith}
 use native.Mathlib.Decide.{decLt}
-use native.Mathlib.Numerals.{add-one}
 use lib.Dec.{leb}
 use lib.ListN.{length, drop, getD, set, replicate, length-set, length-replicate, length-drop, drop-of-length-le}
 use lib.Seq.{getD-set-same, getD-set-other, getD-drop, drop-drop, drop-cons}
@@ -16,10 +15,10 @@ use Rattle.rules.specs.Layout.{andThen, give, giveIf, whole, wholly, toEnd, rep
 use Rattle.rules.specs.Question.{Question, questionOf}
 use Rattle.rules.specs.Questions.{oneQuestion, questionsOf}
 use Rattle.rules.proofs.ListLaws.{present}
-use Rattle.layout.specs.Reads.{part, Reads, only}
+use Rattle.layout.specs.Reads.{part, only}
 use Rattle.layout.proofs.FromLaws.{more, from-end, from-broken, from-step}
 use Rattle.questions.specs.declared.Questions.{Questions}
-use Rattle.questions.specs.Questions.{QuestionHere, QuestionAt, QuestionEnd, questionsFrom, noQuestion, StandAt, QuestionsAre, QuestionsHere}
+use Rattle.questions.specs.Questions.{QuestionAt, QuestionEnd, questionsFrom, noQuestion, StandAt, QuestionsAre, QuestionsHere}
 use Rattle.questions.proofs.EndLaws.{end-reads, shrinks}
 
 -- ---- the definition's list

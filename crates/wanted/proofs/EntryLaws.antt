@@ -1,97 +1,28 @@
 -- A record that goes by: whose it is, and what is kept of it.
-use Prim.Native.Nat.{ℕ, _+_, _≤_, _<_}
-use mathlib.Core.Path.{_≡_, refl, sym, _∙_, ap}
-use mathlib.Core.Bool.{Bool, true, false, _&&_, _||_, not, false≢true}
+use Prim.Native.Nat.{ℕ}
+use mathlib.Core.Path.{_≡_, refl, sym, _∙_, ap, subst}
+use mathlib.Core.Bool.{Bool, true, false, _||_, not, false≢true}
 use mathlib.Core.List.{List}
-use mathlib.Core.Option.{Option, some, none, Option·none-ne-some, Option·some-injective}
-use native.Mathlib.Omega.{arith}
-use native.Mathlib.Decide.{ℕ-discrete}
-use lib.Dec.{T, eqb}
-use lib.ListN.{length, getD}
-use borrow.Author.Tests.{eq-eqb, ne-eqb, eqb-true}
-use Rattle.rules.specs.Lists.{same, isSome}
+use mathlib.Core.Option.{Option, some, none}
+use lib.Dec.{eqb}
+use lib.ListN.{getD}
+use borrow.Author.Tests.{eq-eqb, ne-eqb}
+use Rattle.rules.specs.Lists.{isSome}
 use Rattle.rules.specs.Layout.{whole}
 use Rattle.rules.specs.Book.{Record, ArticleRecord, PriceRecord, RoundingRecord, PackagingRecord, SchemeRecord, sale}
 use Rattle.rules.specs.BookLayout.{kinded}
 use Rattle.rules.specs.declared.PriceRow.{PriceRow}
-use Rattle.rules.proofs.ListLaws.{same-eq, same-refl}
-use Rattle.rules.proofs.TestLaws.{and-left, and-right, not-so}
-use Rattle.layout.specs.Reads.{part, nameStop}
-use Rattle.layout.specs.Ensures.{Number}
+use Rattle.rules.proofs.TestLaws.{not-so}
+use Rattle.layout.specs.Ensures.{Says}
 use Rattle.records.specs.Asks.{Accepted}
 use Rattle.records.specs.Ensures.{rowIn, RowIs}
-use Rattle.records.specs.Tests.{startsWith}
-use Rattle.records.proofs.FieldLaws.{kind-byte, first-long, first-in, starts-is}
+use Rattle.records.specs.Tests.{isRounding}
+use Rattle.records.proofs.FieldLaws.{kind-byte}
 use Rattle.survey.specs.declared.window.Span.{Span}
 use Rattle.survey.specs.Window.{SpanAfter}
 use Rattle.survey.proofs.WindowLaws.{span-kept}
 use Rattle.wanted.specs.declared.entries.Entry.{Entry}
-use Rattle.wanted.specs.Table.{FoundAt}
-use Rattle.wanted.specs.Entries.{ofArticle, isArticle, isRow, PlaceIs, SeenIs, windowIn, ToldIs}
-
--- ---- whose it is
-
--- kinds 1 and 2 start with the number of an article
-module _ {t : List ℕ} (p : Accepted t) (h : (eqb (getD t 0 0) 1 || eqb (getD t 0 0) 2) ≡ true) where
-  not-three : T (not (eqb (getD t 0 0) 3))
-  not-three = go (ℕ-discrete (getD t 0 0) 3)
-    where
-      go : Dec (getD t 0 0 ≡ 3) → T (not (eqb (getD t 0 0) 3))
-      go (yes e) = absurd (false≢true (sym (ap (λ (k : ℕ). eqb k 1 || eqb k 2) e) ∙ h))
-      go (no n) = rw (ne-eqb (getD t 0 0) 3 n) tt
-
-  pub place-long : 1 < length t
-  place-long = first-long t (getD t 0 0) not-three p refl
-
-  module _ {x : ℕ} (n : Number (getD t 1 0) 256 x) where
-    stop : Number (nameStop t 1) (2 + x + 1) (2 + x)
-    stop = record { is = omega (arith, n .is); below = omega arith }
-
-    pub place-in : 2 + x ≤ length t
-    place-in = first-in t (getD t 0 0) not-three p refl stop
-
-    named : ofArticle (whole kinded t) ≡ some (part t 2 (2 + x))
-    unfolding startsWith ofArticle
-    named = go (whole kinded t) (starts-is t (getD t 0 0) not-three p refl stop (part t 2 (2 + x)) (record { is = same-refl (part t 2 (2 + x)) }) .is)
-      where
-        -- no other kind starts so
-        other : (k : ℕ) (b : Bool) → (eqb k 1 || eqb k 2) ≡ false → (eqb k (getD t 0 0) && b) ≡ true → ⊥
-        other k b f e = false≢true (sym f ∙ ap (λ (j : ℕ). eqb j 1 || eqb j 2) (eqb-true k (getD t 0 0) (and-left (eqb k (getD t 0 0)) b e)) ∙ h)
-
-        go : (o : Option Record) → startsWith (getD t 0 0) (part t 2 (2 + x)) o ≡ true → ofArticle o ≡ some (part t 2 (2 + x))
-        go none e = absurd (false≢true e)
-        go (some (ArticleRecord a)) e =
-            ap some (same-eq (a .number) (part t 2 (2 + x)) (and-right (eqb 1 (getD t 0 0)) (same (a .number) (part t 2 (2 + x))) e))
-        go (some (PriceRecord r)) e =
-            ap some (same-eq (r .article) (part t 2 (2 + x)) (and-right (eqb 2 (getD t 0 0)) (same (r .article) (part t 2 (2 + x))) e))
-        go (some (RoundingRecord r)) e = absurd (other 3 _ refl e)
-        go (some (PackagingRecord r)) e = absurd (other 4 _ refl e)
-        go (some (SchemeRecord r)) e = absurd (other 5 _ refl e)
-
-    pub place-found : {names starts ends : List ℕ} {k r : ℕ} → FoundAt names starts ends k (part t 2 (2 + x)) r
-        → PlaceIs names starts ends k (whole kinded t) r
-    place-found {names} {starts} {ends} {k} {r} f = record {
-      fits = f .fits;
-      listed = λ y e. rw (← Option·some-injective (part t 2 (2 + x)) y (sym named ∙ e)) f;
-      other = λ e. absurd (Option·none-ne-some (part t 2 (2 + x)) (sym e ∙ named));
-    }
-
-pub place-none : {t : List ℕ} → Accepted t → (eqb (getD t 0 0) 1 || eqb (getD t 0 0) 2) ≡ false → {names starts ends : List ℕ} {n : ℕ}
-    → PlaceIs names starts ends n (whole kinded t) n
-unfolding ofArticle
-place-none {t} p f {names} {starts} {ends} {n} = record {
-  fits = omega arith;
-  listed = λ x e. absurd (go (whole kinded t) refl x e);
-  other = λ e. refl;
-}
-  where
-    go : (o : Option Record) → whole kinded t ≡ o → (x : List ℕ) → ofArticle o ≡ some x → ⊥
-    go none i x e = Option·none-ne-some x e
-    go (some (ArticleRecord a)) i x e = false≢true (sym f ∙ ap (λ (k : ℕ). eqb k 1 || eqb k 2) (kind-byte t (ArticleRecord a) i))
-    go (some (PriceRecord r)) i x e = false≢true (sym f ∙ ap (λ (k : ℕ). eqb k 1 || eqb k 2) (kind-byte t (PriceRecord r) i))
-    go (some (RoundingRecord r)) i x e = Option·none-ne-some x e
-    go (some (PackagingRecord r)) i x e = Option·none-ne-some x e
-    go (some (SchemeRecord r)) i x e = Option·none-ne-some x e
+use Rattle.wanted.specs.Entries.{isArticle, isRow, SeenIs, windowIn, ToldIs}
 
 -- ---- what is kept of it
 
@@ -141,6 +72,10 @@ module _ {t : List ℕ} where
     seen-row {row} r {a} {c} x y = record {
       after = λ w. record { found = ap (λ (b : Bool). e .found || b) (sym (article-byte p)); sale = rw (r .is) x; purchase = rw (r .is) y };
     }
+
+pub rounded-is : (s : Span) (o : Option Record) {r : Bool} {at end : ℕ} {next : Span} → Says (isRounding o) r → SpanAfter s r at end next
+    → SpanAfter s (isRounding o) at end next
+rounded-is s o {at = at} {end} {next} kind after = subst (λ (x : Bool). SpanAfter s x at end next) (sym (kind .is)) after
 
 -- ---- what is told of it
 

@@ -3,7 +3,7 @@ use Prim.Native.Nat.{ℕ, _+_, _-_, _*_, _^_, _≤_, _<_}
 use mathlib.Core.Path.{_≡_, refl, sym, _∙_, ap, subst}
 use mathlib.Core.Bool.{Bool, true, false, _&&_, _||_, not, cond, false≢true}
 use mathlib.Core.List.{List, [], _∷_}
-use mathlib.Core.Option.{Option, some, none}
+use mathlib.Core.Option.{Option, some, none, Option·none-ne-some}
 use native.Mathlib.Omega.{arith}
 use native.Mathlib.Decide.{decLt, ℕ-discrete}
 use lib.Dec.{eqb, ltb}
@@ -20,7 +20,6 @@ use Rattle.rules.specs.BookLayout.{kinded, records}
 use Rattle.rules.proofs.ListLaws.{same-eq, same-refl}
 use Rattle.rules.proofs.TestLaws.{or-false, or-assoc, and-false}
 use Rattle.layout.specs.Reads.{part}
-use Rattle.layout.specs.Ensures.{Says}
 use Rattle.layout.specs.Names.{nameAt, Listed}
 use Rattle.layout.specs.Records.{recordsLeft, Between, RecordHere, StopIs}
 use Rattle.book.proofs.WalkLaws.{pass-start, pass-here, pass-less, pass-next, pass-record, pass-end}
@@ -34,8 +33,10 @@ use Rattle.survey.specs.Survey.{FoundIs, nothing}
 use Rattle.survey.proofs.WindowLaws.{Spanning, span-kept, rows-gather, roundings-gather, roundings-outside, span-start, span-turn, span-end, windows}
 use Rattle.wanted.specs.declared.entries.Entry.{Entry}
 use Rattle.wanted.specs.Table.{FoundAt, PlacesFound}
-use Rattle.wanted.specs.Entries.{ofArticle, isArticle, isRow, PlaceIs, EntryAfter, SeenIs, rowsFor, foundIn, ToldIs, noEntry, noFound}
+use Rattle.wanted.specs.Entries.{ofArticle, isArticle, isRow, EntryAfter, SeenIs, rowsFor, foundIn, ToldIs, noEntry, noFound}
 use Rattle.wanted.specs.Entries.{SeenAll, PlacesIn, ToldAll, FoundAll}
+use Rattle.wanted.specs.declared.last.Last.{Last}
+use Rattle.wanted.specs.Last.{RecordAt, LastIs, LastAfter}
 
 -- ---- a record, and a question
 
@@ -56,6 +57,15 @@ module _ (article : List ℕ) (sort : ℕ) where
   its-article (some (RoundingRecord r)) e = refl
   its-article (some (PackagingRecord r)) e = refl
   its-article (some (SchemeRecord r)) e = refl
+
+  no-article : (o : Option Record) → ofArticle o ≡ none → Tests.articleOf article o ≡ isArticle o
+  unfolding ofArticle isArticle Tests.startsWith
+  no-article none e = refl
+  no-article (some (ArticleRecord a)) e = absurd (Option·none-ne-some (a .number) (sym e))
+  no-article (some (PriceRecord r)) e = refl
+  no-article (some (RoundingRecord r)) e = refl
+  no-article (some (PackagingRecord r)) e = refl
+  no-article (some (SchemeRecord r)) e = refl
 
   its-rows : (sold : Bool) → eqb sort sale ≡ sold → (o : Option Record) → isRow sold o ≡ false → (r : Record) → o ≡ some r
       → rowsOf article sort (r ∷ []) ≡ []
@@ -134,9 +144,9 @@ module _ {b : List ℕ} (article : List ℕ) (sort : ℕ) where
         (sym (ap (λ (rs : List Record). isSome (articleOf rs article)) (pass-record w h stop) ∙ article-turn here (recordsLeft b end) article))
         ∙ k .there
 
-    -- a record of the article
-    kept-its : ofArticle here ≡ some article → {new : Entry} → EntryAfter e here at end new → Kept b article sort new end
-    kept-its own {new} after = record { rows = go (eqb sort sale) refl; there = article-next (after .found) (its-article article sort here own) }
+    -- a record of the article, or of none
+    kept-its : Tests.articleOf article here ≡ isArticle here → {new : Entry} → EntryAfter e here at end new → Kept b article sort new end
+    kept-its own {new} after = record { rows = go (eqb sort sale) refl; there = article-next (after .found) own }
       where
         go : (t : Bool) → eqb sort sale ≡ t → Spanning (rowsOf article sort) b 5 (rowsFor new sort) end
         go true t =
@@ -165,16 +175,19 @@ one-place {i = i} {r} f g h =
     let l : i < _ = f .some r h a in
     omega (arith, f .last r h a, g .last i l (f .alike l))
 
-pub record Walking (b names starts ends : List ℕ) (n : ℕ) (entries : List Entry) (rounded : Span) (at : ℕ) : Type 0 where
+pub record Walking (b names starts ends : List ℕ) (n : ℕ) (entries : List Entry) (rounded : Span) (last : Last) (at : ℕ) : Type 0 where
   pub few : n ≤ 500
   pub between : Between b at
   pub long : length entries ≡ 501
   pub rounding : Spanning roundings b 5 rounded at
+  pub name : LastIs b names starts ends n last
   pub each : (article : List ℕ) (sort : ℕ) (r : ℕ) → FoundAt names starts ends n article r → r < n → Kept b article sort (getD entries r noEntry) at
 
 module _ (b names starts ends : List ℕ) (n : ℕ) where
-  pub walking-start : isSome (records b) ≡ true → Listed names starts ends n → Walking b names starts ends n (replicate 501 unseen) start 5
-  walking-start ok list = record {
+  pub walking-start : isSome (records b) ≡ true → Listed names starts ends n → {last : Last} → LastIs b names starts ends n last
+      → Walking b names starts ends n (replicate 501 unseen) start last 5
+  walking-start ok list name = record {
+    name = name;
     few = list .few;
     between = pass-start b ok;
     long = length-replicate 501 unseen;
@@ -182,7 +195,7 @@ module _ (b names starts ends : List ℕ) (n : ℕ) where
     each = λ article sort r f h. rw (getD-replicate 501 r unseen noEntry (omega (arith, list .few))) (kept-start article sort);
   }
 
-  module _ {entries : List Entry} {rounded : Span} {at : ℕ} (inv : Walking b names starts ends n entries rounded at) where
+  module _ {entries : List Entry} {rounded : Span} {last : Last} {at : ℕ} (inv : Walking b names starts ends n entries rounded last at) where
     pub walking-end : length b ≤ at → SeenAll b names starts ends n entries rounded
     unfolding articleOf
     walking-end h =
@@ -204,32 +217,48 @@ module _ (b names starts ends : List ℕ) (n : ℕ) where
       walking-here = pass-here (inv .between) h
 
       module _ {end : ℕ} (stop : StopIs b at end) where
+        pub walking-record : RecordAt b (at + 2) end
+        walking-record = record { low = omega (arith, stop .low); fits = stop .fits; accepted = record { ok = stop .ok } }
+
+        pub walking-name : LastIs b names starts ends n last
+        walking-name = inv .name
+
         pub walking-accepted : Accepted (take (end - (at + 2)) (drop (at + 2) b))
         walking-accepted = record { ok = stop .ok }
 
         pub walking-less : length b - end < length b - at
         walking-less = pass-less (inv .between) h stop
 
-        pub walking-turn : {i : ℕ} {new : Entry} {rounding : Bool} {next : Span}
-            → PlaceIs names starts ends n (whole kinded (take (end - (at + 2)) (drop (at + 2) b))) i
-            → SeenIs (ltb i n) (getD entries i noEntry) (whole kinded (take (end - (at + 2)) (drop (at + 2) b))) at end new
-            → Says (Tests.isRounding (whole kinded (take (end - (at + 2)) (drop (at + 2) b)))) rounding → SpanAfter rounded rounding at end next
-            → Walking b names starts ends n (set entries i new) next end
-        walking-turn {i} {new} place after kind noted = record {
+        pub walking-turn : {next : Last} {new : Entry} {span : Span}
+            → LastAfter b names starts ends n (whole kinded (part b (at + 2) end)) next
+            → SeenIs (ltb (next .place) n) (getD entries (next .place) noEntry) (whole kinded (take (end - (at + 2)) (drop (at + 2) b))) at end new
+            → SpanAfter rounded (Tests.isRounding (whole kinded (take (end - (at + 2)) (drop (at + 2) b)))) at end span
+            → Walking b names starts ends n (set entries (next .place) new) span next end
+        walking-turn {next} {new} name after noted = record {
+          name = name .is;
           few = inv .few;
           between = pass-next (inv .between) h stop;
-          long = length-set entries i new ∙ inv .long;
+          long = length-set entries (next .place) new ∙ inv .long;
           rounding =
               span-turn roundings-gather (inv .rounding) (inv .between) stop (pass-record (inv .between) h stop)
-              (λ f. roundings-outside (whole kinded (part b (at + 2) end)) (kind .is ∙ f)) noted;
-          each = λ article sort r f l. go article sort r f l (ℕ-discrete r i);
+              (roundings-outside (whole kinded (part b (at + 2) end))) noted;
+          each = λ article sort r f l. go article sort r f l (ℕ-discrete r (next .place));
         }
           where
-            -- at its place: the record is of that article
-            own : (article : List ℕ) (sort : ℕ) → FoundAt names starts ends n article i → i < n → (x : Option (List ℕ))
-                → ofArticle (whole kinded (part b (at + 2) end)) ≡ x → ofArticle (whole kinded (part b (at + 2) end)) ≡ some article
-            own article sort f l none e = absurd (omega (arith, place .other e))
-            own article sort f l (some x) e = e ∙ ap some (sym (place .listed x e .alike l) ∙ f .alike l)
+            i : ℕ
+            i = next .place
+
+            here : Option Record
+            here = whole kinded (part b (at + 2) end)
+
+            placed : (x : List ℕ) → ofArticle here ≡ some x → FoundAt names starts ends n x i
+            placed x e = subst (λ (y : List ℕ). FoundAt names starts ends n y i) (name .own x e) (name .is .found)
+
+            -- at its place: the record is of that article, or of none
+            own : (article : List ℕ) (sort : ℕ) → FoundAt names starts ends n article i → i < n → (x : Option (List ℕ)) → ofArticle here ≡ x
+                → Tests.articleOf article here ≡ isArticle here
+            own article sort f l none e = no-article article sort here e
+            own article sort f l (some x) e = its-article article sort here (e ∙ ap some (sym (placed x e .alike l) ∙ f .alike l))
 
             go : (article : List ℕ) (sort : ℕ) (r : ℕ) → FoundAt names starts ends n article r → r < n → Dec (r ≡ i)
                 → Kept b article sort (getD (set entries i new) r noEntry) end
@@ -239,10 +268,10 @@ module _ (b names starts ends : List ℕ) (n : ℕ) where
                 let k : i < length entries = omega (arith, inv .long, inv .few) in
                 subst (λ (j : ℕ). Kept b article sort (getD (set entries i new) j noEntry) end) (sym e)
                 (rw (getD-set-same entries i new noEntry k) (kept-its article sort (inv .each article sort i g m) (inv .between) h stop
-                (own article sort g m (ofArticle (whole kinded (part b (at + 2) end))) refl) (after .after (lt-ltb i n m))))
+                (own article sort g m (ofArticle here) refl) (after .after (lt-ltb i n m))))
             go article sort r f l (no d) =
                 rw (getD-set-other entries i r new noEntry d)
-                (kept-other article sort (inv .each article sort r f l) (inv .between) h stop (λ e. d (one-place (place .listed article e) f l)))
+                (kept-other article sort (inv .each article sort r f l) (inv .between) h stop (λ e. d (one-place (placed article e) f l)))
 
 -- ---- what is told of each name
 

@@ -44,12 +44,6 @@ isRow sold (some (RoundingRecord r)) = false
 isRow sold (some (PackagingRecord p)) = false
 isRow sold (some (SchemeRecord s)) = false
 
--- `r` is the place on the list of the article that the record is of, or n
-pub record PlaceIs (names starts ends : List ℕ) (n : ℕ) (o : Option Record) (r : ℕ) : Type 0 where
-  pub fits : r ≤ n
-  pub listed : (x : List ℕ) → ofArticle o ≡ some x → FoundAt names starts ends n x r
-  pub other : ofArticle o ≡ none → r ≡ n
-
 -- `r` is what is kept of an article once a record of it has gone by
 pub record EntryAfter (e : Entry) (o : Option Record) (at end : ℕ) (r : Entry) : Type 0 where
   pub found : r .found ≡ (e .found || isArticle o)

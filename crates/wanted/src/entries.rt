@@ -1,4 +1,5 @@
 // What a walk over a book keeps of an article on the list, and what is told of it in the end.
+use records::is_rounding;
 use records::row_of;
 use survey::Found;
 use survey::window::Span;
@@ -7,6 +8,8 @@ use survey::window::widened;
 ghost use Rattle.rules.specs.Layout.{whole};
 ghost use Rattle.rules.specs.BookLayout.{kinded};
 ghost use Rattle.records.specs.Asks.{Accepted};
+ghost use Rattle.records.specs.Tests.{isRounding};
+ghost use Rattle.survey.specs.Window.{SpanAfter};
 ghost use Rattle.wanted.specs.Entries.{SeenIs, ToldIs};
 
 // Whether its record has gone by, and from where to where rows of it stand: those for sale, and those for purchase.
@@ -42,6 +45,14 @@ pub fn seen(entry: Entry, wanted: bool, t: &[u8], at: usize, end: usize) -> Entr
         sale: widened(sale, sold, at, end),
         purchase: widened(purchase, !sold, at, end),
     }
+}
+
+// Where the roundings stand once a record, from `at` to `end`, has gone by.
+pub fn roundings_after(roundings: Span, t: &[u8], at: usize, end: usize) -> Span
+    requires { ⌜ Accepted (now t) ⌝ }
+    ensures { λ r. ⌜ SpanAfter roundings (isRounding (whole kinded (now (t .entry)))) at end r ⌝ }
+{
+    widened(roundings, is_rounding(t), at, end)
 }
 
 // What is told of an article, for rows of this sort.

@@ -1,29 +1,27 @@
 // The wanted list: up to 500 articles looked for in one walk over a book.
 mod entries;
+mod last;
 mod marks;
 mod table;
 
 use crate::entries::Entry;
+use crate::entries::roundings_after;
 use crate::entries::seen;
 use crate::entries::told;
-use crate::table::find;
+use crate::last::last_after;
+use crate::last::last_first;
 use crate::table::places_of;
 use crate::table::table_of;
 use book::record_stop;
-use layout::numbers::wide;
-use records::is_rounding;
 use survey::Found;
 use survey::window::Span;
-use survey::window::widened;
 ghost use mathlib.Core.Path.{_≡_};
 ghost use mathlib.Core.Bool.{true};
 ghost use Rattle.rules.specs.Lists.{isSome};
-ghost use Rattle.rules.specs.Layout.{whole};
-ghost use Rattle.rules.specs.BookLayout.{kinded, records};
-ghost use Rattle.records.specs.Asks.{Accepted};
+ghost use Rattle.rules.specs.BookLayout.{records};
 ghost use Rattle.layout.specs.Names.{Listed};
 ghost use Rattle.wanted.specs.Table.{Filled};
-ghost use Rattle.wanted.specs.Entries.{PlaceIs, SeenAll, PlacesIn, ToldAll, FoundAll};
+ghost use Rattle.wanted.specs.Entries.{SeenAll, PlacesIn, ToldAll, FoundAll};
 
 // Of each place on the list what was seen of its article, and where the roundings stand. What is at place n nobody reads.
 struct Sightings {
@@ -39,29 +37,6 @@ const UNSEEN: Entry = Entry {
     sale: START,
     purchase: START,
 };
-
-// The place on the list of the article whose record or row t is; n if it is of no article on it.
-fn place_of(
-    t: &[u8],
-    names: &[u8],
-    starts: &[usize; 500],
-    ends: &[usize; 500],
-    n: usize,
-    heads: &[usize; 1024],
-    links: &[usize; 500],
-) -> usize
-    requires { ⌜ Accepted (now t) ⌝ }
-    requires { ⌜ Listed (now names) (now starts) (now ends) n ⌝ }
-    requires { ⌜ Filled (now names) (now starts) (now ends) n (now heads) (now links) ⌝ }
-    ensures { λ r. ⌜ PlaceIs (now (names .entry)) (now (starts .entry)) (now (ends .entry)) n (whole kinded (now (t .entry))) r ⌝ }
-{
-    let kind = t[0];
-    if (kind == 1) | (kind == 2) {
-        let end = 2 + wide(t[1]);
-        return find(&t[2..end], names, starts, ends, n, heads, links);
-    }
-    n
-}
 
 // Each record of the book once.
 fn walk(
@@ -80,15 +55,17 @@ fn walk(
 {
     let mut entries = [UNSEEN; 501];
     let mut roundings = START;
+    let mut last = last_first(b, names, starts, ends, n, heads, links);
     let mut at = 5;
     while at < b.len() {
         let end = record_stop(b, at);
         let start = at + 2;
+        last = last_after(b, start, end, last, names, starts, ends, n, heads, links);
+        let i = last.place;
         let t = &b[start..end];
-        let i = place_of(t, names, starts, ends, n, heads, links);
         let old = entries[i];
         entries[i] = seen(old, i < n, t, at, end);
-        roundings = widened(roundings, is_rounding(t), at, end);
+        roundings = roundings_after(roundings, t, at, end);
         at = end;
     }
     Sightings { entries, roundings }
