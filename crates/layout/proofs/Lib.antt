@@ -3,6 +3,7 @@ pub mod PartLaws
 pub mod SequenceLaws
 pub mod NumberLaws
 pub mod StoreLaws
+pub mod PileLaws
 pub mod NameLaws
 pub mod FromLaws
 pub mod ReadingLaws

@@ -68,7 +68,7 @@ pub fn put_four(out: &mut [u8], at: usize, n: u32)
     put_two(out, at + 2, (n % 65536) as u16);
 }
 
-fn put_eight(out: &mut [u8], at: usize, n: u64)
+pub fn put_eight(out: &mut [u8], at: usize, n: u64)
     requires { ⌜ at + 8 ≤ length (now out) ⌝ }
     ensures { λ _. ⌜ Puts (now (out .entry)) at (bytesOf 8 n) (now (out .exit)) ⌝ }
 {

@@ -6,16 +6,14 @@ use lines::write_lines;
 use question::ask_of;
 use rules::PriceAnswer;
 use survey::Found;
-ghost use mathlib.Core.Path.{_≡_};
-ghost use Rattle.rules.specs.Price.{shown};
 ghost use Rattle.layout.specs.Records.{recordsLeft};
 ghost use Rattle.layout.specs.Ensures.{PutsTo};
-ghost use Rattle.price.specs.Answered.{Ready, HasRoom, answeredTo, linesTo};
+ghost use Rattle.price.specs.Answered.{Ready, HasRoom, AnswerTo, linesTo};
 
 // What a caller reads, by what was found for the question in the book.
 pub fn answer_to(book: &[u8], question: &[u8], found: Found) -> PriceAnswer
     requires { ⌜ Ready (now book) (now question) found ⌝ }
-    ensures { λ r. ⌜ r ≡ shown (answeredTo (recordsLeft (now (book .entry)) 5) (now (question .entry))) ⌝ }
+    ensures { λ r. ⌜ AnswerTo (recordsLeft (now (book .entry)) 5) (now (question .entry)) r ⌝ }
 {
     let ask = ask_of(question);
     if !found.article {
@@ -45,8 +43,8 @@ pub fn put_lines_to(out: &mut [u8], at: usize, book: &[u8], question: &[u8], fou
     let window = found.window;
     let quote = quoted(book, window, question, ask);
     let verdict = quote.verdict;
-    let outcome = verdict.outcome;
-    if outcome.refusal != 0 {
+    let said = verdict.outcome;
+    if said.refusal != 0 {
         return at;
     }
     let n = quote.n;

@@ -1,0 +1,3 @@
+pub mod Basket
+pub mod Located
+pub mod Read
