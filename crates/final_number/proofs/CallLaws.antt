@@ -20,7 +20,7 @@ use Rattle.rules.proofs.ListLaws.{absent}
 use Rattle.layout.specs.Ensures.{Puts, PutsTo}
 use Rattle.layout.proofs.StoreLaws.{puts-there, puts-front}
 use Rattle.layout.specs.Records.{recordsOf}
-use Rattle.book.proofs.WalkLaws.{book-records}
+use Rattle.lookup.proofs.LookupLaws.{book-records}
 use Rattle.records.specs.Asks.{OfKind}
 use Rattle.records.specs.Ensures.{bytesIn, articleIn, ArticleIs}
 use Rattle.records.specs.declared.articles.ArticleParts.{ArticleParts}

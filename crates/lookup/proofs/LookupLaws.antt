@@ -32,6 +32,8 @@ use Rattle.records.proofs.BoundLaws.{gives-record}
 use Rattle.records.proofs.RoundingLaws.{number-kind, rounding-long}
 use Rattle.lookup.specs.declared.roundings.Open.{Open}
 use Rattle.lookup.specs.Roundings.{RoundingUsed, roundingHeld, placedOr, RoundingHere, PlaceHeld, RoundingAt, Found, PlacesFound, Sought, Placing, Wants, OpenAre, NextOpen, PlaceAfter, PlacesAfter}
+-- at this door
+pub use Rattle.book.proofs.WalkLaws.{book-records}
 
 -- a record that has not the number
 passed : (n : ℕ) (o : Option Record) (rs : List Record) → (roundingNumber o ≡ n → ⊥) → roundingFor n (roundings (consSome o rs)) ≡ roundingFor n (roundings rs)
