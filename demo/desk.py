@@ -24,11 +24,14 @@ class Desk:
             self.texts = text_book(made["text"], [language]), text_book(made["text"], others)
         except ValueError as error:
             raise Wrong([f"{sheet.file}: {error}"]) from None
-        self.asked, self.properties = made["question"][0], made["property"]
+        self.asked, self.properties, self.offer = made["question"][0], made["property"], made["offer"]
 
     def question(self, day: date) -> bytes:
         asked = self.asked
         return rafttwine.question(asked.article, day, asked.quantity, asked.granted, self.properties)
+
+    def offered(self) -> list[bytes]:
+        return [rafttwine.question(one.article, one.day, one.quantity, one.granted) for one in self.offer]
 
 
 def other_languages(sheet: Sheet, language: str) -> list[str]:

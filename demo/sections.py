@@ -13,6 +13,7 @@ Values = Mapping[str, Any]
 # The longest period of a price calendar.
 MOST_DAYS = 1096
 MOST_LISTED = 32
+MOST_OFFERED = 200
 LONGEST_TEXT = 65_535
 
 
@@ -56,6 +57,16 @@ class Asked:
     last_day: date
 
 
+@dataclass(frozen=True)
+class Offered:
+    """A position of an offer."""
+
+    article: str
+    quantity: int
+    granted: list[str]
+    day: date
+
+
 def text(number: int, **languages: str) -> tuple[int, dict[str, str]]:
     return number, languages
 
@@ -92,6 +103,11 @@ def units(**known: str) -> dict[str, Column]:
 TEXT = name_of(0, LONGEST_TEXT)
 MEASURE = if_given(parts_of(3, -10_000_000, 10_000_000))
 COUNT = if_given(whole_of(-10_000, 10_000))
+ASKED_FOR = {
+    **named(1, 40, "article"),
+    "quantity": Column("quantity", whole_of(1, 100_000)),
+    "granted": Column("granted", several(name_of(1, 20), 0, MOST_LISTED, "names")),
+}
 
 SECTIONS: Mapping[str, Kind] = {
     "article": Kind(Article, {
@@ -127,9 +143,7 @@ SECTIONS: Mapping[str, Kind] = {
     }, key=("id",)),
     "text": Kind(text, {"number": Column("number", whole_of(1, 4_294_967_295))}, key=("number",), language=TEXT),
     "question": Kind(Asked, {
-        **named(1, 40, "article"),
-        "quantity": Column("quantity", whole_of(1, 100_000)),
-        "granted": Column("granted", several(name_of(1, 20), 0, MOST_LISTED, "names")),
+        **ASKED_FOR,
         "days": Column("days", several(day_of, 1, MOST_DAYS, "days as 2026-06-30")),
         "calendar from": Column("first_day", day_of),
         "calendar to": Column("last_day", day_of),
@@ -140,4 +154,8 @@ SECTIONS: Mapping[str, Kind] = {
         "value": Column("value", if_given(name_of(0, 30))),
         "hidden": Column("hidden", yes_or_no),
     }, most=MOST_LISTED),
+    "offer": Kind(Offered, {
+        **ASKED_FOR,
+        "day": Column("day", day_of),
+    }, most=MOST_OFFERED, refers={"article": "article"}),
 }

@@ -7,11 +7,12 @@ import os
 import sys
 from datetime import date
 from decimal import Decimal
-from typing import Callable, Iterable, Optional
+from typing import Callable, Iterable, Optional, Union
 
 from desk import Desk
-from rafttwine import Line, Packaging, Refusal, Refused, Stretch, calendar, final_number, packaging, price, text
+from rafttwine import Line, Packaging, Price, Refusal, Refused, Stretch, basket, calendar, final_number, packaging, price, text
 from rows import Sheet, Wrong
+from sections import Offered
 
 UNIT_NAMES = {"CMT": "cm", "FOT": "ft", "INH": "in", "MMT": "mm", "MTR": "m", "INQ": "cubic in", "LTR": "l", "MTQ": "cubic m",
               "KGM": "kg", "LBR": "lb", "MGM": "mg"}
@@ -50,6 +51,7 @@ def show(desk: Desk) -> None:
     some_day = desk.question(asked.days[0])
     sections = {
         **{f"Price on {day:%A} {day.day} {day:%B %Y}": answered(desk, lambda: itemised(desk, day)) for day in asked.days},
+        **({"Offer": answered(desk, lambda: offer(desk))} if desk.offer else {}),
         "Calendar of the price of one piece": answered(desk, lambda: stretches(desk)),
         "Order number": answered(desk, lambda: [(final_number(desk.book, some_day), "", "")]),
         "Cartons of one piece": answered(desk, lambda: measures(packaging(desk.book, some_day))),
@@ -87,16 +89,45 @@ def itemised(desk: Desk, day: date) -> list[Shown]:
     return [*listed, RULE, *summed, *((f"No price line for {asked.granted[place - 1]}", "", "") for place in answer.unused)]
 
 
+def offer(desk: Desk) -> list[Shown]:
+    """What each position costs, or why there is no price, and what those together cost that have one."""
+    prices = basket(desk.book, desk.offered())
+    rows = [row for one, found in zip(desk.offer, prices) for row in position(desk, one, found)]
+    sums = [("Together", amount(cents), currency) for currency, cents in prices.totals.items()]
+    lacking = sum(isinstance(one, Refusal) for one in prices)
+    note = [(f"Not in the sum: {lacking} without a price", "", "")] if sums and lacking else []
+    return [*rows, *([RULE, *sums] if sums else []), *note]
+
+
+def position(desk: Desk, one: Offered, found: Union[Price, Refusal]) -> list[Shown]:
+    """Called by the text of its first line, or else by its article, and by the wishes that are in the price."""
+    if isinstance(found, Refusal):
+        if found not in WHY_NOT:
+            raise Refused(found)
+        why = WHY_NO_STRETCH.get(found, f"on {one.day.day} {one.day:%b %Y}")
+        return [(f"{one.quantity} x {one.article}", "no price", why)]
+    name = text_of(desk, found.lines[0].text) or one.article
+    wishes = [one.granted[place - 1] for place in sorted({line.place for line in found.lines} - {0})]
+    unused = [(f"No price line for {wish}", "", "") for wish in found.unused_names]
+    return [(", ".join([f"{one.quantity} x {name}", *wishes]), amount(found.total), found.currency), *unused]
+
+
 def line_text(desk: Desk, line: Line) -> str:
     """The text of a line. A text that is nowhere is no reason to keep the price back."""
-    if not line.text:
-        return "no text number"
+    found = text_of(desk, line.text)
+    return found if found is not None else f"text {line.text}" if line.text else "no text number"
+
+
+def text_of(desk: Desk, number: int) -> Optional[str]:
+    """None for a text that is nowhere."""
+    if not number:
+        return None
     try:
-        return bytes(text(*desk.texts, line.text).part).decode("latin-1")
+        return bytes(text(*desk.texts, number).part).decode("latin-1")
     except Refused as refused:
         if refused.refusal is not Refusal.NO_TEXT:
             raise
-        return f"text {line.text}"
+        return None
 
 
 def stretches(desk: Desk) -> list[Shown]:

@@ -1,5 +1,6 @@
 /*
- * Rafttwine for C and C++: prices, price calendars, final article numbers, packaging data and line texts for planning tools.
+ * Rafttwine for C and C++: prices of an article or of a whole basket, price calendars, final article numbers, packaging data and line
+ * texts for planning tools.
  *
  * A maker's price rows stand in a price book, a string of bytes that was packed beforehand; what the lines of a price are called stands
  * in text books. A tool lends a book together with a question: which article, on which day, how many, and which conditions the planned
@@ -17,9 +18,9 @@
  * - Every call returns. None keeps or shares anything: no heap, no globals, no locks, no files, no clock, no locale, no errno. So any
  *   number of threads may call at once, over the same book too, and the same bytes always give the same answer.
  * - Of the C library only memcpy and memset are called.
- * - A calendar takes at most RAFTTWINE_CALENDAR_STACK_BYTES of stack, any other call at most RAFTTWINE_STACK_BYTES. This is measured
- *   and not proved: a test makes each call on a painted stack and fails if more of it was touched. What a program's loader takes to
- *   find memcpy and memset at the first call is in it.
+ * - A calendar takes at most RAFTTWINE_CALENDAR_STACK_BYTES of stack, a basket at most RAFTTWINE_BASKET_STACK_BYTES, any other call at
+ *   most RAFTTWINE_STACK_BYTES. This is measured and not proved: a test makes each call on a painted stack and fails if more of it was
+ *   touched. What a program's loader takes to find memcpy and memset at the first call is in it.
  *
  * WHAT YOU OWE
  *
@@ -31,7 +32,8 @@
  * - An output overlaps no input. Inputs may overlap: the asked text book may be the fallback too.
  * - A list of rafttwine_stretch is aligned as that type is. Bytes may start anywhere.
  * - Where a length is 0 the pointer is not followed. It may then be null.
- * - You look at the field `number` of an answer before you use the rest: a refused price is 0 cents, which is also a price.
+ * - You look at the field `number` of an answer before you use the rest, and in a basket at the number in front of each answer: a
+ *   refused price is 0 cents, which is also a price.
  * - A library that is loaded at run time has the first version number of this header. See rafttwine_version.
  *
  * WHAT A QUESTION LOOKS LIKE
@@ -52,7 +54,7 @@
  *                1 byte   0 if it has a value, 1 if it is hidden, 2 if nothing is selected
  *                a name   its value, of 1 to width bytes without spaces (32, 160) and backslashes; empty if it has none
  *
- * Nothing stands behind that.
+ * Nothing stands behind that; in a basket, the next question does.
  */
 #ifndef RAFTTWINE_H
 #define RAFTTWINE_H
@@ -66,7 +68,7 @@ extern "C" {
 
 /* This header's version. The first number changes when a program has to be compiled anew, the second when something is added. */
 #define RAFTTWINE_VERSION_MAJOR 1
-#define RAFTTWINE_VERSION_MINOR 1
+#define RAFTTWINE_VERSION_MINOR 2
 #define RAFTTWINE_VERSION_PATCH 0
 /* As one number that grows from version to version, and as text with dots between. */
 #define RAFTTWINE_VERSION_NUMBER (RAFTTWINE_VERSION_MAJOR * 10000 + RAFTTWINE_VERSION_MINOR * 100 + RAFTTWINE_VERSION_PATCH)
@@ -82,13 +84,14 @@ uint32_t rafttwine_version(void);
 
 /* More stack than a call takes. */
 #define RAFTTWINE_STACK_BYTES 65536
+#define RAFTTWINE_BASKET_STACK_BYTES 262144
 #define RAFTTWINE_CALENDAR_STACK_BYTES 262144
 
-/* What stands in the field `number` of every answer, and in `refusal` of a stretch. */
+/* What stands in the field `number` of every answer, in `refusal` of a stretch, and in front of each answer of a basket. */
 enum rafttwine_refusal {
     RAFTTWINE_DONE = 0,               /* not refused: the other fields hold the answer */
     RAFTTWINE_BROKEN_BOOK = 1,        /* the price book, or one of the two text books, is not laid out as such a book */
-    RAFTTWINE_BROKEN_QUESTION = 2,    /* the question is not laid out as above, or its day is not in the calendar */
+    RAFTTWINE_BROKEN_QUESTION = 2,    /* a question is not laid out as above, its day is not in the calendar, or a basket has too many */
     RAFTTWINE_NO_ARTICLE = 3,         /* the book does not have the article */
     RAFTTWINE_NO_BASE_LINE = 4,       /* no base price of the article holds: it has no price that day, in that quantity */
     RAFTTWINE_MIXED_CURRENCIES = 5,   /* a fixed amount among the lines is in another currency than the first base line */
@@ -106,7 +109,7 @@ static inline const char *rafttwine_refusal_text(unsigned number) {
     switch (number) {
     case RAFTTWINE_DONE: return "done";
     case RAFTTWINE_BROKEN_BOOK: return "the price book, or one of the text books, is not laid out as such a book";
-    case RAFTTWINE_BROKEN_QUESTION: return "the question is not laid out as one, or its day is not in the calendar";
+    case RAFTTWINE_BROKEN_QUESTION: return "a question is not laid out as one, its day is not in the calendar, or there are too many questions";
     case RAFTTWINE_NO_ARTICLE: return "the book does not have the article";
     case RAFTTWINE_NO_BASE_LINE: return "the article has no base price on that day, in that quantity";
     case RAFTTWINE_MIXED_CURRENCIES: return "a fixed amount is in another currency than the first base line";
@@ -147,6 +150,41 @@ typedef struct rafttwine_price_answer {
 
 rafttwine_price_answer rafttwine_price(const uint8_t *book, size_t book_length, const uint8_t *question, size_t question_length,
                                        uint8_t *lines, size_t lines_length);
+
+/* ---- The prices of a whole basket ---- */
+
+/* At most RAFTTWINE_BASKET_QUESTIONS questions are lent one behind the other, with nothing between them and nothing behind the last:
+ * each begins with its own length. Each gets the answer that rafttwine_price gives to it alone. First all answers are written in the
+ * questions' order, RAFTTWINE_ANSWER_BYTES each:
+ *
+ *   1 byte    0, or why the question has no price: 3, 4, 5 or 6; then zeros follow
+ *   8 bytes   the price of one piece in cents, signed (two's complement)
+ *   8 bytes   that times the quantity, signed likewise
+ *   3 bytes   the currency
+ *   8 bytes   how many lines it has
+ *   4 bytes   which granted conditions brought no line: the lowest bit for place 1
+ *   1 byte    how many those are
+ *
+ * Behind the last answer come the lines of all questions, RAFTTWINE_LINE_BYTES each: those of the first question, then those of the
+ * second, and so on. A question without a price has no lines, and the next one goes on.
+ *
+ * The refusal of the call itself is 1, 2 or 7, the first that applies: 2 also if one question of many is broken, or if there are too
+ * many; 7 if there is not room for everything. No question at all is no fault, and nothing is written then.
+ *
+ * For each question room for RAFTTWINE_ANSWER_BYTES and RAFTTWINE_MOST_LINES lines is enough, whatever it asks; nobody needs more than
+ * RAFTTWINE_MOST_BASKET_BYTES. */
+#define RAFTTWINE_BASKET_QUESTIONS 200
+#define RAFTTWINE_ANSWER_BYTES 33
+#define RAFTTWINE_MOST_BASKET_BYTES \
+    (RAFTTWINE_BASKET_QUESTIONS * (RAFTTWINE_ANSWER_BYTES + RAFTTWINE_MOST_LINES * RAFTTWINE_LINE_BYTES))
+
+typedef struct rafttwine_written {
+    uint64_t length; /* how many bytes were written */
+    uint8_t number;  /* 0, or the refusal */
+} rafttwine_written;
+
+rafttwine_written rafttwine_basket(const uint8_t *book, size_t book_length, const uint8_t *questions, size_t questions_length,
+                                   uint8_t *out, size_t out_length);
 
 /* ---- The text of a line ---- */
 
@@ -203,11 +241,6 @@ rafttwine_calendar_answer rafttwine_calendar_list(const uint8_t *book, size_t bo
 
 /* Writes Latin-1 bytes with no zero behind them. The refusal is 1, 2, 3 or 7, the first that applies. */
 #define RAFTTWINE_MOST_NUMBER_BYTES 1256
-
-typedef struct rafttwine_written {
-    uint64_t length; /* how many bytes were written */
-    uint8_t number;  /* 0, or the refusal */
-} rafttwine_written;
 
 rafttwine_written rafttwine_final_number(const uint8_t *book, size_t book_length, const uint8_t *question, size_t question_length,
                                          uint8_t *out, size_t out_length);

@@ -2,6 +2,7 @@
 //! docs/BENCHMARKS.md. It asserts no time: machines differ, and a reader compares the columns of one run.
 
 mod acceptance;
+mod basket;
 mod books;
 mod calendar;
 mod catalog;
@@ -20,5 +21,6 @@ fn main() {
     rows.extend(price::measure(&mut dice));
     rows.extend(calendar::measure(&mut dice));
     rows.extend(cut::measure(&mut dice));
+    rows.extend(basket::measure(&mut dice));
     timing::print_table(&rows);
 }

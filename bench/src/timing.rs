@@ -64,7 +64,10 @@ pub fn print_table(rows: &[Row]) {
         let times = row.times.map(milliseconds).join(" | ");
         let (by_a, by_b) = (ratio(c, a), ratio(c, b));
         let (each, by_pass) = row.pass.map_or_else(Default::default, |pass| (nanoseconds(c, pass.records), ratio(c, pass.time)));
-        println!("| {} | {} | {} | {times} | {by_a} | {by_b} | {each} | {by_pass} | {} |", row.call, row.input, row.size, row.beside);
+        println!(
+            "| {} | {} | {} | {times} | {by_a} | {by_b} | {each} | {by_pass} | {} |",
+            row.call, row.input, row.size, row.beside
+        );
     }
 }
 

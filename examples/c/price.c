@@ -1,4 +1,4 @@
-/* A price as a salesperson reads it, a price calendar, and refusals, from a price book that is made here by hand.
+/* A price as a salesperson reads it, a basket of prices, a price calendar, and refusals, from a price book that is made here by hand.
  *
  *   cc price.c $(pkg-config --cflags --libs rafttwine) -o price
  *
@@ -204,6 +204,32 @@ static void print_price(const packed *book, const packed *texts, const packed *a
         if (price.unused >> at & 1) printf("  No price line for %s\n", granted[at]);
 }
 
+/* One answer of a basket: its fields stand as the header lists them. Returns where the next question's lines start. */
+static const uint8_t *print_answer(const packed *texts, const uint8_t *answer, const uint8_t *lines) {
+    const uint8_t *currency = answer + 17;
+    int64_t count = number_at(answer + 20, 8);
+    if (answer[0] != RAFTTWINE_DONE) printf("  No price: %s\n", rafttwine_refusal_text(answer[0]));
+    for (int64_t at = 0; at < count; at++, lines += RAFTTWINE_LINE_BYTES) print_line(texts, lines, currency);
+    if (answer[0] == RAFTTWINE_DONE) print_amount("All pieces", number_at(answer + 9, 8), currency);
+    return lines;
+}
+
+static void print_basket(const packed *book, const packed *texts, const packed *asked, size_t count) {
+    static uint8_t out[RAFTTWINE_MOST_BASKET_BYTES];
+    packed questions;
+    questions.length = 0;
+    for (size_t at = 0; at < count; at++)
+        for (size_t byte = 0; byte < asked[at].length; byte++) add_byte(&questions, asked[at].bytes[byte]);
+    rafttwine_written found =
+        rafttwine_basket(book->bytes, book->length, questions.bytes, questions.length, out, sizeof out);
+    if (found.number != RAFTTWINE_DONE) {
+        printf("  No prices: %s\n", rafttwine_refusal_text(found.number));
+        return;
+    }
+    const uint8_t *lines = out + count * RAFTTWINE_ANSWER_BYTES;
+    for (size_t at = 0; at < count; at++) lines = print_answer(texts, out + at * RAFTTWINE_ANSWER_BYTES, lines);
+}
+
 static void print_calendar(const packed *book, const packed *asked, uint32_t end) {
     static rafttwine_stretch stretches[RAFTTWINE_MOST_STRETCHES];
     rafttwine_calendar_answer found = rafttwine_calendar_list(book->bytes, book->length, asked->bytes, asked->length, end,
@@ -240,6 +266,9 @@ int main(void) {
     print_price(&book, &texts, &next_year);
     puts("An article that is not in the book");
     print_price(&book, &texts, &unknown);
+    puts("One piece on 1 July 2024, two on 1 January 2025 and five on 30 June 2024, asked at once");
+    packed basket[] = {question("A1", 20240701, 1), next_year, question("A1", 20240630, 5)};
+    print_basket(&book, &texts, basket, sizeof basket / sizeof *basket);
     puts("A book of which the last byte is lost");
     book.length--;
     print_price(&book, &texts, &june);

@@ -20,6 +20,13 @@ pub struct Part {
     pub lines: Vec<u8>,
 }
 
+impl Part {
+    /// How many bytes it adds.
+    pub fn length(&self) -> usize {
+        ANSWER_LENGTH + self.lines.len()
+    }
+}
+
 /// The room is asked for once, for all answers and lines together; no question has a 7 of its own.
 pub fn basket(book: &[u8], questions: &[u8], out: &mut [u8]) -> Written {
     match parts(book, questions).and_then(|parts| write(&laid_out(&parts), out)) {

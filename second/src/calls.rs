@@ -9,6 +9,7 @@ pub trait Calls {
     fn final_number(&self, book: &[u8], question: &[u8], out: &mut [u8]) -> Written;
     fn packaging(&self, book: &[u8], question: &[u8]) -> PackagingAnswer;
     fn text(&self, asked: &[u8], fallback: &[u8], number: u32) -> TextAnswer;
+    fn basket(&self, book: &[u8], questions: &[u8], out: &mut [u8]) -> Written;
 }
 
 /// The two calls of the manufacturer's price file.
@@ -43,6 +44,10 @@ impl Calls for Second {
 
     fn text(&self, asked: &[u8], fallback: &[u8], number: u32) -> TextAnswer {
         crate::text(asked, fallback, number)
+    }
+
+    fn basket(&self, book: &[u8], questions: &[u8], out: &mut [u8]) -> Written {
+        crate::basket(book, questions, out)
     }
 }
 
@@ -107,6 +112,14 @@ mod linked {
             fallback_len: usize,
             number: u32,
         ) -> TextAnswer;
+        pub fn rafttwine_basket(
+            book: *const u8,
+            book_len: usize,
+            questions: *const u8,
+            questions_len: usize,
+            out: *mut u8,
+            out_len: usize,
+        ) -> Written;
     }
 }
 
@@ -167,5 +180,11 @@ impl Calls for Archive {
 
     fn text(&self, asked: &[u8], fallback: &[u8], number: u32) -> TextAnswer {
         unsafe { linked::rafttwine_text(asked.as_ptr(), asked.len(), fallback.as_ptr(), fallback.len(), number) }
+    }
+
+    fn basket(&self, book: &[u8], questions: &[u8], out: &mut [u8]) -> Written {
+        unsafe {
+            linked::rafttwine_basket(book.as_ptr(), book.len(), questions.as_ptr(), questions.len(), out.as_mut_ptr(), out.len())
+        }
     }
 }

@@ -236,6 +236,7 @@ pub fn sweep() -> impl Iterator<Item = Case> {
         (Target::Question, inputs.question.len()),
         (Target::Asked, inputs.asked.len()),
         (Target::Fallback, inputs.fallback.len()),
+        (Target::Basket, inputs.basket.len()),
     ];
     targets.into_iter().flat_map(move |(target, length)| {
         let plain = plain.clone();

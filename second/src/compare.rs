@@ -1,6 +1,7 @@
 //! Runs one call of a case and keeps everything that can be seen of it.
 
 use crate::answers::{CalendarAnswer, PackagingAnswer, Placed, PriceAnswer, Stretch, TextAnswer, Written};
+use crate::basket::{parts, Part, ANSWER_LENGTH};
 use crate::calendar::{stretches, STRETCH_LENGTH};
 use crate::calls::{Calls, Second};
 use crate::cases::{Case, Inputs};
@@ -14,9 +15,11 @@ pub enum Call {
     FinalNumber,
     Packaging,
     Text,
+    Basket,
 }
 
-pub const ALL_CALLS: [Call; 6] = [Call::Price, Call::Calendar, Call::CalendarList, Call::FinalNumber, Call::Packaging, Call::Text];
+pub const ALL_CALLS: [Call; 7] =
+    [Call::Price, Call::Calendar, Call::CalendarList, Call::FinalNumber, Call::Packaging, Call::Text, Call::Basket];
 
 impl Call {
     pub fn name(self) -> &'static str {
@@ -27,6 +30,7 @@ impl Call {
             Call::FinalNumber => "final_number",
             Call::Packaging => "packaging",
             Call::Text => "text",
+            Call::Basket => "basket",
         }
     }
 
@@ -40,6 +44,7 @@ impl Call {
             Call::FinalNumber => &[0, 1, 2, 3, 7],
             Call::Packaging => &[0, 1, 2, 3, 8, 11],
             Call::Text => &[0, 1, 12],
+            Call::Basket => &[0, 1, 2, 7],
         }
     }
 }
@@ -52,6 +57,10 @@ pub const PROGRAM_NUMBERS: [u8; 5] = [0, 1, 2, 3, 9];
 /// and a missing article refuse the whole calendar, and a day's price is written nowhere, so there
 /// is no 7.
 pub const STRETCH_NUMBERS: [u8; 4] = [0, 4, 5, 6];
+
+/// Numbers that a question of a basket can have: those of the price call that leave the other
+/// questions alone. Broken input and too little room refuse the whole basket.
+pub const QUESTION_NUMBERS: [u8; 5] = [0, 3, 4, 5, 6];
 
 #[derive(Debug, Clone, Copy, PartialEq, Eq)]
 pub enum Answer {
@@ -110,6 +119,7 @@ pub struct Sizes {
     pub calendar: usize,
     pub list: usize,
     pub number: usize,
+    pub basket: usize,
 }
 
 /// A call that refuses for another reason than room still gets some, to be seen untouched.
@@ -118,10 +128,12 @@ const ROOM_OF_THE_REFUSED: usize = 3;
 /// More than any listing or any final number takes.
 const ROOM_FOR_ALL: usize = 2_000;
 
-/// What this library says beforehand: the sizes the case's rooms come to, and the stretches.
+/// What this library says beforehand: the sizes the case's rooms come to, the stretches, and the
+/// numbers of the basket's questions.
 pub struct Plan {
     pub sizes: Sizes,
     pub stretches: Vec<Stretch>,
+    pub questions: Vec<u8>,
 }
 
 impl Plan {
@@ -142,13 +154,20 @@ impl Plan {
             0 => ROOM_OF_THE_REFUSED,
             count => count,
         };
+        let parts = parts(&inputs.book, &inputs.basket);
+        let basket = match &parts {
+            Ok(parts) => parts.iter().map(Part::length).sum(),
+            Err(_) => ROOM_OF_THE_REFUSED * ANSWER_LENGTH,
+        };
+        let questions = parts.unwrap_or_default().iter().map(|part| part.answer.number).collect();
         let sizes = Sizes {
             price: case.rooms.price.size(lines),
             calendar: case.rooms.calendar.size(records * STRETCH_LENGTH),
             list: case.rooms.list.size(records),
             number: case.rooms.number.size(number),
+            basket: case.rooms.basket.size(basket),
         };
-        Plan { sizes, stretches }
+        Plan { sizes, stretches, questions }
     }
 }
 
@@ -202,6 +221,10 @@ pub fn run(call: Call, calls: &dyn Calls, inputs: &Inputs, sizes: Sizes) -> Outc
         Call::Text => {
             let (asked, fallback) = (&inputs.asked, &inputs.fallback);
             Answer::Text(calls.text(asked, fallback, inputs.text_number))
+        }
+        Call::Basket => {
+            bytes = pattern(sizes.basket + GUARD);
+            Answer::Written(calls.basket(book, &inputs.basket, &mut bytes[..sizes.basket]))
         }
     };
     Outcome { answer, bytes, list }

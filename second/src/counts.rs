@@ -1,6 +1,6 @@
 //! How often each number came up in a comparison.
 
-use crate::compare::{Call, ALL_CALLS, PROGRAM_NUMBERS, STRETCH_NUMBERS};
+use crate::compare::{Call, ALL_CALLS, PROGRAM_NUMBERS, QUESTION_NUMBERS, STRETCH_NUMBERS};
 
 /// Refusal numbers, and 0 for done.
 const NUMBERS: usize = 13;
@@ -11,7 +11,7 @@ struct Row {
     counts: [u64; NUMBERS],
 }
 
-/// A row for each call, for the program and for the stretches, in this order.
+/// A row for each call, for the program, for the stretches and for the questions of baskets, in this order.
 pub struct Counts {
     rows: Vec<Row>,
 }
@@ -25,6 +25,7 @@ impl Default for Counts {
         }
         rows.push(row("program", &PROGRAM_NUMBERS));
         rows.push(row("stretches", &STRETCH_NUMBERS));
+        rows.push(row("questions", &QUESTION_NUMBERS));
         Counts { rows }
     }
 }
@@ -40,6 +41,10 @@ impl Counts {
 
     pub fn stretch(&mut self, number: u8) {
         self.rows[ALL_CALLS.len() + 1].counts[usize::from(number)] += 1;
+    }
+
+    pub fn question(&mut self, number: u8) {
+        self.rows[ALL_CALLS.len() + 2].counts[usize::from(number)] += 1;
     }
 
     pub fn add(&mut self, other: &Counts) {

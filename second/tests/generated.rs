@@ -7,7 +7,7 @@ use broken::Broken;
 use second::basket::parts;
 use second::calls::Second;
 use second::cases::{plain_case, Case};
-use second::compare::{compare, run, Call, Plan, ALL_CALLS};
+use second::compare::{compare, run, Call, Plan, ALL_CALLS, QUESTION_NUMBERS};
 use second::counts::Counts;
 use second::shrink::shrunk;
 
@@ -55,28 +55,21 @@ fn every_number_comes_up() {
 }
 
 #[test]
-fn every_number_of_a_basket_comes_up() {
+fn every_number_of_a_question_in_a_basket_comes_up() {
     let mut seen = [0u32; 13];
-    let mut seen_of_questions = [0u32; 13];
     let mut counts = Vec::new();
     for index in 0..1_500 {
         let case = Case::generate_small(3, index);
-        let inputs = case.inputs();
-        let parts = parts(&inputs.book, &inputs.basket).unwrap_or_default();
-        let needed = parts.iter().map(|part| 33 + part.lines.len()).sum();
-        let mut out = vec![0; case.rooms.basket.size(needed)];
-        let written = second::basket(&inputs.book, &inputs.basket, &mut out);
-        seen[usize::from(written.number)] += 1;
-        for part in &parts {
-            seen_of_questions[usize::from(part.answer.number)] += 1;
+        let questions = Plan::of(&case, &case.inputs()).questions;
+        for number in &questions {
+            seen[usize::from(*number)] += 1;
         }
-        counts.push(parts.len());
+        counts.push(questions.len());
     }
-    for number in 0..13 {
-        assert_eq!([0, 1, 2, 7].contains(&number), seen[number] >= 15, "{number}: {seen:?}");
-        assert_eq!([0, 3, 4, 5, 6].contains(&number), seen_of_questions[number] >= 15, "{number}: {seen_of_questions:?}");
+    for (number, count) in (0u8..).zip(seen) {
+        assert_eq!(QUESTION_NUMBERS.contains(&number), count >= 15, "{number}: {count}");
     }
-    assert!([0, 1, 2, 3, 4, 6, 200].iter().all(|count| counts.contains(count)));
+    assert!([0, 1, 2, 3, 4, 6, 199, 200].iter().all(|count| counts.contains(count)));
 }
 
 #[test]
@@ -112,12 +105,16 @@ fn shrinking_keeps_the_question_of_a_basket_that_matters() {
     assert_eq!(small.book.len(), 2);
 }
 
-/// The first of many cases on which a broken price call is noticed, made small.
+/// The first of many cases on which a broken call is noticed, made small.
 fn noticed(broken: &Broken) -> Case {
+    let call = match broken {
+        Broken::Price(_) => Call::Price,
+        Broken::Basket(_) => Call::Basket,
+    };
     let differs = |case: &Case| {
         let inputs = case.inputs();
         let sizes = Plan::of(case, &inputs).sizes;
-        compare(Call::Price, broken, &inputs, sizes).1.is_some()
+        compare(call, broken, &inputs, sizes).1.is_some()
     };
     let case = (0..2_000).map(|index| Case::generate_small(9, index)).find(differs).expect("what is broken is noticed");
     shrunk(&case, &differs)
@@ -125,14 +122,14 @@ fn noticed(broken: &Broken) -> Case {
 
 #[test]
 fn a_wrong_count_is_noticed() {
-    let small = noticed(&Broken(|answer, _| answer.unused_count -= u8::from(answer.unused_count > 1)));
+    let small = noticed(&Broken::Price(|answer, _| answer.unused_count -= u8::from(answer.unused_count > 1)));
     assert_eq!(small.book.len(), 2);
     assert_eq!(small.question.granted.len(), 2);
 }
 
 #[test]
 fn a_byte_behind_the_output_is_noticed() {
-    let small = noticed(&Broken(|answer, out| {
+    let small = noticed(&Broken::Price(|answer, out| {
         if let (0, Some(behind)) = (answer.number, out.get_mut(answer.lines as usize * 14)) {
             *behind ^= 1;
         }
@@ -142,9 +139,43 @@ fn a_byte_behind_the_output_is_noticed() {
 
 #[test]
 fn a_field_beside_a_refusal_is_noticed() {
-    let small = noticed(&Broken(|answer, _| answer.unused |= u32::from(answer.number == 4)));
+    let small = noticed(&Broken::Price(|answer, _| answer.unused |= u32::from(answer.number == 4)));
     assert_eq!(small.book.len(), 1);
     assert!(small.question.granted.is_empty());
+}
+
+#[test]
+fn a_wrong_number_of_a_question_is_noticed() {
+    // The second answer of a basket, if it is a refused one.
+    let small = noticed(&Broken::Basket(|answer, out| {
+        if answer.length >= 66 && (3..=6).contains(&out[33]) {
+            out[33] = 0;
+        }
+    }));
+    assert!(small.book.is_empty());
+    assert_eq!(small.basket.len(), 2);
+    assert!(small.basket.iter().all(|question| question.granted.is_empty() && question.properties.is_empty()));
+}
+
+#[test]
+fn a_byte_behind_a_basket_is_noticed() {
+    let small = noticed(&Broken::Basket(|answer, out| {
+        if let (0, Some(behind)) = (answer.number, out.get_mut(answer.length as usize)) {
+            *behind ^= 1;
+        }
+    }));
+    assert!(small.book.is_empty() && small.basket.is_empty());
+}
+
+#[test]
+fn a_written_byte_of_a_refused_basket_is_noticed() {
+    let small = noticed(&Broken::Basket(|answer, out| {
+        if let (7, Some(first)) = (answer.number, out.first_mut()) {
+            *first ^= 1;
+        }
+    }));
+    assert!(small.book.is_empty());
+    assert_eq!(small.basket.len(), 1);
 }
 
 #[test]

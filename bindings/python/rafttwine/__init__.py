@@ -1,9 +1,10 @@
-"""Prices of furniture by the Rafttwine library: itemised prices, price calendars, order numbers, packaging data, line texts.
+"""Prices of furniture by the Rafttwine library: itemised prices, baskets of them, price calendars, order numbers, packaging data,
+line texts.
 
 A price in five lines, over a book made on the spot:
 
 >>> from datetime import date
->>> from rafttwine import Article, Cents, Level, Percent, PriceRow, book, price, question
+>>> from rafttwine import Article, Cents, Level, Percent, PriceRow, basket, book, price, question
 >>> oak = PriceRow("A1", Level.SURCHARGE, Percent("12.50"), condition="OAK")
 >>> table = book(Article("A1"), PriceRow("A1", Level.BASE, Cents(10_000)), oak)
 >>> print(price(table, question("A1", date(2024, 6, 30), granted=["oak", "castor"])))
@@ -12,6 +13,18 @@ surcharge  no text  oak   12.50 EUR
 -----------------------------------
 One piece                112.50 EUR
 No price line for castor
+
+A whole basket in one call, with the reason in the place of a price that there is not:
+
+>>> june, next_year = date(2024, 6, 30), date(2025, 1, 1)
+>>> shelf = book(Article("S1"), PriceRow("S1", Level.BASE, Cents(8_950), last=june))
+>>> print(basket(shelf, [question("S1", june, quantity=3), question("S1", next_year), question("L7", june)]))
+S1  3 pieces  89.50  268.50 EUR
+S1  1 piece   no price: the article has no base price on that day, in that quantity
+L7  1 piece   the book does not have the article
+-------------------------------
+Together             268.50 EUR
+Without a price: 2 of 3
 
 Books, questions and text books are bytes; `book`, `question` and `text_book` make them of readable values, and `read_book`,
 `read_question` and `read_text_book` make readable values of them. A call takes `bytes`, or any contiguous buffer of bytes such as a
@@ -31,9 +44,9 @@ The library is looked for when it is first needed: the file that the environment
 librafttwine.so.1 in the package's folder, or beside that; else in target/lib of the tree that the package stands in, where
 tools/shared-library makes it; else in the system.
 """
-from .answers import DayPrice, Line, Packaging, Price, Source, Stretch, Text
+from .answers import Asked, Basket, DayPrice, Line, Packaging, Price, Source, Stretch, Text
 from .books import book, read_book
-from .calls import calendar, calendar_list, final_number, packaging, price, text, version
+from .calls import basket, calendar, calendar_list, final_number, packaging, price, text, version
 from .cartons import PackagingRow
 from .packing import BrokenBytes
 from .properties import Property
@@ -45,8 +58,9 @@ from .texts import TextRow, read_text_book, text_book
 from .words import Cents, Level, NoDay, Percent, RowWarning, Rule, Sort, Way
 
 __all__ = [
-    "Article", "BrokenBytes", "Cents", "DayPrice", "Level", "Line", "NoDay", "Packaging", "PackagingRow", "Percent", "Price",
-    "PriceRow", "Property", "Question", "Refusal", "Refused", "Rounding", "RowWarning", "Rule", "Scheme", "Sort", "Source",
-    "Stretch", "Text", "TextRow", "Way", "__version__", "book", "calendar", "calendar_list", "final_number", "packaging",
-    "price", "question", "read_book", "read_question", "read_text_book", "text", "text_book", "version",
+    "Article", "Asked", "Basket", "BrokenBytes", "Cents", "DayPrice", "Level", "Line", "NoDay", "Packaging", "PackagingRow",
+    "Percent", "Price", "PriceRow", "Property", "Question", "Refusal", "Refused", "Rounding", "RowWarning", "Rule", "Scheme",
+    "Sort", "Source", "Stretch", "Text", "TextRow", "Way", "__version__", "basket", "book", "calendar", "calendar_list",
+    "final_number", "packaging", "price", "question", "read_book", "read_question", "read_text_book", "text", "text_book",
+    "version",
 ]

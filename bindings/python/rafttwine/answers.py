@@ -4,7 +4,7 @@ from __future__ import annotations
 from dataclasses import dataclass
 from datetime import date
 from enum import IntEnum
-from typing import Optional, Union
+from typing import Iterator, Optional, Sequence, Union, overload
 
 from .lending import Lent
 from .refusals import Refusal
@@ -44,6 +44,54 @@ class Price:
         neither shows as its number, and so do all if a text book is broken, which the last line then says."""
         from .showing import price_table  # here, since it asks the library, whose calls make prices
         return price_table(self, asked, fallback, encoding)
+
+
+Entry = Union[Price, Refusal]
+
+
+@dataclass(frozen=True)
+class Asked:
+    """What a position of a basket asks for."""
+
+    article: str
+    quantity: int
+
+
+@dataclass(frozen=True)
+class Basket(Sequence[Entry]):
+    """The prices of many questions, in their order: a sequence of prices, with the refusal in the place of one that there is not.
+    `asked` has what each asks for. Printed, it is a table with what all pieces of each cost."""
+
+    entries: tuple[Entry, ...]
+    asked: tuple[Asked, ...]
+
+    @overload
+    def __getitem__(self, place: int) -> Entry: ...
+
+    @overload
+    def __getitem__(self, place: slice) -> tuple[Entry, ...]: ...
+
+    def __getitem__(self, place: Union[int, slice]) -> Union[Entry, tuple[Entry, ...]]:
+        return self.entries[place]
+
+    def __len__(self) -> int:
+        return len(self.entries)
+
+    def __iter__(self) -> Iterator[Entry]:
+        return iter(self.entries)
+
+    @property
+    def totals(self) -> dict[str, int]:
+        """What everything costs that has a price, by currency: amounts in different currencies make no sum."""
+        found: dict[str, int] = {}
+        for one in self.entries:
+            if isinstance(one, Price):
+                found[one.currency] = found.get(one.currency, 0) + one.total
+        return found
+
+    def __str__(self) -> str:
+        from .showing import basket_table  # here, as for a price
+        return basket_table(self)
 
 
 @dataclass(frozen=True)

@@ -4,21 +4,23 @@ from __future__ import annotations
 from ctypes import c_uint8
 from datetime import date
 from struct import iter_unpack
-from typing import Any, Optional, Union
+from typing import Any, Optional, Sequence, Union
 
 from . import checks
-from .answers import DayPrice, Line, Packaging, Price, Source, Stretch, Text
+from .answers import Basket, DayPrice, Line, Packaging, Price, Source, Stretch, Text
 from .finding import version_of
 from .lending import Lent, part
 from .library import StretchRecord, call, library
-from .questions import asked_in
+from .questions import asked_for, asked_in, end_to_end
 from .refusals import Refusal, Refused
 from .words import Level, day_number, day_of
 
-# A line and a stretch as they are written, and the most that there can be of each.
+# A line, an answer of a basket and a stretch as they are written, and the most that there can be of each.
 LINE = ">IcBq"
 LINE_BYTES = 14
 MOST_LINES = 99
+ANSWER = ">Bqq3sQIB"
+ANSWER_BYTES = 33
 STRETCH = ">IIB3sq"
 STRETCH_BYTES = 20
 MOST_STRETCHES = 1096
@@ -41,14 +43,22 @@ def price(book: Lent, question: Lent) -> Price:
     """The itemised price of the article asked for."""
     lines = LinesRoom()
     answer = _accepted(call("price", book, question, lines))
-    quantity, names = asked_in(question)
-    unused = tuple(place for place in names if place and answer.unused >> place - 1 & 1)
-    return Price(
-        unit=answer.unit, total=answer.total, currency=_letters(answer.currency),
-        lines=tuple(Line(text, Level(level), place, amount, names[place])
-                    for text, level, place, amount in iter_unpack(LINE, bytes(lines)[:answer.lines * LINE_BYTES])),
-        unused=unused, quantity=quantity, unused_names=tuple(names[place] for place in unused),
-    )
+    written = bytes(lines)[:answer.lines * LINE_BYTES]
+    return _price(question, answer.unit, answer.total, answer.currency, answer.unused, written)
+
+
+def basket(book: Lent, questions: Sequence[Lent]) -> Basket:
+    """The itemised prices of up to 200 questions, in their order, each as `price` gives it. A question that has no price has its
+    refusal in that place, which is not raised; what is raised is about all of them: a broken book, or a broken question."""
+    asked = end_to_end("basket.questions", questions)
+    out = (c_uint8 * (len(asked) * (ANSWER_BYTES + MOST_LINES * LINE_BYTES)))()
+    answer = _accepted(call("basket", book, b"".join(asked), out))
+    answers, lines = _split(bytes(out)[:answer.length], len(asked) * ANSWER_BYTES)
+    entries: list[Union[Price, Refusal]] = []
+    for one, (number, unit, total, currency, count, unused, _) in zip(asked, iter_unpack(ANSWER, answers)):
+        own, lines = _split(lines, count * LINE_BYTES)
+        entries.append(Refusal(number) if number else _price(one, unit, total, currency, unused, own))
+    return Basket(tuple(entries), tuple(map(asked_for, asked)))
 
 
 def calendar(book: Lent, question: Lent, end: date) -> tuple[Stretch, ...]:
@@ -91,8 +101,24 @@ def text(asked: Lent, fallback: Lent, number: int) -> Text:
 
 
 def version() -> str:
-    """The version of the library that is loaded, as 1.1.0. That of the package is `__version__`."""
+    """The version of the library that is loaded, as 1.2.0. That of the package is `__version__`."""
     return version_of(library())
+
+
+def _price(question: Lent, unit: int, total: int, currency: Any, unused: int, lines: bytes) -> Price:
+    """A price by its parts, with the names that its question grants."""
+    quantity, names = asked_in(question)
+    places = tuple(place for place in names if place and unused >> place - 1 & 1)
+    return Price(
+        unit=unit, total=total, currency=_letters(currency),
+        lines=tuple(Line(text, Level(level), place, amount, names[place])
+                    for text, level, place, amount in iter_unpack(LINE, lines)),
+        unused=places, quantity=quantity, unused_names=tuple(names[place] for place in places),
+    )
+
+
+def _split(written: bytes, place: int) -> tuple[bytes, bytes]:
+    return written[:place], written[place:]
 
 
 def _end(called: str, end: date) -> int:

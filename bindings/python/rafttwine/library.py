@@ -43,6 +43,7 @@ LIST = [POINTER(StretchRecord), c_size_t]
 # What each call returns, and what it takes, by name.
 CALLS: dict[str, tuple[Any, dict[str, list[Any]]]] = {
     "price": (PriceAnswer, {"book": READ, "question": READ, "lines": BYTES}),
+    "basket": (Written, {"book": READ, "questions": READ, "out": BYTES}),
     "calendar": (CalendarAnswer, {"book": READ, "question": READ, "end": END, "out": BYTES}),
     "calendar_list": (CalendarAnswer, {"book": READ, "question": READ, "end": END, "out": LIST}),
     "final_number": (Written, {"book": READ, "question": READ, "out": BYTES}),

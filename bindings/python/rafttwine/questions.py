@@ -5,7 +5,8 @@ from dataclasses import dataclass
 from datetime import date
 from typing import Any, ClassVar, Optional, Sequence
 
-from .checks import unfit
+from .answers import Asked
+from .checks import counted, unfit
 from .fields import Day, Letters, Name, Number, Word
 from .laid import Laid, Layout
 from .lending import Lent, whole_bytes
@@ -16,8 +17,9 @@ from .wholes import VERSION, opened, whole
 from .words import Sort
 
 MOST_LISTED = 32
-# In a question's bytes: where its article stands, and how many bytes lie between that and the quantity.
-AT_ARTICLE, BEFORE_QUANTITY = 5, 8
+MOST_QUESTIONS = 200
+# In a question's bytes: how many tell its length, where its article stands, and how many bytes lie between that and the quantity.
+LENGTH, AT_ARTICLE, BEFORE_QUANTITY = 4, 5, 8
 
 
 class Part:
@@ -117,3 +119,25 @@ def asked_in(data: Lent) -> tuple[int, dict[int, str]]:
         names[place] = data[at + 1:at + 1 + data[at]].decode("latin-1")
         at += 1 + data[at]
     return quantity, names
+
+
+def asked_for(data: bytes) -> Asked:
+    """The article and the quantity of a question that the library has accepted."""
+    return Asked(data[AT_ARTICLE + 1:AT_ARTICLE + 1 + data[AT_ARTICLE]].decode("latin-1"), asked_in(data)[0])
+
+
+def end_to_end(where: str, questions: Sequence[Lent]) -> list[bytes]:
+    """The questions of a basket, each as long as it says: another length would shift those behind it."""
+    if not isinstance(questions, (list, tuple)):
+        raise unfit(where, "a list of questions is wanted", questions)
+    if len(questions) > MOST_QUESTIONS:
+        raise ValueError(f"{where}: {len(questions):,} questions, and at most {MOST_QUESTIONS} are allowed")
+    asked = []
+    for place, question in enumerate(questions, 1):
+        one = whole_bytes(f"{where}: question {place}", question)
+        says = int.from_bytes(one[:LENGTH], "big")
+        if len(one) < LENGTH or says != len(one):
+            told = f"it says {says:,}" if len(one) >= LENGTH else "a question begins with its length in four"
+            raise ValueError(f"{where}: question {place}: {counted(len(one))}, and {told}")
+        asked.append(one)
+    return asked

@@ -56,7 +56,7 @@ _NO_PRICE = (Refusal.NO_BASE_LINE, Refusal.MIXED_CURRENCIES, Refusal.TOTAL_OUT_O
 
 _REASONS = {
     Refusal.BROKEN_BOOK: "the price book, or one of the text books, is not laid out as such a book",
-    Refusal.BROKEN_QUESTION: "the question is not laid out as one, or its day is not in the calendar",
+    Refusal.BROKEN_QUESTION: "a question is not laid out as one, its day is not in the calendar, or there are too many questions",
     Refusal.NO_ARTICLE: "the book does not have the article",
     Refusal.NO_BASE_LINE: "the article has no base price on that day, in that quantity",
     Refusal.MIXED_CURRENCIES: "a fixed amount is in another currency than the first base line",

@@ -1,9 +1,10 @@
-"""A price as a table: a row for each of its lines, what one piece and all pieces cost, and which granted names brought nothing."""
+"""Answers as tables. A price: a row for each of its lines, what one piece and all pieces cost, and which granted names brought
+nothing. A basket: a row for each of its positions, and what they cost together."""
 from __future__ import annotations
 
 from typing import Iterable, Optional
 
-from .answers import Line, Price
+from .answers import Basket, Line, Price
 from .calls import text
 from .lending import Lent
 from .refusals import Refusal, Refused
@@ -17,7 +18,7 @@ def price_table(price: Price, asked: Optional[Lent], fallback: Optional[Lent], e
     names = aligned([(LEVELS[line.level], texts.of(line), line.granted) for line in price.lines])
     totals = [("One piece", price.unit)]
     if price.quantity != 1:
-        totals.append((f"{price.quantity:,} pieces", price.total))
+        totals.append((pieces(price.quantity), price.total))
     rows = [*zip(names, (line.amount for line in price.lines)), *totals]
     shown = with_amounts(rows, price.currency)
     rule = "-" * len(shown[0])
@@ -25,7 +26,32 @@ def price_table(price: Price, asked: Optional[Lent], fallback: Optional[Lent], e
     return "\n".join([*shown[:len(names)], rule, *shown[len(names):], *unused, *texts.trouble])
 
 
-def aligned(rows: list[tuple[str, str, str]]) -> list[str]:
+def basket_table(basket: Basket) -> str:
+    heads = aligned([(asked.article, pieces(asked.quantity)) for asked in basket.asked])
+    left = max(map(len, heads), default=0)
+    sums = [f"{money(total)} {currency}" for currency, total in basket.totals.items()]
+    units = below([money(one.unit) if isinstance(one, Price) else "" for one in basket])
+    totals = below([*(f"{money(one.total)} {one.currency}" if isinstance(one, Price) else "" for one in basket), *sums])
+    shown = [f"{head:{left}}  {f'{unit}  {total}' if isinstance(one, Price) else one}"
+             for head, one, unit, total in zip(heads, basket, units, totals)]
+    wide = max((len(row) for row, one in zip(shown, basket) if isinstance(one, Price)), default=0)
+    together = [f"{'Together':{wide - len(total)}}{total}" for total in totals[len(basket):]]
+    lacking = sum(isinstance(one, Refusal) for one in basket)
+    rest = [f"Without a price: {lacking} of {len(basket)}"] if lacking else []
+    return "\n".join([*shown, *(["-" * wide] if together else []), *together, *rest])
+
+
+def pieces(quantity: int) -> str:
+    return "1 piece" if quantity == 1 else f"{quantity:,} pieces"
+
+
+def below(cells: list[str]) -> list[str]:
+    """The cells of a column, which end below each other."""
+    width = max(map(len, cells), default=0)
+    return [f"{cell:>{width}}" for cell in cells]
+
+
+def aligned(rows: list[tuple[str, ...]]) -> list[str]:
     """The columns below each other, two spaces between them."""
     widths = [max(map(len, column)) for column in zip(*rows)]
     return ["  ".join(f"{cell:{width}}" for cell, width in zip(row, widths)).rstrip() for row in rows]

@@ -23,6 +23,7 @@ BOOK = book(
     Scheme("S", between_values="/", trim=True),
 )
 QUESTION = question("T1", date(2026, 6, 29), 2, ["oak"], [Property(4, "ASH")], currency="EUR")
+NEXT_QUESTION = question("T1", date(2026, 7, 1))
 TEXTS = text_book({7: b"Table"})
 CALENDAR_END = 20260701
 
@@ -47,17 +48,17 @@ def example(*headings: str, column: int = EXAMPLE) -> bytes:
     return b"".join(bytes.fromhex(row[column]) for heading in headings for row in TABLES[heading])
 
 
-def written(name: str, size: int, *words: object) -> bytes:
+def written(name: str, size: int, *words: object, asked: bytes = QUESTION) -> bytes:
     """What a call writes, read from the lent output up to the size that is due, and one byte behind it that must have stayed."""
     out = (c_uint8 * (size + 1))(*[0xEE] * (size + 1))
-    answer = call(name, BOOK, QUESTION, *words, out)
+    answer = call(name, BOOK, asked, *words, out)
     assert (answer.number, out[size]) == (0, 0xEE), f"{name}: refused, or wrote too much"
     return bytes(out)[:size]
 
 
 class FormatTest(unittest.TestCase):
     def test_each_example_has_the_size_of_its_row(self) -> None:
-        self.assertEqual(len(TABLES), 11)
+        self.assertEqual(len(TABLES), 12)
         for heading, rows in TABLES.items():
             for field, size, _, *examples in rows:
                 for one in map(bytes.fromhex, examples):
@@ -81,6 +82,9 @@ class FormatTest(unittest.TestCase):
 
     def test_the_library_writes_the_examples(self) -> None:
         self.assertEqual(written("price", 14), example("Line of a price"))
+        answers = example("Answer of a basket") + example("Answer of a basket", column=NEXT)
+        basket = answers + example("Line of a price")
+        self.assertEqual(written("basket", len(basket), asked=QUESTION + NEXT_QUESTION), basket)
         stretches = example("Stretch of a calendar") + example("Stretch of a calendar", column=NEXT)
         self.assertEqual(written("calendar", 40, CALENDAR_END), stretches)
         number = example("Final number")

@@ -13,7 +13,7 @@ from typing import Any, Iterator
 from unittest import mock
 
 from samples import ASKED, BOOK, FALLBACK, QUESTIONS, TABLE, YEAR_END
-from rafttwine import (Article, Refused, book, calendar, calendar_list, final_number, library, packaging, price, read_book,
+from rafttwine import (Article, Refused, basket, book, calendar, calendar_list, final_number, library, packaging, price, read_book,
                        read_question, read_text_book, text)
 
 LARGE = book(*[Article("N" * 40)] * 90_000)
@@ -50,6 +50,12 @@ class LendingTest(unittest.TestCase):
             for (kind, one), (_, asked) in zip(lent(BOOK), lent(QUESTIONS[name])):
                 with self.subTest(call.__name__, kind=kind):
                     self.assertEqual(call(one, asked, *words), answer)
+
+    def test_a_basket_takes_a_list_of_buffers(self) -> None:
+        due = basket(BOOK, [QUESTIONS["june_oak"], QUESTIONS["missing"]])
+        for (kind, one), *asked in zip(lent(BOOK), lent(QUESTIONS["june_oak"]), lent(QUESTIONS["missing"])):
+            with self.subTest(kind):
+                self.assertEqual(basket(one, [buffer for _, buffer in asked]), due)
 
     def test_each_reader_takes_each_buffer(self) -> None:
         for read, content in ((read_book, BOOK), (read_question, QUESTIONS["june_oak"]), (read_text_book, ASKED)):

@@ -6,7 +6,8 @@ from datetime import date
 
 from samples import ASKED, BOOK, DISCOUNT, FALLBACK, OAK, QUESTIONS, TABLE
 from checks import STRETCHES
-from rafttwine import Article, Cents, DayPrice, Level, Percent, Price, PriceRow, book, price, question, text_book
+from rafttwine import (Article, Asked, Basket, Cents, DayPrice, Level, Percent, Price, PriceRow, Refusal, basket, book, price,
+                       question, text_book)
 
 NUMBERS = """\
 base       text 100       100.00 EUR
@@ -16,6 +17,16 @@ discount   text 300        -3.75 EUR
 One piece                 108.75 EUR
 3 pieces                  326.25 EUR
 No price line for ash"""
+
+BASKET = """\
+A1     3 pieces  108.75  326.25 EUR
+A1     1 piece   no price: the article has no base price on that day, in that quantity
+NONE   1 piece   the book does not have the article
+A1     1 piece    96.67   96.67 EUR
+MIXED  1 piece   no price: a fixed amount is in another currency than the first base line
+-----------------------------------
+Together                 422.92 EUR
+Without a price: 3 of 5"""
 
 WORDS = """\
 base       table           100.00 EUR
@@ -87,3 +98,28 @@ class ShowingTest(unittest.TestCase):
 
     def test_a_price_made_by_hand(self) -> None:
         self.assertEqual(str(Price(100, 100, "EUR", (), ())), "-" * 19 + "\nOne piece  1.00 EUR")
+
+    def test_a_basket(self) -> None:
+        asked = [QUESTIONS[name] for name in ("june_oak", "next_year", "missing", "june", "mixed")]
+        self.assertEqual(str(basket(BOOK, asked)), BASKET)
+
+    def test_a_basket_with_and_without_prices(self) -> None:
+        june = Asked("A1", 1)
+        one = Price(100, 100, "EUR", (), ())
+        self.assertEqual(str(Basket((), ())), "")
+        self.assertEqual(str(Basket((one,), (june,))).splitlines(),
+                         ["A1  1 piece  1.00  1.00 EUR", "---------------------------", "Together           1.00 EUR"])
+        self.assertEqual(str(Basket((Refusal.NO_ARTICLE,), (june,))),
+                         "A1  1 piece  the book does not have the article\nWithout a price: 1 of 1")
+
+    def test_a_basket_in_two_currencies(self) -> None:
+        prices = Price(100, 100_000, "EUR", (), (), 1000), Price(-5, -5, "USD", (), ()), Price(20, 40, "EUR", (), (), 2)
+        shown = str(Basket(prices, (Asked("A1", 1000), Asked("B2", 1), Asked("LAMP", 2)))).splitlines()
+        self.assertEqual(shown, [
+            "A1    1,000 pieces   1.00  1,000.00 EUR",
+            "B2    1 piece       -0.05     -0.05 USD",
+            "LAMP  2 pieces       0.20      0.40 EUR",
+            "---------------------------------------",
+            "Together                   1,000.40 EUR",
+            "Together                      -0.05 USD",
+        ])

@@ -7,7 +7,7 @@ from decimal import Decimal
 from typing import Callable
 
 from rafttwine import (Article, Cents, Level, NoDay, PackagingRow, Percent, PriceRow, Property, Rounding, Scheme, TextRow, Way,
-                       book, calendar, price, question, text, text_book)
+                       basket, book, calendar, price, question, text, text_book)
 from samples import ASKED, BOOK, FALLBACK, QUESTIONS
 from sizes import MOST_BYTES, articles_of, texts_of
 
@@ -54,6 +54,10 @@ WRONG: list[tuple[type[Exception], str, Callable[[], object]]] = [
      lambda: calendar(BOOK, QUESTIONS["june"], "20240101")),
     (TypeError, "calendar.end: a day is wanted, as datetime.date has it, not the number 20240101",
      lambda: calendar(BOOK, QUESTIONS["june"], 20240101)),
+    (TypeError, "basket.questions: a list of questions is wanted, not bytes", lambda: basket(BOOK, QUESTIONS["june"])),
+    (TypeError, "basket.questions: a list of questions is wanted, not a dict", lambda: basket(BOOK, QUESTIONS)),
+    (TypeError, "basket.questions: question 2: bytes are wanted, or another contiguous buffer of bytes, not the text 'A1'",
+     lambda: basket(BOOK, [QUESTIONS["june"], "A1"])),
     (TypeError, "text.number: a whole number is wanted, not the text '7'", lambda: text(ASKED, FALLBACK, "7")),
     (TypeError, "price.book: bytes are wanted, or another contiguous buffer of bytes, not the text 'desk.book'",
      lambda: price("desk.book", b"")),
@@ -113,6 +117,7 @@ WRONG: list[tuple[type[Exception], str, Callable[[], object]]] = [
     (ValueError, "question.currency: a currency of three capitals, or None for any is wanted, not the text 'eur'",
      asked(currency="eur")),
     (ValueError, "PriceRow.currency: a currency of three capitals is wanted, not the text 'EURO'", row(currency="EURO")),
+    (ValueError, "basket.questions: 201 questions, and at most 200 are allowed", lambda: basket(BOOK, [QUESTIONS["june"]] * 201)),
     # What does not go together.
     (ValueError, "Property.value: a hidden property has none, and the text 'OAK' is given",
      lambda: Property(3, "OAK", hidden=True)),
@@ -133,6 +138,11 @@ WRONG: list[tuple[type[Exception], str, Callable[[], object]]] = [
     (ValueError, "Scheme.between_values: with trim it may not be '+', the character for unselected properties",
      lambda: Scheme("S", between_values="+", unselected="+", trim=True)),
     # Sizes.
+    (ValueError, "basket.questions: question 2: 22 bytes, and it says 24",
+     lambda: basket(BOOK, [QUESTIONS["june"], QUESTIONS["missing"][:-2]])),
+    (ValueError, "basket.questions: question 1: 44 bytes, and it says 22", lambda: basket(BOOK, [QUESTIONS["june"] * 2])),
+    (ValueError, "basket.questions: question 1: 0 bytes, and a question begins with its length in four",
+     lambda: basket(BOOK, [b"", QUESTIONS["june"]])),
     (ValueError, "TextRow.content: 65,536 bytes, and at most 65,535 are allowed", lambda: TextRow(7, bytes(65_536))),
     (ValueError, "text_book.texts: text 7: 65,536 bytes, and at most 65,535 are allowed", lambda: text_book({7: bytes(65_536)})),
     (ValueError, "text_book.texts: 4,194,305 bytes, and at most 4,194,304 are allowed",
@@ -142,6 +152,7 @@ WRONG: list[tuple[type[Exception], str, Callable[[], object]]] = [
 
 
 RIGHT: list[Callable[[], object]] = [
+    lambda: (basket(BOOK, [QUESTIONS["june"]] * 200), basket(BOOK, ())),
     asked(quantity=100_000, granted=["oak"] * 32, properties=[Property(30, "V" * 30)] * 32, currency="EUR"),
     row(article="A" * 40, condition="\xc4" * 20, up_to=2**32 - 1, rounding=65_535, text=2**32 - 1, first=NoDay(20240230)),
     lambda: (Cents(-100_000_000), Percent(Decimal("-1000.00")), Percent("+12.500"), NoDay(0)),

@@ -1,6 +1,6 @@
-//! Prices of furniture by the Rafttwine library: itemised prices, price calendars, final article numbers, packaging data and the
-//! texts of lines. The library is proved to answer by the rules on all bytes; this crate makes its calls safe and its answers
-//! typed.
+//! Prices of furniture by the Rafttwine library: itemised prices, baskets of them, price calendars, final article numbers,
+//! packaging data and the texts of lines. The library is proved to answer by the rules on all bytes; this crate makes its calls
+//! safe and its answers typed.
 //!
 //! ```
 //! use rafttwine::{price_of, Article, Book, Cents, Day, Percent, PriceRow, Question};
@@ -22,10 +22,10 @@
 //! [`warnings`](Book::warnings): a condition with small letters never counts, since granted names are raised to capitals and those
 //! of rows are not, and a discount above zero raises the price.
 //!
-//! **Calls** return their answer or a [`Refusal`]. [`price`](price()), [`calendar`](calendar()), [`calendar_list`](calendar_list())
-//! and [`final_number`](final_number()) write into a room that you lend, and need no heap; [`price_of`], [`calendar_of`] and
-//! [`final_number_of`] bring the room and return what can be kept. No call keeps anything, and any number of threads may call at
-//! once. Amounts are whole cents.
+//! **Calls** return their answer or a [`Refusal`]. [`price`](price()), [`basket`](basket()), [`calendar`](calendar()),
+//! [`calendar_list`](calendar_list()) and [`final_number`](final_number()) write into a room that you lend, and need no heap;
+//! [`price_of`], [`basket_of`], [`calendar_of`] and [`final_number_of`] bring the room and return what can be kept. No call keeps
+//! anything, and any number of threads may call at once. Amounts are whole cents.
 //!
 //! **The library** is linked as an archive. It is looked for in this order: the file that the environment variable
 //! `RAFTTWINE_ARCHIVE` names, as `/opt/lib/librafttwine.a`; what `tools/shared-library` made in the clone of Rafttwine that this
@@ -35,6 +35,7 @@
 #![warn(missing_docs)]
 
 mod amounts;
+mod basket;
 mod calendar;
 mod calendar_list;
 mod currency;
@@ -58,6 +59,7 @@ mod version;
 mod words;
 
 pub use amounts::{Cents, Percent, Value};
+pub use basket::{basket, basket_room, Basket, BASKET_QUESTIONS, BASKET_ROOM};
 pub use calendar::{calendar, Stretches, CALENDAR_ROOM};
 pub use calendar_list::{calendar_list, StretchRecord};
 pub use currency::Currency;
@@ -66,7 +68,7 @@ pub use final_number::{final_number, NUMBER_ROOM};
 pub use making::{
     Article, Book, FieldError, PackagingRow, PriceRow, Property, Question, Record, Rounding, Scheme, TextBook, Warning,
 };
-pub use owned::{calendar_of, final_number_of, price_of, OwnedPrice};
+pub use owned::{basket_of, calendar_of, final_number_of, price_of, OwnedPrice};
 pub use packaging::{packaging, Packaging, Unit};
 pub use price::{price, Line, Lines, Price, PRICE_ROOM};
 pub use refusal::Refusal;

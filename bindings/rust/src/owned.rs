@@ -1,8 +1,8 @@
 //! The calls that write, with a room of their own: their answers can be kept.
 
 use crate::{
-    calendar, final_number, latin_1, price, Currency, Day, Line, Price, PriceTable, Refusal, Stretch, CALENDAR_ROOM, NUMBER_ROOM,
-    PRICE_ROOM,
+    basket, basket_room, calendar, final_number, latin_1, price, Currency, Day, Line, Price, PriceTable, Refusal, Stretch,
+    CALENDAR_ROOM, NUMBER_ROOM, PRICE_ROOM,
 };
 
 /// The price of an article. All amounts are in cents. It is shown as a table; [`table`](OwnedPrice::table) has one with texts and
@@ -47,6 +47,32 @@ impl OwnedPrice {
 /// ```
 pub fn price_of(book: &[u8], question: &[u8]) -> Result<OwnedPrice, Refusal> {
     price(book, question, &mut [0; PRICE_ROOM]).map(OwnedPrice::from)
+}
+
+/// The itemised prices of up to [`BASKET_QUESTIONS`](crate::BASKET_QUESTIONS) questions, in their order and to be kept: each as
+/// [`price_of`] gives it. A question without a price has its refusal in that place, and the next goes on.
+///
+/// ```
+/// # use rafttwine::{Article, Book, Cents, Day, PriceRow, Question, Refusal};
+/// # let mut book = Book::new();
+/// # book.add(Article::new("A1"))?.add(PriceRow::base("A1", Cents(10_000)))?;
+/// # let day = Day::new(2024, 6, 30)?;
+/// let offer = [Question::new("A1", day).quantity(4).bytes()?, Question::new("B7", day).bytes()?];
+/// let prices = rafttwine::basket_of(&book, &offer)?;
+/// let together: i64 = prices.iter().flatten().map(|price| price.total).sum();
+/// assert_eq!((together, prices[1].as_ref().err()), (40_000, Some(&Refusal::NoArticle)));
+/// # Ok::<(), Box<dyn std::error::Error>>(())
+/// ```
+pub fn basket_of<Q: AsRef<[u8]>>(book: &[u8], questions: &[Q]) -> Result<Vec<Result<OwnedPrice, Refusal>>, Refusal> {
+    let own: Vec<&[u8]> = questions.iter().map(AsRef::as_ref).collect();
+    // A question of another length than it says would shift those behind it. Such a list is broken: a byte alone is no question.
+    let lent = if own.iter().all(|question| is_as_long_as_it_says(question)) { own.concat() } else { vec![0] };
+    let mut room = vec![0; basket_room(questions.len())];
+    basket(book, &lent, &mut room).map(|prices| prices.map(|price| price.map(OwnedPrice::from)).collect())
+}
+
+fn is_as_long_as_it_says(question: &[u8]) -> bool {
+    matches!(question, [a, b, c, d, ..] if u32::from_be_bytes([*a, *b, *c, *d]) as usize == question.len())
 }
 
 /// The price calendar from the question's day to the day `end`, both included, to be kept.

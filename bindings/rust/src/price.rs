@@ -4,8 +4,8 @@ use crate::refusal::accepted;
 use crate::{raw, Currency, Level, OwnedPrice, Refusal};
 use std::fmt;
 
-const LINE_BYTES: usize = 14;
-const MOST_LINES: usize = 99;
+pub(crate) const LINE_BYTES: usize = 14;
+pub(crate) const MOST_LINES: usize = 99;
 
 /// Room for the lines of any price, in bytes.
 pub const PRICE_ROOM: usize = MOST_LINES * LINE_BYTES;
@@ -26,6 +26,10 @@ pub struct Price<'r> {
 }
 
 impl<'r> Price<'r> {
+    pub(crate) fn new(unit: i64, total: i64, currency: Currency, unused: u32, lines: &'r [u8]) -> Price<'r> {
+        Price { unit, total, currency, unused, lines }
+    }
+
     /// The lines, in their order.
     pub fn lines(&self) -> Lines<'r> {
         Lines(self.lines.chunks_exact(LINE_BYTES))
@@ -107,11 +111,6 @@ pub fn price<'r>(book: &[u8], question: &[u8], room: &'r mut [u8]) -> Result<Pri
         raw::rafttwine_price(book.as_ptr(), book.len(), question.as_ptr(), question.len(), room.as_mut_ptr(), room.len())
     };
     accepted(answer.number)?;
-    Ok(Price {
-        unit: answer.unit,
-        total: answer.total,
-        currency: Currency(answer.currency),
-        unused: answer.unused,
-        lines: &room[..answer.lines as usize * LINE_BYTES],
-    })
+    let lines = &room[..answer.lines as usize * LINE_BYTES];
+    Ok(Price::new(answer.unit, answer.total, Currency(answer.currency), answer.unused, lines))
 }

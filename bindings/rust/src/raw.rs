@@ -24,7 +24,7 @@ pub struct CalendarAnswer {
     pub number: u8,
 }
 
-/// The answer of [`rafttwine_final_number`].
+/// The answer of [`rafttwine_basket`] and [`rafttwine_final_number`].
 #[repr(C)]
 #[derive(Clone, Copy, Debug)]
 #[allow(missing_docs)]
@@ -78,6 +78,14 @@ extern "C" {
         lines: *mut u8,
         lines_length: usize,
     ) -> PriceAnswer;
+    pub fn rafttwine_basket(
+        book: *const u8,
+        book_length: usize,
+        questions: *const u8,
+        questions_length: usize,
+        out: *mut u8,
+        out_length: usize,
+    ) -> Written;
     pub fn rafttwine_calendar(
         book: *const u8,
         book_length: usize,

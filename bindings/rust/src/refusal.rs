@@ -8,7 +8,7 @@ use std::fmt;
 pub enum Refusal {
     /// The price book, or one of the two text books, is not laid out as such a book.
     BrokenBook,
-    /// The question is not laid out as one, or its day is not in the calendar.
+    /// A question is not laid out as one, its day is not in the calendar, or a basket has too many of them.
     BrokenQuestion,
     /// The book does not have the article.
     NoArticle,
@@ -77,7 +77,7 @@ impl fmt::Display for Refusal {
     fn fmt(&self, to: &mut fmt::Formatter<'_>) -> fmt::Result {
         to.write_str(match self {
             BrokenBook => "the price book, or one of the text books, is not laid out as such a book",
-            BrokenQuestion => "the question is not laid out as one, or its day is not in the calendar",
+            BrokenQuestion => "a question is not laid out as one, its day is not in the calendar, or there are too many questions",
             NoArticle => "the book does not have the article",
             NoBaseLine => "the article has no base price on that day, in that quantity",
             MixedCurrencies => "a fixed amount is in another currency than the first base line",

@@ -3,8 +3,8 @@
 mod samples;
 
 use rafttwine::{
-    calendar, calendar_list, final_number, packaging, price, text, version, StretchRecord, CALENDAR_ROOM, MOST_STRETCHES,
-    NUMBER_ROOM, PRICE_ROOM,
+    basket, calendar, calendar_list, final_number, packaging, price, text, version, Refusal, StretchRecord, BASKET_ROOM,
+    CALENDAR_ROOM, MOST_STRETCHES, NUMBER_ROOM, PRICE_ROOM,
 };
 use samples::{day, sample};
 use std::alloc::{GlobalAlloc, Layout, System};
@@ -42,9 +42,12 @@ fn the_calls_take_nothing() {
     let [book, priced, spanned, numbered, packed] =
         ["sample.book", "june_oak.question", "calendar.question", "padded.question", "carton.question"].map(sample);
     let [asked, fallback] = ["asked.texts", "fallback.texts"].map(sample);
-    let end = day(20250102);
+    let (end, questions) = (day(20250102), [&priced[..], &numbered, &priced].concat());
     let taken = taken_by(|| {
         assert_eq!(price(&book, &priced, &mut [0; PRICE_ROOM]).unwrap().lines().count(), 3);
+        let mut room = [0; BASKET_ROOM];
+        let mut prices = basket(&book, &questions, &mut room).unwrap().map(|one| one.map(|price| price.lines().len()));
+        assert_eq!([prices.next(), prices.next(), prices.next()], [Some(Ok(3)), Some(Err(Refusal::NoBaseLine)), Some(Ok(3))]);
         assert_eq!(calendar(&book, &spanned, end, &mut [0; CALENDAR_ROOM]).unwrap().count(), 3);
         assert_eq!(calendar_list(&book, &spanned, end, &mut [StretchRecord::default(); MOST_STRETCHES]).unwrap().count(), 3);
         assert_eq!(final_number(&book, &numbered, &mut [0; NUMBER_ROOM]).unwrap().len(), 16);

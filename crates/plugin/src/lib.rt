@@ -13,6 +13,7 @@ ghost use mathlib.Core.Path.{_≡_};
 ghost use Rattle.rules.specs.Packaging as Packaging;
 ghost use Rattle.rules.specs.Text as Text;
 ghost use Rattle.price.specs.Call.{PriceIs};
+ghost use Rattle.basket.specs.Basket.{BasketIs};
 ghost use Rattle.calendar.specs.Calls.{CalendarIs, CalendarListIs};
 ghost use Rattle.final_number.specs.Ensures.{NumberCall};
 
@@ -21,6 +22,13 @@ pub extern "C" fn rafttwine_price(book: &[u8], question: &[u8], lines: &mut [u8]
     ensures { λ r. ⌜ PriceIs (now (book .entry)) (now (question .entry)) (now (lines .entry)) r (now (lines .exit)) ⌝ }
 {
     price::call::price(book, question, lines)
+}
+
+#[no_mangle]
+pub extern "C" fn rafttwine_basket(book: &[u8], questions: &[u8], out: &mut [u8]) -> Written
+    ensures { λ r. ⌜ BasketIs (now (book .entry)) (now (questions .entry)) (now (out .entry)) r (now (out .exit)) ⌝ }
+{
+    basket::basket(book, questions, out)
 }
 
 #[no_mangle]
@@ -79,7 +87,7 @@ pub extern "C" fn rafttwine_text(asked: &[u8], fallback: &[u8], number: u32) -> 
 // The library's version: major times 10,000, minor times 100, patch. A program that loads the library can hold it against its header.
 #[no_mangle]
 pub extern "C" fn rafttwine_version() -> u32
-    ensures { λ r. ⌜ r ≡ 10100 ⌝ }
+    ensures { λ r. ⌜ r ≡ 10200 ⌝ }
 {
-    10_100
+    10_200
 }

@@ -25,6 +25,7 @@ pub fn run<'a>(call: u8, n: u32, room: usize, a: &'a [u8], b: &'a [u8]) {
         2 => calendar(a, b, n, lent),
         3 => final_number(a, b, lent),
         4 => packaging(a, b),
+        6 => basket(a, b, lent),
         _ => text(a, b, n),
     }
     io::write_all(1, b"\n");
@@ -67,6 +68,16 @@ fn final_number(book: &[u8], question: &[u8], room: usize)
     let mut out = [FILL; 2048];
     let answer = plugin::rafttwine_final_number(book, question, &mut out[..room]);
     io::write_all(1, b"final_number");
+    written(answer.number, answer.length);
+    bytes(&out, room + 8);
+}
+
+fn basket(book: &[u8], questions: &[u8], room: usize)
+    requires { ⌜ room ≤ 2000 ⌝ }
+{
+    let mut out = [FILL; 2048];
+    let answer = plugin::rafttwine_basket(book, questions, &mut out[..room]);
+    io::write_all(1, b"basket");
     written(answer.number, answer.length);
     bytes(&out, room + 8);
 }

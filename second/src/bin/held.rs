@@ -130,6 +130,9 @@ fn held(case: &Case, other_program: Option<&PathBuf>, counts: &mut Counts) -> Re
     for stretch in plan.stretches {
         counts.stretch(stretch.refusal);
     }
+    for number in plan.questions {
+        counts.question(number);
+    }
     counts.program(printed_number(&program(&inputs.program)));
     if let Some(path) = other_program {
         if compare_program(path, &inputs).is_some() {
@@ -167,6 +170,9 @@ fn show(name: &str, case: &Case, differ: &dyn Fn(&Case) -> Option<Difference>) {
         print_clipped("asked", &hex(&inputs.asked));
         print_clipped("fallback", &hex(&inputs.fallback));
         println!("{:<9} {}", "number", inputs.text_number);
+    } else if difference.call.starts_with(Call::Basket.name()) {
+        print_clipped("book", &hex(&inputs.book));
+        print_clipped("questions", &hex(&inputs.basket));
     } else {
         print_clipped("book", &hex(&inputs.book));
         print_clipped("question", &hex(&inputs.question));

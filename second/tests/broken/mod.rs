@@ -1,15 +1,20 @@
-//! An implementation whose price call is spoilt, to see that the comparison notices it.
+//! An implementation in which the price or the basket is spoilt, to see that the comparison notices it.
 
 use second::calls::{Calls, Second};
 use second::{CalendarAnswer, PackagingAnswer, PriceAnswer, Stretch, TextAnswer, Written};
 
-/// What is done to the answer and to the lent bytes.
-pub struct Broken(pub fn(&mut PriceAnswer, &mut [u8]));
+/// What is done to the answer of one call and to the lent bytes.
+pub enum Broken {
+    Price(fn(&mut PriceAnswer, &mut [u8])),
+    Basket(fn(&mut Written, &mut [u8])),
+}
 
 impl Calls for Broken {
     fn price(&self, book: &[u8], question: &[u8], out: &mut [u8]) -> PriceAnswer {
         let mut answer = Second.price(book, question, out);
-        self.0(&mut answer, out);
+        if let Broken::Price(spoil) = self {
+            spoil(&mut answer, out);
+        }
         answer
     }
 
@@ -31,5 +36,13 @@ impl Calls for Broken {
 
     fn text(&self, asked: &[u8], fallback: &[u8], number: u32) -> TextAnswer {
         Second.text(asked, fallback, number)
+    }
+
+    fn basket(&self, book: &[u8], questions: &[u8], out: &mut [u8]) -> Written {
+        let mut answer = Second.basket(book, questions, out);
+        if let Broken::Basket(spoil) = self {
+            spoil(&mut answer, out);
+        }
+        answer
     }
 }

@@ -62,9 +62,11 @@ fn vector(call: Call, inputs: Inputs, sizes: Sizes) -> Vector {
         Call::FinalNumber => (0, sizes.number),
         Call::Packaging => (0, 0),
         Call::Text => (inputs.text_number, 0),
+        Call::Basket => (0, sizes.basket),
     };
     let (first, second) = match call {
         Call::Text => (inputs.asked, inputs.fallback),
+        Call::Basket => (inputs.book, inputs.basket),
         _ => (inputs.book, inputs.question),
     };
     Vector { call, number, room, first, second }

@@ -1,7 +1,7 @@
 //! One vector: its bytes, and the line that it has to give.
 
 use second::compare::{hex, Call};
-use second::{calendar, final_number, packaging, price, text};
+use second::{basket, calendar, final_number, packaging, price, text};
 
 /// What is lent is filled with this byte, and so are some bytes behind it.
 const FILL: u8 = 165;
@@ -12,7 +12,7 @@ pub const MOST_ROOM: usize = 2_000;
 
 /// The calls that the program makes; a vector names one by its place here, from 1. It lends no list of records: `tests/held` and
 /// the tests in C do.
-pub const CALLS: [Call; 5] = [Call::Price, Call::Calendar, Call::FinalNumber, Call::Packaging, Call::Text];
+pub const CALLS: [Call; 6] = [Call::Price, Call::Calendar, Call::FinalNumber, Call::Packaging, Call::Text, Call::Basket];
 
 pub struct Vector {
     pub call: Call,
@@ -56,6 +56,10 @@ impl Vector {
             }
             Call::Packaging => return format!("packaging {}", packed(first, second)),
             Call::Text => return format!("text {}", found(first, second, self.number)),
+            Call::Basket => {
+                let answer = basket(first, second, lent);
+                written(answer.number, answer.length)
+            }
         };
         format!("{} {answer} {}", self.call.name(), hex(&out))
     }

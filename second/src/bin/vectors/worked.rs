@@ -11,6 +11,7 @@ pub fn vectors() -> Vec<Vector> {
     vectors.extend(traps());
     vectors.extend(order_and_cartons());
     vectors.extend(texts());
+    vectors.extend(baskets());
     vectors
 }
 
@@ -129,4 +130,35 @@ fn texts() -> Vec<Vector> {
     let fallback = make::text_book(&[TextRecord::new(8, b""), TextRecord::new(9, b"ash")]);
     let text = |number| Vector { call: Call::Text, number, room: 0, first: asked.clone(), second: fallback.clone() };
     (6..10).map(text).collect()
+}
+
+fn basket(book: &[u8], questions: &[Question], room: usize) -> Vector {
+    Vector { call: Call::Basket, number: 0, room, first: book.to_vec(), second: make::basket(questions) }
+}
+
+/// None, P1, P1 to P4 with a missing article among them, too little room and a broken question, then as many as may be and one
+/// more.
+fn baskets() -> Vec<Vector> {
+    let k = book_k();
+    let oak = |date| ask(date).granted(&["oak"]);
+    let several = [oak(20240630), oak(20250101), Question::new("A2", 20240630), ask(20240630), oak(20240701).quantity(3)];
+    // Five answers, and eight lines of the three that have a price.
+    let needed = 5 * 33 + 8 * 14;
+    let with_a_broken_one = [oak(20240630), oak(20240631)];
+    let mut cut = basket(&k, &several, needed);
+    cut.second.pop();
+    let many = |count| vec![Question::new("A", 20240630); count];
+    vec![
+        basket(&k, &[], 4),
+        basket(&k, &several[..1], 80),
+        basket(&k, &several, needed + 5),
+        basket(&k, &several, needed),
+        basket(&k, &several, needed - 1),
+        basket(&k, &with_a_broken_one, 200),
+        cut,
+        basket(&k, &many(60), 60 * 33),
+        // Longer answers than the program lends room for: the room is missed only after the questions were counted.
+        basket(&k, &many(200), 0),
+        basket(&k, &many(201), 0),
+    ]
 }

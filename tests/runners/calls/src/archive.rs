@@ -14,6 +14,12 @@ pub fn price(book: &[u8], question: &[u8], lines: &mut [u8]) -> PriceAnswer {
     PriceAnswer { unit, total, lines, unused, unused_count, number, currency }
 }
 
+pub fn basket(book: &[u8], questions: &[u8], out: &mut [u8]) -> Written {
+    written(unsafe {
+        raw::rafttwine_basket(book.as_ptr(), book.len(), questions.as_ptr(), questions.len(), out.as_mut_ptr(), out.len())
+    })
+}
+
 pub fn calendar(book: &[u8], question: &[u8], end: u32, out: &mut [u8]) -> CalendarAnswer {
     listed(unsafe {
         raw::rafttwine_calendar(book.as_ptr(), book.len(), question.as_ptr(), question.len(), end, out.as_mut_ptr(), out.len())
@@ -27,11 +33,9 @@ pub fn calendar_list(book: &[u8], question: &[u8], end: u32, out: &mut [Stretch]
 }
 
 pub fn final_number(book: &[u8], question: &[u8], out: &mut [u8]) -> Written {
-    let answer = unsafe {
+    written(unsafe {
         raw::rafttwine_final_number(book.as_ptr(), book.len(), question.as_ptr(), question.len(), out.as_mut_ptr(), out.len())
-    };
-    let raw::Written { length, number } = answer;
-    Written { length, number }
+    })
 }
 
 pub fn packaging(book: &[u8], question: &[u8]) -> PackagingAnswer {
@@ -44,6 +48,11 @@ pub fn text(asked: &[u8], fallback: &[u8], number: u32) -> TextAnswer {
     let answer = unsafe { raw::rafttwine_text(asked.as_ptr(), asked.len(), fallback.as_ptr(), fallback.len(), number) };
     let raw::TextAnswer { place, length, number, book } = answer;
     TextAnswer { place, length, number, book }
+}
+
+fn written(answer: raw::Written) -> Written {
+    let raw::Written { length, number } = answer;
+    Written { length, number }
 }
 
 fn listed(answer: raw::CalendarAnswer) -> CalendarAnswer {

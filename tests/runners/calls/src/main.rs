@@ -2,6 +2,7 @@
 //! through the archive. Usage: calls DOCUMENT.
 
 mod archive;
+mod basket;
 mod calendar;
 mod call;
 mod document;
@@ -27,6 +28,7 @@ fn main() -> ExitCode {
     let good = [
         structs::good(&document),
         price::call().good(&document),
+        basket::call().good(&document),
         calendar::call().good(&document),
         calendar::list_call().good(&document),
         number::call().good(&document),

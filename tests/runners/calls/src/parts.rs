@@ -49,3 +49,13 @@ pub fn share(text: u32, level: u8, rule: u8, hundredths: i32) -> Price {
 pub fn ask(date: u32) -> Question {
     Question::new("A1", date)
 }
+
+/// Book K. The text numbers show each of their four bytes, and that they have no sign.
+pub fn k() -> Vec<u8> {
+    book![
+        base(0x0102_0304, 10_000).dates(20240101, 20240630),
+        base(0xFFFF_FFFF, 10_500).dates(20240701, 20241231),
+        share(7, b'X', 1, 1_250).condition("OAK"),
+        share(0x8000_0000, b'D', 2, -333),
+    ]
+}

@@ -17,9 +17,9 @@ use second::make::Question;
 use second::PriceAnswer;
 
 /// A line: text number, level, place of its granted name, amount.
-type Line = (u32, char, u8, i64);
+pub type Line = (u32, char, u8, i64);
 
-fn line_bytes((text, level, place, amount): &Line) -> Vec<u8> {
+pub fn line_bytes((text, level, place, amount): &Line) -> Vec<u8> {
     [&text.to_be_bytes()[..], &[*level as u8, *place], &amount.to_be_bytes()].concat()
 }
 

@@ -2,21 +2,11 @@
 
 use super::Vector;
 use crate::book;
-use crate::parts::{ask, base, share, DAY};
+use crate::parts::{ask, base, k, share, DAY};
 use second::make::Rounding;
 
 pub fn vectors() -> Vec<Vector> {
     [p1_to_p4(), p5_and_p6(), p7()].concat()
-}
-
-/// Book K. The text numbers show each of their four bytes, and that they have no sign.
-fn k() -> Vec<u8> {
-    book![
-        base(0x0102_0304, 10_000).dates(20240101, 20240630),
-        base(0xFFFF_FFFF, 10_500).dates(20240701, 20241231),
-        share(7, b'X', 1, 1_250).condition("OAK"),
-        share(0x8000_0000, b'D', 2, -333),
-    ]
 }
 
 fn p1_to_p4() -> Vec<Vector> {
