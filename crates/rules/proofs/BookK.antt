@@ -25,7 +25,8 @@ use Rattle.rules.specs.Calendar.{Stretch, stretchesBytes, calendarIn, ca
 use Rattle.rules.specs.Program.{output, asked, digits}
 use Rattle.rules.specs.declared.Value.{Value}
 use Rattle.rules.specs.declared.Value.the-variants.{Fixed, Percent}
-use Rattle.rules.proofs.Encode.{bookBytes, articleBytes, rowBytes, questionBytes}
+use Rattle.rules.specs.RowBytes.{rowBytes}
+use Rattle.rules.proofs.Encode.{bookBytes, articleBytes, questionBytes}
 use Rattle.rules.proofs.CallLaws.{price-room, calendar-room}
 
 -- ---- the book
@@ -110,11 +111,11 @@ answer2 = record {
 }
 
 just-1 : price bookK P1 42 ≡ done answer1
-unfolding computed
+unfolding computed rowBytes
 just-1 = refl
 
 just-2 : price bookK P2 42 ≡ done answer2
-unfolding computed
+unfolding computed rowBytes
 just-2 = refl
 
 -- P1 for two, with `OAK` granted once more, and `elm`, for which there is no row
@@ -131,7 +132,7 @@ elmAnswer = record {
 }
 
 just-elm : price bookK elmAsked 42 ≡ done elmAnswer
-unfolding computed
+unfolding computed rowBytes
 just-elm = refl
 
 module _ (room : ℕ) (h : 42 ≤ room) where
@@ -164,11 +165,11 @@ stretchesK =
     ∷ []
 
 just-bytes : calendar bookK calendarAsked calendarEnd 60 ≡ done stretchesK
-unfolding computed
+unfolding computed rowBytes
 just-bytes = refl
 
 just-records : calendarList bookK calendarAsked calendarEnd 3 ≡ done stretchesK
-unfolding computed
+unfolding computed rowBytes
 just-records = refl
 
 pub calendar-K : (room : ℕ) → 60 ≤ room → calendar bookK calendarAsked calendarEnd room ≡ done stretchesK
@@ -183,5 +184,5 @@ abbrev pub inputK : List ℕ
 inputK = bookK ++ (calendarAsked ++ bytesOf 4 calendarEnd)
 
 pub printed-K : output inputK ≡ text "20240629 20240630 0 EUR 10875\n20240701 20241231 0 EUR 11420\n20250101 20250102 4 --- 0\n"
-unfolding computed
+unfolding computed rowBytes
 printed-K = refl

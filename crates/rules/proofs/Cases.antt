@@ -33,7 +33,8 @@ use Rattle.rules.specs.declared.Written.{Written}
 use Rattle.rules.specs.declared.Value.{Value}
 use Rattle.rules.specs.declared.Value.the-variants.{Fixed, Percent}
 use Rattle.integers.specs.Floor as Floor
-use Rattle.rules.proofs.Encode.{bookBytes, articleBytes, rowBytes, questionBytes}
+use Rattle.rules.specs.RowBytes.{rowBytes}
+use Rattle.rules.proofs.Encode.{bookBytes, articleBytes, questionBytes}
 
 -- ---- a case: what is asked, of which book and question, and what was worked by hand
 

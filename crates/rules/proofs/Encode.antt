@@ -1,40 +1,17 @@
 -- Books and questions written as bytes, for the worked sums: the layouts of specs/, the other way round.
-use Prim.Native.Nat.{ℕ, suc, _+_}
+use Prim.Native.Nat.{ℕ, _+_}
 use mathlib.Core.List.{List, [], _∷_, _++_, map}
 use lib.ListN.{length}
 use lib.IntN.{ℤ}
 use Rattle.rules.specs.Lists.{join}
 use Rattle.rules.specs.Bytes.{bytesOf, signedBytesOf}
-use Rattle.rules.specs.Book.{Row}
-use Rattle.rules.specs.declared.Value.{Value}
-use Rattle.rules.specs.declared.Value.the-variants.{Fixed, Percent}
-
-abbrev pub nameBytes : List ℕ → List ℕ
-nameBytes s = length s ∷ s
-
-abbrev pub recordBytes : ℕ → List ℕ → List ℕ
-recordBytes kind body = bytesOf 2 (suc (length body)) ++ (kind ∷ body)
+use Rattle.rules.specs.RowBytes.{nameBytes, recordBytes}
 
 abbrev pub bookBytes : List (List ℕ) → List ℕ
 bookBytes rs = bytesOf 4 (5 + length (join rs)) ++ (1 ∷ join rs)
 
 abbrev pub articleBytes : List ℕ → List ℕ → List ℕ
 articleBytes n scheme = recordBytes 1 (nameBytes n ++ nameBytes scheme)
-
-abbrev pub valueBytes : Value → List ℕ
-valueBytes (Fixed c) = 1 ∷ signedBytesOf 4 (c .0)
-valueBytes (Percent h) = 0 ∷ signedBytesOf 4 (h .0)
-
-abbrev pub rowBytes : Row → List ℕ
-rowBytes r =
-    recordBytes 2
-    (nameBytes (r .article)
-    ++ (nameBytes (r .condition)
-    ++ (r .sort
-    ∷ r .level
-    ∷ r .rule
-    ∷ (bytesOf 4 (r .text)
-    ++ (valueBytes (r .value) ++ (r .currency ++ (bytesOf 4 (r .from) ++ (bytesOf 4 (r .to) ++ (bytesOf 4 (r .upTo) ++ bytesOf 2 (r .rounding))))))))))
 
 abbrev pub roundingBytes : ℕ → ℕ → ℕ → ℤ → ℤ → List ℕ
 roundingBytes n way step before after = recordBytes 3 (bytesOf 2 n ++ (way ∷ (bytesOf 4 step ++ (signedBytesOf 4 before ++ signedBytesOf 4 after))))

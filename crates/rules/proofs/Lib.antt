@@ -7,6 +7,7 @@ pub mod TestLaws
 pub mod RangeLaws
 pub mod ListLaws
 pub mod RefusalLaws
+pub mod PlacedRefusalLaws
 pub mod GivesLaws
 pub mod TakesLaws
 pub mod QuestionsLaws

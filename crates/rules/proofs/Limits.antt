@@ -16,7 +16,8 @@ use Rattle.rules.specs.Bytes.{head}
 use Rattle.rules.specs.BookLayout.{records, oneRecord, noUnit, eight}
 use Rattle.rules.specs.TextBook.{entries, entry}
 use Rattle.rules.specs.declared.Value.{Value}
-use Rattle.rules.proofs.Encode.{recordBytes, bookBytes, articleBytes, rowBytes, roundingBytes, packBytes, schemeBytes, propertyBytes, questionBytes}
+use Rattle.rules.specs.RowBytes.{recordBytes, rowBytes}
+use Rattle.rules.proofs.Encode.{bookBytes, articleBytes, roundingBytes, packBytes, schemeBytes, propertyBytes, questionBytes}
 use Rattle.rules.proofs.Cases.{AskPrice, Refusal, Case, case, minus, fixed, percent, A1, EUR, ask}
 
 -- ---- the words

@@ -10,6 +10,7 @@ use Rattle.rules.specs.Letters.{text}
 use Rattle.rules.specs.Bytes.{bytesOf}
 use Rattle.rules.specs.Book.{Row, sale, purchase, base, surcharge, discount}
 use Rattle.rules.specs.BookLayout.{noUnit}
+use Rattle.rules.specs.RowBytes.{rowBytes}
 use Rattle.rules.proofs.Encode.{bookBytes, articleBytes, roundingBytes, packBytes, schemeBytes, propertyBytes, questionBytes}
 use Rattle.rules.proofs.Cases.{AskPrice, AskNumber, AskGross, AskCalendar, AskBytes, AskText, AskStretches, AskInput}
 use Rattle.rules.proofs.Cases.{Listed, Text, Weight, Refusal, Read, InBook, Case, case, found}
@@ -260,5 +261,5 @@ table = sums ++ (traps ++ (more ++ (choices ++ (refusals ++ (limits ++ baskets))
 
 -- Every sum that was worked by hand, and every trap, comes out of the rules as the paper has it.
 worked-sums : map found table ≡ map (λ c. c .worked) table
-unfolding found
+unfolding found rowBytes
 worked-sums = refl

@@ -5,6 +5,7 @@ pub mod Bytes
 pub mod Days
 pub mod Book
 pub mod BookLayout
+pub mod RowBytes
 pub mod Placed
 pub mod Question
 pub mod Questions
@@ -13,6 +14,7 @@ pub mod Choice
 pub mod Amounts
 pub mod Lines
 pub mod Refusals
+pub mod PlacedRefusals
 pub mod Price
 pub mod Basket
 pub mod Calendar

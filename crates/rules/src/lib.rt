@@ -141,6 +141,14 @@ pub struct Written {
     pub number: u8,
 }
 
+// How many bytes a call wrote, and the place beside a refusal that has one: of a line or of a byte, from 1.
+#[repr(C)]
+pub struct PlacedAnswer {
+    pub length: u64,
+    pub place: u64,
+    pub number: u8,
+}
+
 // Packaging data: the gross weight, the eight values, which of them are present (a bit for each), and the units of length, volume and weight.
 #[repr(C)]
 pub struct PackagingAnswer {
