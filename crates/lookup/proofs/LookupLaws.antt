@@ -1,4 +1,4 @@
--- The lookup of roundings by places meets the definition's: what is looked for, each turn of the walk, and its end.
+-- The lookup of roundings by spots meets the definition's: what is looked for, each turn of the walk, and its end.
 use Prim.Native.Nat.{ℕ, _+_, _-_, _%_, _≤_, _<_}
 use mathlib.Core.Path.{_≡_, refl, sym, _∙_, ap, subst}
 use mathlib.Core.Bool.{Bool, true, false, _&&_, _||_, not, cond, or-true, false≢true}
@@ -31,7 +31,7 @@ use Rattle.records.specs.Tests.{roundingNumber}
 use Rattle.records.proofs.BoundLaws.{gives-record}
 use Rattle.records.proofs.RoundingLaws.{number-kind, rounding-long}
 use Rattle.lookup.specs.declared.roundings.Open.{Open}
-use Rattle.lookup.specs.Roundings.{RoundingUsed, roundingHeld, placedOr, RoundingHere, PlaceHeld, RoundingAt, Found, PlacesFound, Sought, Placing, Wants, OpenAre, NextOpen, PlaceAfter, PlacesAfter}
+use Rattle.lookup.specs.Roundings.{RoundingUsed, roundingHeld, spotOr, RoundingHere, SpotHeld, RoundingAt, Found, SpotsFound, Sought, Placing, Wants, OpenAre, NextOpen, SpotAfter, SpotsAfter}
 -- at this door
 pub use Rattle.book.proofs.WalkLaws.{book-records}
 
@@ -71,19 +71,19 @@ zero-plain b at = none-zero (roundings (recordsLeft b at)) (list-all roundingKin
 -- ---- which numbers are looked for
 
 -- of the numbers before i
-pub record Opening (numbers places : List ℕ) (low : List Bool) (any : Bool) (i : ℕ) : Type 0 where
+pub record Opening (numbers spots : List ℕ) (low : List Bool) (any : Bool) (i : ℕ) : Type 0 where
   pub long : length low ≡ 256
-  pub each : (j : ℕ) → j < i → (getD numbers j 0 ≡ 0 → ⊥) → getD places j 0 ≡ 0 → Wants (record { low = low; any = any }) (getD numbers j 0)
+  pub each : (j : ℕ) → j < i → (getD numbers j 0 ≡ 0 → ⊥) → getD spots j 0 ≡ 0 → Wants (record { low = low; any = any }) (getD numbers j 0)
 
-module _ (numbers places : List ℕ) where
-  pub opening-start : Opening numbers places (replicate 256 false) false 0
+module _ (numbers spots : List ℕ) where
+  pub opening-start : Opening numbers spots (replicate 256 false) false 0
   opening-start = record { long = length-replicate 256 false; each = λ j l. absurd (omega arith) }
 
   -- the test of number i
   abbrev isOpen : ℕ → Bool
-  isOpen i = not (eqb (getD numbers i 0) 0) && eqb (getD places i 0) 0
+  isOpen i = not (eqb (getD numbers i 0) 0) && eqb (getD spots i 0) 0
 
-  module _ {low : List Bool} {any : Bool} {i : ℕ} (inv : Opening numbers places low any i) where
+  module _ {low : List Bool} {any : Bool} {i : ℕ} (inv : Opening numbers spots low any i) where
     abbrev byte : ℕ
     byte = getD numbers i 0 % 256
 
@@ -103,7 +103,7 @@ module _ (numbers places : List ℕ) where
             ap (λ (j : ℕ). getD lowAfter j false) e ∙ getD-set-same low byte (getD low byte false || isOpen i) false inside ∙ ap (λ (t : Bool). t || isOpen i) f
         go (no n) = getD-set-other low byte (k % 256) (getD low byte false || isOpen i) false n ∙ w .low
 
-    newly : (getD numbers i 0 ≡ 0 → ⊥) → getD places i 0 ≡ 0 → Wants (record { low = lowAfter; any = any || isOpen i }) (getD numbers i 0)
+    newly : (getD numbers i 0 ≡ 0 → ⊥) → getD spots i 0 ≡ 0 → Wants (record { low = lowAfter; any = any || isOpen i }) (getD numbers i 0)
     newly n z =
         let t : isOpen i ≡ true = rw (ne-eqb (getD numbers i 0) 0 n, z) in
         record {
@@ -112,16 +112,16 @@ module _ (numbers places : List ℕ) where
           low = getD-set-same low byte (getD low byte false || isOpen i) false inside ∙ ap (λ (x : Bool). getD low byte false || x) t ∙ or-true (getD low byte false);
         }
 
-    pub opening-again : Opening numbers places (set low (getD numbers i 0 % 256) (getD low (getD numbers i 0 % 256) false || (not (eqb (getD numbers i 0) 0) && eqb (getD places i 0) 0))) (any || (not (eqb (getD numbers i 0) 0) && eqb (getD places i 0) 0)) (i + 1)
+    pub opening-again : Opening numbers spots (set low (getD numbers i 0 % 256) (getD low (getD numbers i 0 % 256) false || (not (eqb (getD numbers i 0) 0) && eqb (getD spots i 0) 0))) (any || (not (eqb (getD numbers i 0) 0) && eqb (getD spots i 0) 0)) (i + 1)
     opening-again = record { long = length-set low byte (getD low byte false || isOpen i) ∙ inv .long; each = λ j l n z. go j n z (decLt j i) l }
       where
-        go : (j : ℕ) → (getD numbers j 0 ≡ 0 → ⊥) → getD places j 0 ≡ 0 → Dec (j < i) → j < i + 1 → Wants (record { low = lowAfter; any = any || isOpen i }) (getD numbers j 0)
+        go : (j : ℕ) → (getD numbers j 0 ≡ 0 → ⊥) → getD spots j 0 ≡ 0 → Dec (j < i) → j < i + 1 → Wants (record { low = lowAfter; any = any || isOpen i }) (getD numbers j 0)
         go j n z (yes h) l = still (inv .each j h n z)
         go j n z (no h) l =
             let e : i ≡ j = omega arith in
-            subst (λ (m : ℕ). (getD numbers m 0 ≡ 0 → ⊥) → getD places m 0 ≡ 0 → Wants (record { low = lowAfter; any = any || isOpen i }) (getD numbers m 0)) e newly n z
+            subst (λ (m : ℕ). (getD numbers m 0 ≡ 0 → ⊥) → getD spots m 0 ≡ 0 → Wants (record { low = lowAfter; any = any || isOpen i }) (getD numbers m 0)) e newly n z
 
-    pub opening-end : {n : ℕ} → n ≤ i → OpenAre numbers places n (record { low = low; any = any })
+    pub opening-end : {n : ℕ} → n ≤ i → OpenAre numbers spots n (record { low = low; any = any })
     opening-end h = record { each = λ j l. inv .each j (omega arith) }
 
 -- ---- a record of the book
@@ -224,59 +224,59 @@ module _ {b : List ℕ} {from : ℕ} (o : Open) where
                   let y : (not (eqb k 0) && getD (o .low) (k % 256) false) ≡ true = rw (ne-eqb k 0 n) l in
                   false≢true (sym t ∙ ap (λ (m : ℕ). not (eqb m 0) && getD (o .low) (m % 256) false) d ∙ y)
 
--- ---- a number's place
+-- ---- a number's spot
 
-module _ {place : ℕ} {here : Bool} {at : ℕ} where
-  pub place-here : (eqb place 0 && here) ≡ true → PlaceAfter place here at at
-  place-here t = record { is = rw t }
+module _ {spot : ℕ} {here : Bool} {at : ℕ} where
+  pub spot-here : (eqb spot 0 && here) ≡ true → SpotAfter spot here at at
+  spot-here t = record { is = rw t }
 
-  pub place-kept : (eqb place 0 && here) ≡ false → PlaceAfter place here at place
-  place-kept t = record { is = rw t }
+  pub spot-kept : (eqb spot 0 && here) ≡ false → SpotAfter spot here at spot
+  spot-kept t = record { is = rw t }
 
 -- those of the numbers before i are as they are after the record, the others as before
-pub record Replacing (places numbers : List ℕ) (number at : ℕ) (after : List ℕ) (i : ℕ) : Type 0 where
+pub record Replacing (spots numbers : List ℕ) (number at : ℕ) (after : List ℕ) (i : ℕ) : Type 0 where
   pub long : length after ≡ 99
-  pub done : (j : ℕ) → j < i → getD after j 0 ≡ cond (eqb (getD places j 0) 0 && eqb (getD numbers j 0) number) at (getD places j 0)
-  pub rest : (j : ℕ) → i ≤ j → getD after j 0 ≡ getD places j 0
+  pub done : (j : ℕ) → j < i → getD after j 0 ≡ cond (eqb (getD spots j 0) 0 && eqb (getD numbers j 0) number) at (getD spots j 0)
+  pub rest : (j : ℕ) → i ≤ j → getD after j 0 ≡ getD spots j 0
 
-module _ (places numbers : List ℕ) (number at : ℕ) where
-  pub replace-start : length places ≡ 99 → Replacing places numbers number at places 0
+module _ (spots numbers : List ℕ) (number at : ℕ) where
+  pub replace-start : length spots ≡ 99 → Replacing spots numbers number at spots 0
   replace-start l = record { long = l; done = λ j k. absurd (omega arith); rest = λ j k. refl }
 
-  module _ {after : List ℕ} {i : ℕ} (inv : Replacing places numbers number at after i) where
-    pub replace-end : {n : ℕ} → n ≤ i → PlacesAfter places numbers n number at after
+  module _ {after : List ℕ} {i : ℕ} (inv : Replacing spots numbers number at after i) where
+    pub replace-end : {n : ℕ} → n ≤ i → SpotsAfter spots numbers n number at after
     replace-end h = record { each = λ j l. inv .done j (omega arith) }
 
-    pub replace-again : {n : ℕ} → i < n → n ≤ 99 → {r : ℕ} → PlaceAfter (getD after i 0) (eqb (getD numbers i 0) number) at r → Replacing places numbers number at (set after i r) (i + 1)
+    pub replace-again : {n : ℕ} → i < n → n ≤ 99 → {r : ℕ} → SpotAfter (getD after i 0) (eqb (getD numbers i 0) number) at r → Replacing spots numbers number at (set after i r) (i + 1)
     replace-again h l {r} p = record {
       long = length-set after i r ∙ inv .long;
       done = λ j k. go j k (decLt j i);
       rest = λ j k. getD-set-other after i j r 0 (λ e. omega arith) ∙ inv .rest j (omega arith);
     }
       where
-        now : r ≡ cond (eqb (getD places i 0) 0 && eqb (getD numbers i 0) number) at (getD places i 0)
+        now : r ≡ cond (eqb (getD spots i 0) 0 && eqb (getD numbers i 0) number) at (getD spots i 0)
         now = p .is ∙ ap (λ (k : ℕ). cond (eqb k 0 && eqb (getD numbers i 0) number) at k) (inv .rest i (omega arith))
 
-        go : (j : ℕ) → j < i + 1 → Dec (j < i) → getD (set after i r) j 0 ≡ cond (eqb (getD places j 0) 0 && eqb (getD numbers j 0) number) at (getD places j 0)
+        go : (j : ℕ) → j < i + 1 → Dec (j < i) → getD (set after i r) j 0 ≡ cond (eqb (getD spots j 0) 0 && eqb (getD numbers j 0) number) at (getD spots j 0)
         go j m (yes k) = getD-set-other after i j r 0 (λ e. omega arith) ∙ inv .done j k
         go j m (no k) =
             let e : i ≡ j = omega arith in
             let m : i < length after = omega (arith, inv .long) in
-            subst (λ (x : ℕ). getD (set after i r) x 0 ≡ cond (eqb (getD places x 0) 0 && eqb (getD numbers x 0) number) at (getD places x 0)) e (getD-set-same after i r 0 m ∙ now)
+            subst (λ (x : ℕ). getD (set after i r) x 0 ≡ cond (eqb (getD spots x 0) 0 && eqb (getD numbers x 0) number) at (getD spots x 0)) e (getD-set-same after i r 0 m ∙ now)
 
 -- ---- the walk
 
 module _ (b : List ℕ) (p : ℕ) (x : Rounding) where
-  at-none : p ≡ 0 → placedOr b p x ≡ x
-  unfolding placedOr
+  at-none : p ≡ 0 → spotOr b p x ≡ x
+  unfolding spotOr
   at-none z = rw z
 
-  at-some : (p ≡ 0 → ⊥) → placedOr b p x ≡ roundingHeld (whole kinded (part b (p + 2) (recordStop b p)))
-  unfolding placedOr
+  at-some : (p ≡ 0 → ⊥) → spotOr b p x ≡ roundingHeld (whole kinded (part b (p + 2) (recordStop b p)))
+  unfolding spotOr
   at-some n = rw (ne-eqb p 0 n)
 
 -- what stands where a rounding was read
-at-read : {b : List ℕ} {at e : ℕ} → StopIs b at e → {x : Rounding} → RoundingIs (part b (at + 2) e) x → (at ≡ 0 → ⊥) → (y : Rounding) → placedOr b at y ≡ x
+at-read : {b : List ℕ} {at e : ℕ} → StopIs b at e → {x : Rounding} → RoundingIs (part b (at + 2) e) x → (at ≡ 0 → ⊥) → (y : Rounding) → spotOr b at y ≡ x
 unfolding roundingHeld
 at-read {b} {at} {e} s {x} r n y = at-some b at y n ∙ ap (λ (k : ℕ). roundingHeld (whole kinded (part b (at + 2) k))) (sym (s .is)) ∙ ap roundingHeld (r .is)
 
@@ -290,7 +290,7 @@ module _ {b : List ℕ} {from : ℕ} where
       → {k p q : ℕ} → Sought b from k p at → q ≡ cond (eqb p 0 && eqb k (x .number)) at p → Sought b from k q e
   sought-after {at} w h here {e} s {x} r {k} {p} {q} t i = go (ℕ-discrete p 0) (ℕ-discrete k (x .number))
     where
-      keeps : p ≡ q → (placedOr b p (roundingFor k (roundings (recordsLeft b e))) ≡ placedOr b p (roundingFor k (roundings (recordsLeft b at)))) → Sought b from k q e
+      keeps : p ≡ q → (spotOr b p (roundingFor k (roundings (recordsLeft b e))) ≡ spotOr b p (roundingFor k (roundings (recordsLeft b at)))) → Sought b from k q e
       keeps d f = subst (λ (y : ℕ). Sought b from k y e) d (record { held = t .held; is = f ∙ t .is })
 
       go : Dec (p ≡ 0) → Dec (k ≡ x .number) → Sought b from k q e
@@ -299,7 +299,7 @@ module _ {b : List ℕ} {from : ℕ} where
           (at-some b p (roundingFor k (roundings (recordsLeft b e))) n ∙ sym (at-some b p (roundingFor k (roundings (recordsLeft b at))) n))
       go (yes z) (no d) =
           keeps (sym (i ∙ rw (z, ne-eqb k (x .number) d)))
-          (ap (placedOr b p) (left-passed w h s k (λ f. d (sym f ∙ number-of r))))
+          (ap (spotOr b p) (left-passed w h s k (λ f. d (sym f ∙ number-of r))))
       go (yes z) (yes d) =
           let a : at ≡ q = sym (i ∙ rw (z, eq-eqb k (x .number) d)) in
           let n : at ≡ 0 → ⊥ = λ f. omega (arith, w .low) in
@@ -311,21 +311,21 @@ module _ {b : List ℕ} {from : ℕ} where
           })
 
   -- and the records up to the next that is looked for
-  sought-next : {numbers places : List ℕ} {n e : ℕ} {o : Open} → ((i : ℕ) → i < n → Sought b from (getD numbers i 0) (getD places i 0) e) → OpenAre numbers places n o
-      → {at : ℕ} → NextOpen b e o at → Placing b from numbers n places at
-  sought-next {numbers} {places} {n} {e} {o} each are {at} next = record {
+  sought-next : {numbers spots : List ℕ} {n e : ℕ} {o : Open} → ((i : ℕ) → i < n → Sought b from (getD numbers i 0) (getD spots i 0) e) → OpenAre numbers spots n o
+      → {at : ℕ} → NextOpen b e o at → Placing b from numbers n spots at
+  sought-next {numbers} {spots} {n} {e} {o} each are {at} next = record {
     between = next .between;
     here = next .here;
-    each = λ i l. record { held = each i l .held; is = go i l (ℕ-discrete (getD places i 0) 0) (ℕ-discrete (getD numbers i 0) 0) ∙ each i l .is };
+    each = λ i l. record { held = each i l .held; is = go i l (ℕ-discrete (getD spots i 0) 0) (ℕ-discrete (getD numbers i 0) 0) ∙ each i l .is };
   }
     where
       left : ℕ → ℕ → Rounding
       left k x = roundingFor k (roundings (recordsLeft b x))
 
-      go : (i : ℕ) → i < n → Dec (getD places i 0 ≡ 0) → Dec (getD numbers i 0 ≡ 0) → placedOr b (getD places i 0) (left (getD numbers i 0) at) ≡ placedOr b (getD places i 0) (left (getD numbers i 0) e)
-      go i l (no z) d = at-some b (getD places i 0) (left (getD numbers i 0) at) z ∙ sym (at-some b (getD places i 0) (left (getD numbers i 0) e) z)
-      go i l (yes z) (yes d) = ap (placedOr b (getD places i 0)) (ap (λ (k : ℕ). left k at) d ∙ zero-plain b at ∙ sym (zero-plain b e) ∙ ap (λ (k : ℕ). left k e) (sym d))
-      go i l (yes z) (no d) = ap (placedOr b (getD places i 0)) (next .rest (getD numbers i 0) (are .each i l d z))
+      go : (i : ℕ) → i < n → Dec (getD spots i 0 ≡ 0) → Dec (getD numbers i 0 ≡ 0) → spotOr b (getD spots i 0) (left (getD numbers i 0) at) ≡ spotOr b (getD spots i 0) (left (getD numbers i 0) e)
+      go i l (no z) d = at-some b (getD spots i 0) (left (getD numbers i 0) at) z ∙ sym (at-some b (getD spots i 0) (left (getD numbers i 0) e) z)
+      go i l (yes z) (yes d) = ap (spotOr b (getD spots i 0)) (ap (λ (k : ℕ). left k at) d ∙ zero-plain b at ∙ sym (zero-plain b e) ∙ ap (λ (k : ℕ). left k e) (sym d))
+      go i l (yes z) (no d) = ap (spotOr b (getD spots i 0)) (next .rest (getD numbers i 0) (are .each i l d z))
 
 module _ {b : List ℕ} {from : ℕ} {numbers : List ℕ} {n : ℕ} where
   pub placing-start : n ≤ 99 → {o : Open} → OpenAre numbers (replicate 99 0) n o → {at : ℕ} → NextOpen b from o at → Placing b from numbers n (replicate 99 0) at
@@ -334,13 +334,13 @@ module _ {b : List ℕ} {from : ℕ} {numbers : List ℕ} {n : ℕ} where
       start : {k p : ℕ} → p ≡ 0 → Sought b from k p from
       start {k} {p} z = record { held = record { held = λ f. absurd (f z) }; is = at-none b p (roundingFor k (roundings (recordsLeft b from))) z }
 
-  module _ {places : List ℕ} {at : ℕ} (inv : Placing b from numbers n places at) where
-    pub placing-end : length b ≤ at → PlacesFound b from numbers n places
+  module _ {spots : List ℕ} {at : ℕ} (inv : Placing b from numbers n spots at) where
+    pub placing-end : length b ≤ at → SpotsFound b from numbers n spots
     unfolding roundingFor
     placing-end h = record {
       each = λ i l. record {
         held = inv .each i l .held;
-        is = ap (λ (rs : List Record). placedOr b (getD places i 0) (roundingFor (getD numbers i 0) (roundings rs))) (sym (pass-end (inv .between) h)) ∙ inv .each i l .is;
+        is = ap (λ (rs : List Record). spotOr b (getD spots i 0) (roundingFor (getD numbers i 0) (roundings rs))) (sym (pass-end (inv .between) h)) ∙ inv .each i l .is;
       };
     }
 
@@ -361,11 +361,11 @@ module _ {b : List ℕ} {from : ℕ} {numbers : List ℕ} {n : ℕ} where
         pub placing-less : {o : Open} {next : ℕ} → NextOpen b e o next → length b - next < length b - at
         placing-less p = omega (arith, p .onward, s .low)
 
-        pub placing-again : {x : Rounding} → RoundingIs (part b (at + 2) e) x → {after : List ℕ} → PlacesAfter places numbers n (x .number) at after
+        pub placing-again : {x : Rounding} → RoundingIs (part b (at + 2) e) x → {after : List ℕ} → SpotsAfter spots numbers n (x .number) at after
             → {o : Open} → OpenAre numbers after n o → {next : ℕ} → NextOpen b e o next → Placing b from numbers n after next
         placing-again r p are next = sought-next (λ i l. sought-after (inv .between) h (inv .here h) s r (inv .each i l) (p .each i l)) are next
 
--- ---- the rounding at a place
+-- ---- the rounding at a spot
 
 plain-sound : SoundRounding plain
 plain-sound = record {
@@ -375,28 +375,28 @@ plain-sound = record {
   after-in = omega arith;
 }
 
-module _ {b : List ℕ} {place : ℕ} where
-  pub plain-at : place ≡ 0 → {r : Rounding} → r ≡ plain → RoundingAt b place r
+module _ {b : List ℕ} {spot : ℕ} where
+  pub plain-at : spot ≡ 0 → {r : Rounding} → r ≡ plain → RoundingAt b spot r
   plain-at z e =
       record {
-        is = e ∙ sym (at-none b place plain z);
+        is = e ∙ sym (at-none b spot plain z);
         sound = rw e plain-sound;
       }
 
-  module _ (w : PlaceHeld b place) (n : place ≡ 0 → ⊥) where
-    pub held-here : RecordHere b place
+  module _ (w : SpotHeld b spot) (n : spot ≡ 0 → ⊥) where
+    pub held-here : RecordHere b spot
     held-here = here-record (w .held n)
 
-    module _ {e : ℕ} (s : StopIs b place e) where
-      pub held-kind : OfKind 3 (part b (place + 2) e)
+    module _ {e : ℕ} (s : StopIs b spot e) where
+      pub held-kind : OfKind 3 (part b (spot + 2) e)
       held-kind = here-kind s (w .held n)
 
-      pub rounding-at : {r : Rounding} → RoundingIs (part b (place + 2) e) r → RoundingAt b place r
+      pub rounding-at : {r : Rounding} → RoundingIs (part b (spot + 2) e) r → RoundingAt b spot r
       rounding-at i = record {
         is = sym (at-read s i n plain);
         sound = i .bounds .sound;
       }
 
--- a place that was found for a number has its rounding
-pub found-used : {b : List ℕ} {from number place : ℕ} → Found b from number place → {r : Rounding} → RoundingAt b place r → RoundingUsed b from number r
+-- a spot that was found for a number has its rounding
+pub found-used : {b : List ℕ} {from number spot : ℕ} → Found b from number spot → {r : Rounding} → RoundingAt b spot r → RoundingUsed b from number r
 found-used f r = record { is = r .is ∙ f .is; sound = r .sound }

@@ -1,4 +1,4 @@
--- The first record of a kind with a name, by places: each turn, the hit, and the end; and what is found is what the definitions find.
+-- The first record of a kind with a name, by spots: each turn, the hit, and the end; and what is found is what the definitions find.
 use Prim.Native.Nat.{ℕ, _+_, _-_, _≤_, _<_}
 use mathlib.Core.Path.{_≡_, refl, sym, _∙_, ap, subst}
 use mathlib.Core.Bool.{Bool, true, false, false≢true}

@@ -17,54 +17,54 @@ use Rattle.layout.specs.Records.{recordStop, recordsLeft, Between}
 use Rattle.records.specs.Asks.{OfKind}
 use Rattle.lookup.specs.declared.roundings.Open.{Open}
 
--- `r` is the rounding that a row with this number takes, among the records from a place on; its numbers are in their bounds
+-- `r` is the rounding that a row with this number takes, among the records from a spot on; its numbers are in their bounds
 pub record RoundingUsed (b : List ℕ) (from number : ℕ) (r : Rounding) : Type 0 where
   pub is : r ≡ roundingFor number (roundings (recordsLeft b from))
   pub sound : SoundRounding r
 
--- ---- a place
+-- ---- a spot
 
 unfoldable pub roundingHeld : Option Record → Rounding
 roundingHeld none = plain
 roundingHeld (some r) = ifSome (asRounding r) plain (λ x. x)
 
--- the rounding whose record stands at a place; 0 is the place of none, and has `other`
-unfoldable pub placedOr : List ℕ → ℕ → Rounding → Rounding
-placedOr b place other = cond (eqb place 0) other (roundingHeld (whole kinded (part b (place + 2) (recordStop b place))))
+-- the rounding whose record stands at a spot; 0 is the spot of none, and has `other`
+unfoldable pub spotOr : List ℕ → ℕ → Rounding → Rounding
+spotOr b spot other = cond (eqb spot 0) other (roundingHeld (whole kinded (part b (spot + 2) (recordStop b spot))))
 
--- a rounding stands at the place
-pub record RoundingHere (b : List ℕ) (place : ℕ) : Type 0 where
-  pub fits : recordStop b place ≤ length b
-  pub kind : OfKind 3 (part b (place + 2) (recordStop b place))
+-- a rounding stands at the spot
+pub record RoundingHere (b : List ℕ) (spot : ℕ) : Type 0 where
+  pub fits : recordStop b spot ≤ length b
+  pub kind : OfKind 3 (part b (spot + 2) (recordStop b spot))
 
-pub record PlaceHeld (b : List ℕ) (place : ℕ) : Type 0 where
-  pub held : (place ≡ 0 → ⊥) → RoundingHere b place
+pub record SpotHeld (b : List ℕ) (spot : ℕ) : Type 0 where
+  pub held : (spot ≡ 0 → ⊥) → RoundingHere b spot
 
 -- `r` is the rounding that stands there
-pub record RoundingAt (b : List ℕ) (place : ℕ) (r : Rounding) : Type 0 where
-  pub is : r ≡ placedOr b place plain
+pub record RoundingAt (b : List ℕ) (spot : ℕ) (r : Rounding) : Type 0 where
+  pub is : r ≡ spotOr b spot plain
   pub sound : SoundRounding r
 
--- what stands there is the rounding of the number, among the records from a place on
-pub record Found (b : List ℕ) (from number place : ℕ) : Type 0 where
-  pub held : PlaceHeld b place
-  pub is : placedOr b place plain ≡ roundingFor number (roundings (recordsLeft b from))
+-- what stands there is the rounding of the number, among the records from a spot on
+pub record Found (b : List ℕ) (from number spot : ℕ) : Type 0 where
+  pub held : SpotHeld b spot
+  pub is : spotOr b spot plain ≡ roundingFor number (roundings (recordsLeft b from))
 
-pub record PlacesFound (b : List ℕ) (from : ℕ) (numbers : List ℕ) (n : ℕ) (places : List ℕ) : Type 0 where
-  pub each : (i : ℕ) → i < n → Found b from (getD numbers i 0) (getD places i 0)
+pub record SpotsFound (b : List ℕ) (from : ℕ) (numbers : List ℕ) (n : ℕ) (spots : List ℕ) : Type 0 where
+  pub each : (i : ℕ) → i < n → Found b from (getD numbers i 0) (getD spots i 0)
 
 -- ---- the walk
 
--- the number of a place is found, or the records from `at` on have what all have
-pub record Sought (b : List ℕ) (from number place at : ℕ) : Type 0 where
-  pub held : PlaceHeld b place
-  pub is : placedOr b place (roundingFor number (roundings (recordsLeft b at))) ≡ roundingFor number (roundings (recordsLeft b from))
+-- the number of a spot is found, or the records from `at` on have what all have
+pub record Sought (b : List ℕ) (from number spot at : ℕ) : Type 0 where
+  pub held : SpotHeld b spot
+  pub is : spotOr b spot (roundingFor number (roundings (recordsLeft b at))) ≡ roundingFor number (roundings (recordsLeft b from))
 
 -- the walk stands at a rounding or at the end
-pub record Placing (b : List ℕ) (from : ℕ) (numbers : List ℕ) (n : ℕ) (places : List ℕ) (at : ℕ) : Type 0 where
+pub record Placing (b : List ℕ) (from : ℕ) (numbers : List ℕ) (n : ℕ) (spots : List ℕ) (at : ℕ) : Type 0 where
   pub between : Between b at
   pub here : at < length b → RoundingHere b at
-  pub each : (i : ℕ) → i < n → Sought b from (getD numbers i 0) (getD places i 0) at
+  pub each : (i : ℕ) → i < n → Sought b from (getD numbers i 0) (getD spots i 0) at
 
 -- the number is looked for
 pub record Wants (o : Open) (number : ℕ) : Type 0 where
@@ -72,21 +72,21 @@ pub record Wants (o : Open) (number : ℕ) : Type 0 where
   pub any : o .any ≡ true
   pub low : getD (o .low) (number % 256) false ≡ true
 
--- each of the first n numbers is 0, or has a place, or is looked for
-pub record OpenAre (numbers places : List ℕ) (n : ℕ) (o : Open) : Type 0 where
-  pub each : (i : ℕ) → i < n → (getD numbers i 0 ≡ 0 → ⊥) → getD places i 0 ≡ 0 → Wants o (getD numbers i 0)
+-- each of the first n numbers is 0, or has a spot, or is looked for
+pub record OpenAre (numbers spots : List ℕ) (n : ℕ) (o : Open) : Type 0 where
+  pub each : (i : ℕ) → i < n → (getD numbers i 0 ≡ 0 → ⊥) → getD spots i 0 ≡ 0 → Wants o (getD numbers i 0)
 
--- `r` is the place of a rounding or the end, and none of the records passed is looked for
+-- `r` is the spot of a rounding or the end, and none of the records passed is looked for
 pub record NextOpen (b : List ℕ) (from : ℕ) (o : Open) (r : ℕ) : Type 0 where
   pub onward : from ≤ r
   pub between : Between b r
   pub here : r < length b → RoundingHere b r
   pub rest : (number : ℕ) → Wants o number → roundingFor number (roundings (recordsLeft b r)) ≡ roundingFor number (roundings (recordsLeft b from))
 
--- `r` is a number's place once a record at `at` has gone by, which has the number or has not
-pub record PlaceAfter (place : ℕ) (here : Bool) (at r : ℕ) : Type 0 where
-  pub is : r ≡ cond (eqb place 0 && here) at place
+-- `r` is a number's spot once a record at `at` has gone by, which has the number or has not
+pub record SpotAfter (spot : ℕ) (here : Bool) (at r : ℕ) : Type 0 where
+  pub is : r ≡ cond (eqb spot 0 && here) at spot
 
 -- and so for the first n numbers
-pub record PlacesAfter (places numbers : List ℕ) (n number at : ℕ) (r : List ℕ) : Type 0 where
-  pub each : (i : ℕ) → i < n → getD r i 0 ≡ cond (eqb (getD places i 0) 0 && eqb (getD numbers i 0) number) at (getD places i 0)
+pub record SpotsAfter (spots numbers : List ℕ) (n number at : ℕ) (r : List ℕ) : Type 0 where
+  pub each : (i : ℕ) → i < n → getD r i 0 ≡ cond (eqb (getD spots i 0) 0 && eqb (getD numbers i 0) number) at (getD spots i 0)

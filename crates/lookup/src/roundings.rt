@@ -1,4 +1,4 @@
-// The roundings of up to 99 numbers, found by one walk over the records: of each number the first record's place, then the rounding there.
+// The roundings of up to 99 numbers, found by one walk over the records: of each number the first record's spot, then the rounding there.
 use book::record_stop;
 use records::rounding_number;
 use records::rounding_of;
@@ -10,7 +10,7 @@ ghost use mathlib.Core.Path.{_≡_};
 ghost use Rattle.rules.specs.Book.{plain};
 ghost use lib.ListN.{length};
 ghost use Rattle.layout.specs.Records.{Between, StopIs};
-ghost use Rattle.lookup.specs.Roundings.{PlaceAfter, PlacesAfter, OpenAre, NextOpen, PlacesFound, RoundingHere, PlaceHeld, RoundingAt};
+ghost use Rattle.lookup.specs.Roundings.{SpotAfter, SpotsAfter, OpenAre, NextOpen, SpotsFound, RoundingHere, SpotHeld, RoundingAt};
 
 // What is still looked for: the low bytes of those numbers, and whether there are any.
 struct Open {
@@ -18,17 +18,17 @@ struct Open {
     any: bool,
 }
 
-// Of the first n numbers those that have no place. No record has number 0, so that it is not looked for.
-fn open_numbers(numbers: [u16; 99], places: [usize; 99], n: usize) -> Open
+// Of the first n numbers those that have no spot. No record has number 0, so that it is not looked for.
+fn open_numbers(numbers: [u16; 99], spots: [usize; 99], n: usize) -> Open
     requires { ⌜ n ≤ 99 ⌝ }
-    ensures { λ r. ⌜ OpenAre numbers places n r ⌝ }
+    ensures { λ r. ⌜ OpenAre numbers spots n r ⌝ }
 {
     let mut low = [false; 256];
     let mut any = false;
     let mut i = 0;
     while i < n {
         let number = numbers[i];
-        let wanted = (number != 0) & (places[i] == 0);
+        let wanted = (number != 0) & (spots[i] == 0);
         let byte = (number % 256) as usize;
         low[byte] = low[byte] | wanted;
         any = any | wanted;
@@ -37,7 +37,7 @@ fn open_numbers(numbers: [u16; 99], places: [usize; 99], n: usize) -> Open
     Open { low, any }
 }
 
-// The place of the next rounding that may be looked for, or the end.
+// The spot of the next rounding that may be looked for, or the end.
 fn next_open(b: &[u8], from: usize, wanted: Open) -> usize
     requires { ⌜ Between (now b) from ⌝ }
     ensures { λ r. ⌜ NextOpen (now (b .entry)) from wanted r ⌝ }
@@ -68,51 +68,51 @@ fn rounding_stop(b: &[u8], at: usize) -> usize
     at + 18
 }
 
-// A number's place once a record at `at` has gone by: the first that has the number counts.
-fn first_place(place: usize, here: bool, at: usize) -> usize
-    ensures { λ r. ⌜ PlaceAfter place here at r ⌝ }
+// A number's spot once a record at `at` has gone by: the first that has the number counts.
+fn first_spot(spot: usize, here: bool, at: usize) -> usize
+    ensures { λ r. ⌜ SpotAfter spot here at r ⌝ }
 {
-    if (place == 0) & here { at } else { place }
+    if (spot == 0) & here { at } else { spot }
 }
 
-// The places of the first n numbers once the rounding of `number` at `at` has gone by.
-fn places_after(
-    places: [usize; 99],
+// The spots of the first n numbers once the rounding of `number` at `at` has gone by.
+fn spots_after(
+    spots: [usize; 99],
     numbers: [u16; 99],
     n: usize,
     number: u16,
     at: usize,
 ) -> [usize; 99]
     requires { ⌜ n ≤ 99 ⌝ }
-    ensures { λ r. ⌜ PlacesAfter places numbers n number at r ⌝ }
+    ensures { λ r. ⌜ SpotsAfter spots numbers n number at r ⌝ }
 {
-    let mut after = places;
+    let mut after = spots;
     let mut i = 0;
     while i < n {
-        after[i] = first_place(after[i], numbers[i] == number, at);
+        after[i] = first_spot(after[i], numbers[i] == number, at);
         i += 1;
     }
     after
 }
 
-// Where the roundings of the first n numbers stand, looked for from a place of the book on; 0 for a number that no record has.
+// Where the roundings of the first n numbers stand, looked for from a spot of the book on; 0 for a number that no record has.
 // The walk ends as soon as all are found.
-pub fn rounding_places(b: &[u8], from: usize, numbers: [u16; 99], n: usize) -> [usize; 99]
+pub fn rounding_spots(b: &[u8], from: usize, numbers: [u16; 99], n: usize) -> [usize; 99]
     requires { ⌜ Between (now b) from ⌝ }
     requires { ⌜ n ≤ 99 ⌝ }
-    ensures { λ r. ⌜ PlacesFound (now (b .entry)) from numbers n r ⌝ }
+    ensures { λ r. ⌜ SpotsFound (now (b .entry)) from numbers n r ⌝ }
 {
-    let mut places = [0; 99];
-    let mut at = next_open(b, from, open_numbers(numbers, places, n));
+    let mut spots = [0; 99];
+    let mut at = next_open(b, from, open_numbers(numbers, spots, n));
     while at < b.len() {
         let end = rounding_stop(b, at);
         let body = at + 2;
         let rounding = rounding_of(&b[body..end]);
-        let after = places_after(places, numbers, n, rounding.number, at);
+        let after = spots_after(spots, numbers, n, rounding.number, at);
         at = next_open(b, end, open_numbers(numbers, after, n));
-        places = after;
+        spots = after;
     }
-    places
+    spots
 }
 
 // To the nearest cent, with nothing added.
@@ -128,15 +128,15 @@ fn plain_rounding() -> Rounding
     }
 }
 
-// The rounding that stands at a place that was found, or at 0 the plain one.
-pub fn rounding_at(b: &[u8], place: usize) -> Rounding
-    requires { ⌜ PlaceHeld (now b) place ⌝ }
-    ensures { λ r. ⌜ RoundingAt (now (b .entry)) place r ⌝ }
+// The rounding that stands at a spot that was found, or at 0 the plain one.
+pub fn rounding_at(b: &[u8], spot: usize) -> Rounding
+    requires { ⌜ SpotHeld (now b) spot ⌝ }
+    ensures { λ r. ⌜ RoundingAt (now (b .entry)) spot r ⌝ }
 {
-    if place == 0 {
+    if spot == 0 {
         return plain_rounding();
     }
-    let end = record_stop(b, place);
-    let body = place + 2;
+    let end = record_stop(b, spot);
+    let body = spot + 2;
     rounding_of(&b[body..end])
 }

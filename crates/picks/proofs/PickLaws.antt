@@ -17,7 +17,7 @@ use Rattle.rules.specs.declared.Rounding.{Rounding}
 use Rattle.layout.specs.Records.{recordsLeft, Between}
 use Rattle.records.specs.Asks.{OfKind}
 use Rattle.records.specs.Ensures.{RowIs, rowIn}
-use Rattle.lookup.specs.Roundings.{RoundingUsed, PlaceHeld, RoundingAt, Found, PlacesFound}
+use Rattle.lookup.specs.Roundings.{RoundingUsed, SpotHeld, RoundingAt, Found, SpotsFound}
 use Rattle.lookup.proofs.LookupLaws.{found-used}
 use Rattle.grants.specs.Table.{GrantsAre}
 use Rattle.grants.specs.Places.{upFrom}
@@ -57,7 +57,7 @@ module _ {b : List ℕ} {w : Window} (told : RoundingsIn b w) where
   rounding-used {number} u = u .is ∙ ap (roundingFor number) (told .window .rounding-same)
 
 module _ {b : List ℕ} {w : Window} {at end found : ℕ} (held : Held b at end) (row-found : RowFound b w at end found) where
-  pub found-held : PlaceHeld (take (w .to) b) found
+  pub found-held : SpotHeld (take (w .to) b) found
   found-held = row-found .is (held .row) (held .there) .held
 
   pub row-picked : RoundingsIn b w → {row : PriceRow} → RowIs (take (end - at) (drop at b)) row → {rounding : Rounding} → RoundingAt (take (w .to) b) found rounding
@@ -241,12 +241,12 @@ module _ {b : List ℕ} {slots : List Seen} {w : Window} (filled : Filled b slot
   pub filled-long : length (take (w .to) b) ≡ w .to
   filled-long = window-long filled-roundings
 
-  -- the place that was found for the number of a slot's row
-  pub slot-found : {numbers : Numbers} → NumbersIn slots numbers → {places : List ℕ} → PlacesFound (take (w .to) b) (w .from) (numbers .of) (numbers .n) places
-      → {picks : List Pick} {n i : ℕ} → PicksSoFar b slots picks n i → i < 99 → {hand : Hand} → TakenIs (getD slots i unseen) hand → HandFound b w hand (getD places n 0)
-  slot-found {numbers} m {places} f {picks} {n} {i} s l {hand} t =
+  -- the spot that was found for the number of a slot's row
+  pub slot-found : {numbers : Numbers} → NumbersIn slots numbers → {spots : List ℕ} → SpotsFound (take (w .to) b) (w .from) (numbers .of) (numbers .n) spots
+      → {picks : List Pick} {n i : ℕ} → PicksSoFar b slots picks n i → i < 99 → {hand : Hand} → TakenIs (getD slots i unseen) hand → HandFound b w hand (getD spots n 0)
+  slot-found {numbers} m {spots} f {picks} {n} {i} s l {hand} t =
       let k : ℕ = filledBefore slots i in
-      subst (λ (j : ℕ). HandFound b w hand (getD places j 0)) (sym (s .count))
+      subst (λ (j : ℕ). HandFound b w hand (getD spots j 0)) (sym (s .count))
       (record {
         is = λ full.
             let x = slot-full (filled .holds) l t full in
@@ -254,7 +254,7 @@ module _ {b : List ℕ} {slots : List Seen} {w : Window} (filled : Filled b slot
             let number : getD (numbers .of) k 0 ≡ x .0 .rounding = m .each i l .is full′ ∙ ap (λ (h : Hand). h .rounding) (sym (t .is)) ∙ x .1 .rounding in
             record {
               is = λ r there.
-                  subst (λ (j : ℕ). Found (take (w .to) b) (w .from) j (getD places k 0))
+                  subst (λ (j : ℕ). Found (take (w .to) b) (w .from) j (getD spots k 0))
                   (number ∙ ap (λ (y : Row). y .rounding) (there-same (x .1 .there) there)) (f .each k (m .each i l .below full′));
             };
       })

@@ -10,7 +10,7 @@ use choice::slots_for;
 use grants::terms::Terms;
 use lines::Pick;
 use lookup::roundings::rounding_at;
-use lookup::roundings::rounding_places;
+use lookup::roundings::rounding_spots;
 use rules::Cents;
 use rules::Currency;
 use rules::Level;
@@ -91,13 +91,13 @@ fn picks_from(b: &[u8], slots: [Seen; 100], window: Window) -> Picks
     let numbers = numbers_in(slots);
     let to = window.to;
     let of = numbers.of;
-    let places = rounding_places(&b[..to], window.from, of, numbers.n);
+    let spots = rounding_spots(&b[..to], window.from, of, numbers.n);
     let mut rows = [NONE; 99];
     let mut n = 0;
     let mut i = 0;
     while i < 99 {
         let hand = taken(slots[i]);
-        rows[n] = hand_pick(b, window, hand, (i % 33) as u8, places[n]);
+        rows[n] = hand_pick(b, window, hand, (i % 33) as u8, spots[n]);
         n = n + counted(hand);
         i += 1;
     }

@@ -1,4 +1,4 @@
--- `lookup::roundings::open_numbers` meets its contract: each number gone through is looked for if it has no place, by the laws `opening-..`.
+-- `lookup::roundings::open_numbers` meets its contract: each number gone through is looked for if it has no spot, by the laws `opening-..`.
 use Prim.Native.Nat.{_-_}
 use borrow.Author.Needs.{needs}
 use Rattle.lookup.proofs.LookupLaws.{Opening, opening-start, opening-again, opening-end}
@@ -8,10 +8,10 @@ use Rattle.lookup.proofs.roundings.open_numbers.Tie as tie
 ruleset laws = (needs, opening-start, opening-again, opening-end)
 
 abbrev Inv-loop : tie.InvT-loop
-Inv-loop n numbers places low₀ any₀ i₀ low any i = Opening numbers places low any i
+Inv-loop n numbers spots low₀ any₀ i₀ low any i = Opening numbers spots low any i
 
 abbrev μ-loop : tie.MeasureT-loop
-μ-loop n numbers places low₀ any₀ i₀ low any i = n - i
+μ-loop n numbers spots low₀ any₀ i₀ low any i = n - i
 
 pub open-numbers-spec : {M : Type 1} → statement M
 open-numbers-spec =

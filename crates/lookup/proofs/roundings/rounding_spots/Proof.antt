@@ -1,22 +1,22 @@
--- `lookup::roundings::rounding_places` meets its contract: each number is found, or the records left have what all have, by the laws `placing-..`.
+-- `lookup::roundings::rounding_spots` meets its contract: each number is found, or the records left have what all have, by the laws `placing-..`.
 use Prim.Native.Nat.{_-_}
 use lib.ListN.{length}
 use Rattle.lookup.specs.Roundings.{Placing}
 use borrow.Author.Needs.{needs}
 use Rattle.lookup.proofs.LookupLaws.{placing-start, placing-end, placing-here, placing-fits, placing-kind, placing-between, placing-less, placing-again}
-use Rattle.lookup.proofs.roundings.rounding_places.Statement.{statement}
-use Rattle.lookup.proofs.roundings.rounding_places.Tie as tie
+use Rattle.lookup.proofs.roundings.rounding_spots.Statement.{statement}
+use Rattle.lookup.proofs.roundings.rounding_spots.Tie as tie
 
 ruleset laws = (needs, placing-start, placing-end, placing-here, placing-fits, placing-kind, placing-between, placing-less, placing-again)
 
 abbrev Inv-loop : tie.InvT-loop
-Inv-loop b from numbers n places₀ at₀ places at = Placing b from numbers n places at
+Inv-loop b from numbers n spots₀ at₀ spots at = Placing b from numbers n spots at
 
 abbrev μ-loop : tie.MeasureT-loop
-μ-loop b from numbers n places₀ at₀ places at = length b - at
+μ-loop b from numbers n spots₀ at₀ spots at = length b - at
 
-pub rounding-places-spec : {M : Type 1} → statement M
-rounding-places-spec =
+pub rounding-spots-spec : {M : Type 1} → statement M
+rounding-spots-spec =
     tie.close
     (tie.spec
     Inv-loop
@@ -30,7 +30,7 @@ rounding-places-spec =
     (λ c. search needs)  -- part-rounding-of-start
     (λ c. search needs)  -- part-rounding-of-end
     (λ c κs. search laws)  -- rounding-of-requires
-    (λ c κs. search laws)  -- places-after-requires
+    (λ c κs. search laws)  -- spots-after-requires
     (λ c κs. search laws)  -- open-numbers-requires-2
     (λ c κs. search laws)  -- next-open-requires-2
     (λ c. search laws)  -- loop-less
