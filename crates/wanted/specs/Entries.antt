@@ -3,10 +3,11 @@ use Prim.Native.Nat.{ℕ, _≤_, _<_}
 use mathlib.Core.Path.{_≡_}
 use mathlib.Core.Bool.{Bool, true, false, _||_, not, cond}
 use mathlib.Core.List.{List}
-use mathlib.Core.Option.{Option, some, none}
+use mathlib.Core.Option.{Option, some, none, Option·map}
 use lib.Dec.{eqb}
 use lib.ListN.{getD}
-use Rattle.rules.specs.Book.{Record, ArticleRecord, PriceRecord, RoundingRecord, PackagingRecord, SchemeRecord, sale}
+use Rattle.rules.specs.Lists.{isSome, ifSome}
+use Rattle.rules.specs.Book.{Record, Row, asArticle, asRow, sale}
 use Rattle.layout.specs.Names.{nameAt}
 use Rattle.survey.specs.declared.Found.{Found}
 use Rattle.survey.specs.declared.window.Span.{Span}
@@ -21,28 +22,16 @@ use Rattle.wanted.specs.Table.{FoundAt}
 -- the article that it is of, if it is an article or a row
 unfoldable pub ofArticle : Option Record → Option (List ℕ)
 ofArticle none = none
-ofArticle (some (ArticleRecord a)) = some (a .number)
-ofArticle (some (PriceRecord r)) = some (r .article)
-ofArticle (some (RoundingRecord r)) = none
-ofArticle (some (PackagingRecord p)) = none
-ofArticle (some (SchemeRecord s)) = none
+ofArticle (some r) = ifSome (asArticle r) (Option·map (λ (p : Row). p .article) (asRow r)) λ a. some (a .number)
 
 unfoldable pub isArticle : Option Record → Bool
 isArticle none = false
-isArticle (some (ArticleRecord a)) = true
-isArticle (some (PriceRecord r)) = false
-isArticle (some (RoundingRecord r)) = false
-isArticle (some (PackagingRecord p)) = false
-isArticle (some (SchemeRecord s)) = false
+isArticle (some r) = isSome (asArticle r)
 
 -- whether it is a row, and for sale, or not for sale
 unfoldable pub isRow : Bool → Option Record → Bool
 isRow sold none = false
-isRow sold (some (ArticleRecord a)) = false
-isRow sold (some (PriceRecord r)) = cond sold (eqb (r .sort) sale) (not (eqb (r .sort) sale))
-isRow sold (some (RoundingRecord r)) = false
-isRow sold (some (PackagingRecord p)) = false
-isRow sold (some (SchemeRecord s)) = false
+isRow sold (some r) = ifSome (asRow r) false λ p. cond sold (eqb (p .sort) sale) (not (eqb (p .sort) sale))
 
 -- `r` is what is kept of an article once a record of it has gone by
 pub record EntryAfter (e : Entry) (o : Option Record) (at end : ℕ) (r : Entry) : Type 0 where
