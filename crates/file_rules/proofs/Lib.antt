@@ -1,0 +1,15 @@
+pub mod FieldLaws
+pub mod DecimalLaws
+pub mod PriceLineLaws
+pub mod NumberingLaws
+pub mod PriceFileLaws
+pub mod FirstBadLaws
+pub mod LineSoundLaws
+pub mod RowBytesLaws
+pub mod BookSoundLaws
+pub mod ReadLaws
+pub mod UnfitLaws
+pub mod WriteLaws
+pub mod ExactLaws
+pub mod Cases
+pub mod Promises
