@@ -1,0 +1,6 @@
+pub mod PartLaws
+pub mod QuoteLaws
+pub mod FieldLaws
+pub mod LineLaws
+pub mod ContentLaws
+pub mod SameLaws

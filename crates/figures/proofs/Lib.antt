@@ -1,0 +1,4 @@
+pub mod DigitLaws
+pub mod AmountLaws
+pub mod LetterLaws
+pub mod MeaningLaws
