@@ -5,7 +5,7 @@ use mathlib.Core.Bool.{Bool, true, false, _&&_, _||_, not, cond, false≢true}
 use mathlib.Core.List.{List, [], _∷_, _++_, map, append-assoc, append-nil}
 use native.Mathlib.Omega.{arith}
 use lib.Dec.{ltb}
-use lib.ListN.{length, getD, take, drop, replicate, length-append, length-map, length-drop, replicate-append-replicate}
+use lib.ListN.{length, getD, take, drop, replicate, length-append, length-map, length-drop, length-replicate, replicate-append-replicate}
 use lib.Seq.{take-at, drop-append-add, length-take-le}
 use Rattle.rules.specs.Lists.{same, all, between}
 use Rattle.rules.specs.Bytes.{name, raise}
@@ -175,6 +175,13 @@ module _ {q : List ℕ} {at n : ℕ} {t : List ℕ} {here k : ℕ} (inv : Fillin
         few = omega (arith, count);
         sizes = names-sized q at n p;
       }
+
+  -- the table has its length
+  pub fill-long : n ≤ 32 → length t ≡ 672
+  fill-long l =
+      ap length (inv .filled)
+      ∙ length-append (entries (inv .held)) (replicate (672 - 21 * k) 0)
+      ∙ omega (arith, entries-long (inv .held) (inv .short), inv .count, inv .passed, length-replicate {A = ℕ} (672 - 21 * k) 0)
 
   module _ (h : k < n) where
     pub fill-here : Stands (name 1 20) nameAt nameStop q here

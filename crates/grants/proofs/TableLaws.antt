@@ -7,13 +7,13 @@ use native.Mathlib.Omega.{arith}
 use native.Mathlib.Numerals.{add-one}
 use native.Mathlib.Nat.{add-zero}
 use lib.Dec.{eqb, ltb}
-use lib.ListN.{length, getD, take, drop, set, replicate, length-append, length-map, length-set, length-replicate}
+use lib.ListN.{length, getD, take, drop, set, replicate, length-append, length-map, length-set, length-take, length-replicate}
 use lib.Seq.{sets, take-at, drop-at, drop-drop, getD-drop}
 use borrow.Author.Tests.{eqb-true, eqb-false, lt-ltb, le-ltb}
 use Rattle.rules.specs.Lists.{same, any}
 use Rattle.rules.specs.Bytes.{raise}
 use Rattle.rules.proofs.ListLaws.{All}
-use Rattle.layout.specs.Ensures.{Number, Puts}
+use Rattle.layout.specs.Ensures.{Number, Puts, PutsTo}
 use Rattle.layout.proofs.NameLaws.{compare-not}
 use Rattle.layout.proofs.StoreLaws.{puts-of, sets-of, puts-there}
 use Rattle.grants.specs.Table.{entry, entryIs, lookFrom, Entered}
@@ -96,13 +96,19 @@ module _ (t : List ℕ) (k : ℕ) (name : List ℕ) {old raised : List ℕ} (p :
         again = λ e. refl;
       }
 
-  pub entered-new : {new : List ℕ} → 33 ≤ r → Puts (set t (21 * k) (length name)) (21 * k + 1) (map raise name) new → Entered t k name new
-  entered-new {new} h q =
+  pub entered-new : {new : List ℕ} {end : ℕ} → 33 ≤ r → PutsTo (set t (21 * k) (length name)) (21 * k + 1) (take (length name - 0) (drop 0 raised)) new end → Entered t k name new
+  entered-new {new} h put =
+      let q : Puts (set t (21 * k) (length name)) (21 * k + 1) (map raise name) new = rw (raised-is name p) at (put .puts) in
       record {
         new = λ e. puts-of (omega (arith, q .room, length-set t (21 * k) (length name), length-map name raise)) (sets-of q ∙ ap (λ (i : ℕ). sets (set t (21 * k) (length name)) i (map raise name)) (add-one (21 * k)));
         again = λ e. absurd (false≢true (sym (le-ltb (lookFrom t 0 k (map raise name)) 33 (omega (arith, looked))) ∙ e));
       }
 
 -- there is room for it
-pub entry-room : (t : List ℕ) (k v n : ℕ) → k < 32 → n ≤ 20 → length t ≡ 672 → 21 * k + 1 + n ≤ length (set t (21 * k) v)
-entry-room t k v n h l e = omega (arith, length-set t (21 * k) v)
+pub entry-room : (t : List ℕ) (k v n : ℕ) (raised : List ℕ) → k < 32 → n ≤ 20 → length t ≡ 672
+    → 21 * k + 1 + length (take (n - 0) (drop 0 raised)) ≤ length (set t (21 * k) v)
+entry-room t k v n raised h l e = omega (arith, length-set t (21 * k) v, length-take (n - 0) (drop 0 raised))
+
+-- and the table stays as long as it is
+pub entry-stays : (t : List ℕ) (i v : ℕ) {at : ℕ} {bytes new : List ℕ} {end : ℕ} → PutsTo (set t i v) at bytes new end → length new ≡ length t
+entry-stays t i v put = put .puts .long ∙ length-set t i v

@@ -7,6 +7,7 @@ pub mod terms;
 use layout::names::put_raised;
 use layout::names::same_bytes;
 use layout::numbers::wide;
+use layout::strings::put_bytes;
 use question::names::name_stop;
 ghost use Prim.Native.Nat.{_≤_, _<_};
 ghost use mathlib.Core.Path.{_≡_};
@@ -60,23 +61,21 @@ fn look(g: &[u8], n: usize, name: &[u8]) -> usize
     NOWHERE
 }
 
-// The table with a name more behind k entries, raised. A name that is among them leaves it as it is.
-fn entered(table: [u8; TABLE], k: usize, name: &[u8]) -> [u8; TABLE]
+// A name more comes into the table behind k entries, raised. One that is among them leaves it as it is.
+fn enter(table: &mut [u8], k: usize, name: &[u8])
+    requires { ⌜ length (now table) ≡ tableSize ⌝ }
     requires { ⌜ k < 32 ⌝ }
     requires { ⌜ length (now name) ≤ 20 ⌝ }
-    ensures { λ r. ⌜ Entered table k (now (name .entry)) r ⌝ }
+    ensures { λ _. ⌜ Entered (now (table .entry)) k (now (name .entry)) (now (table .exit)) ⌝ }
 {
     let size = name.len();
     let mut raised = [0u8; LONGEST];
     put_raised(&mut raised, 0, name);
-    if NOWHERE <= look(&table, k, &raised[0..size]) {
-        let mut new = table;
+    if NOWHERE <= look(table, k, &raised[0..size]) {
         let at = ENTRY * k;
-        new[at] = size as u8;
-        put_raised(&mut new, at + 1, name);
-        return new;
+        table[at] = size as u8;
+        put_bytes(table, at + 1, &raised[0..size]);
     }
-    table
 }
 
 // The table of the n names that stand in the question from `at` on.
@@ -91,8 +90,7 @@ pub fn grants_of(q: &[u8], at: usize, n: usize) -> [u8; TABLE]
     while k < n {
         let stop = name_stop(q, here);
         let from = here + 1;
-        let new = entered(table, k, &q[from..stop]);
-        table = new;
+        enter(&mut table, k, &q[from..stop]);
         here = stop;
         k += 1;
     }

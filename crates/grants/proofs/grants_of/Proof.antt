@@ -1,11 +1,11 @@
 -- `grants::grants_of` meets its contract: the names that have come in and those that are left make up the whole, by the laws `fill-..`.
 use Prim.Native.Nat.{_-_}
 use borrow.Author.Needs.{needs}
-use Rattle.grants.proofs.FillLaws.{Filling, fill-start, fill-here, fill-short, fill-again, fill-end}
+use Rattle.grants.proofs.FillLaws.{Filling, fill-start, fill-here, fill-long, fill-short, fill-again, fill-end}
 use Rattle.grants.proofs.grants_of.Statement.{statement}
 use Rattle.grants.proofs.grants_of.Tie as tie
 
-ruleset laws = (needs, fill-start, fill-here, fill-short, fill-again, fill-end)
+ruleset laws = (needs, fill-start, fill-here, fill-long, fill-short, fill-again, fill-end)
 
 abbrev Inv-loop : tie.InvT-loop
 Inv-loop q at n table₀ here₀ k₀ table here k = Filling q at n table here k
@@ -22,10 +22,11 @@ grants-of-spec =
     (λ c. search laws)  -- loop-holds
     (λ c κs. search laws)  -- name-stop-requires
     (λ c. search needs)  -- add-from
-    (λ c. search needs)  -- sub-entered
-    (λ c. search needs)  -- part-entered-start
-    (λ c. search needs)  -- part-entered-end
-    (λ c κs. search laws)  -- entered-requires
+    (λ c. search laws)  -- slice-aggregate-enter
+    (λ c. search needs)  -- sub-enter
+    (λ c. search needs)  -- part-enter-start
+    (λ c. search needs)  -- part-enter-end
+    (λ c κs. search laws)  -- enter-requires
     (λ c. search needs)  -- add-k
     (λ c. search needs)  -- loop-less
     (λ c. search laws)  -- loop-again
