@@ -1,0 +1,4 @@
+pub mod MeaningLaws
+pub mod FieldsLaws
+pub mod GroupLaws
+pub mod LineLaws

@@ -1,0 +1,15 @@
+-- `price_line::names_fit` meets its contract.
+use borrow.Author.Needs.{needs}
+use Rattle.price_line.proofs.GroupLaws.{names-are}
+use Rattle.price_line.proofs.names_fit.Statement.{statement}
+use Rattle.price_line.proofs.names_fit.Tie as tie
+
+ruleset laws = (needs, names-are)
+
+pub names-fit-spec : {M : Type 1} → statement M
+names-fit-spec =
+    tie.close
+    (tie.spec
+    (λ c. search needs)  -- array-copy-out-article
+    (λ c. search needs)  -- array-copy-out-condition
+    (λ c. search laws))  -- returns
