@@ -85,7 +85,7 @@ module _ {s : List ℕ} {list : Questions} (told : QuestionsAre s mostBasket lis
     has = λ j h. located .has so j h (getD (asked s) j noQuestion) (told .each (asked s) are j h .is);
   }
 
-module _ {b s starts ends : List ℕ} {found : List Found} {n : ℕ} (bk : Basketed b s starts ends found n) {a : Answers} (told : AnswersAre b s a) where
+module _ {b s starts ends : List ℕ} {found : List Found} {n : ℕ} (bk : Basketed b s starts ends found n) {kept : List ℕ} {a : Answers} (told : AnswersAre b s kept a) where
   -- the answers are those of n questions
   head-is : length (allAnswers b s) ≡ 33 * n
   head-is = told .size ∙ ap (λ (k : ℕ). 33 * k) (bk .count)

@@ -3,6 +3,7 @@ use Prim.Native.Nat.{ℕ, _+_, _≤_, _<_}
 use mathlib.Core.Path.{_≡_, sym, _∙_, ap, subst}
 use mathlib.Core.List.{List, map}
 use native.Mathlib.Omega.{arith}
+use native.Mathlib.Numerals.{unary-clauses}
 use lib.ListN.{length, getD, length-map}
 use Rattle.rules.specs.Price.{answered}
 use Rattle.rules.specs.Basket.{linesIn}
@@ -12,8 +13,9 @@ use Rattle.layout.specs.Records.{recordsLeft}
 use Rattle.layout.proofs.PileLaws.{Piling, pile-start, pile-room, pile-again, pile-end}
 use Rattle.questions.specs.Questions.{noQuestion}
 use Rattle.survey.specs.declared.Found.{Found}
-use Rattle.price.specs.Answered.{HasRoom, linesTo}
-use Rattle.basket.specs.Basket.{Basketed, outcomes, allLines}
+use Rattle.price.specs.declared.answered.Answered.{Answered}
+use Rattle.price.specs.Answered.{HasRoom, AnsweredIs, linesTo}
+use Rattle.basket.specs.Basket.{Basketed, outcomes, allLines, Kept}
 use Rattle.basket.proofs.AskedLaws.{outcomes-count, nth}
 
 -- the lines of j questions are there
@@ -38,17 +40,29 @@ module _ {b s starts ends : List ℕ} {found : List Found} {n : ℕ} {old : List
           omega (arith, pile-room old from (map linesIn (outcomes b s)) (inv .pile) (omega (arith, count)) d, ap length (nth (inv .basket) j h linesIn));
     }
 
-    pub lines-again : j < n → {new : List ℕ} {end : ℕ} → PutsTo out at (linesTo (recordsLeft b 5) (part s (getD starts j 0) (getD ends j 0))) new end
-        → Listing b s starts ends found n old from new end (j + 1)
-    lines-again h {new} {end} put =
+    pub lines-again : j < n → {new : List ℕ} {told : Answered} → AnsweredIs (recordsLeft b 5) (part s (getD starts j 0) (getD ends j 0)) out at new told
+        → Listing b s starts ends found n old from new (told .end) (j + 1)
+    lines-again h {new} {told} is =
         let d = linesIn (answered (recordsLeft b 5) noQuestion) in
+        let put = is .lines .fits (lines-room h .fits) in
         record {
           basket = inv .basket;
           few = inv .few;
           place = omega arith;
           pile = pile-again old from (map linesIn (outcomes b s)) (inv .pile) (omega (arith, count)) d
-              (subst (λ (x : List ℕ). PutsTo out at x new end) (sym (nth (inv .basket) j h linesIn)) put);
+              (subst (λ (x : List ℕ). PutsTo out at x new (told .end)) (sym (nth (inv .basket) j h linesIn)) put);
         }
 
     pub lines-end : n ≤ j → PutsTo old from (allLines b s) out at
     lines-end h = pile-end old from (map linesIn (outcomes b s)) (inv .pile) (omega (arith, count))
+
+-- those that were kept
+module _ {kept bytes : List ℕ} {end : ℕ} (k : Kept kept end bytes) (l : end ≤ length kept) where
+  kept-part : part kept 0 end ≡ bytes
+  kept-part = simp unary-clauses (k .is l)
+
+  pub kept-room : {out : List ℕ} {at : ℕ} → HasRoom out at bytes → at + length (part kept 0 end) ≤ length out
+  kept-room h = omega (arith, ap length kept-part, h .fits)
+
+  pub kept-put : {old : List ℕ} {at : ℕ} {new : List ℕ} {r : ℕ} → PutsTo old at (part kept 0 end) new r → PutsTo old at bytes new r
+  kept-put {old} {at} {new} {r} p = subst (λ (x : List ℕ). PutsTo old at x new r) kept-part p

@@ -3,7 +3,7 @@ use Prim.Native.Nat.{ℕ, _*_, _≤_, _<_}
 use mathlib.Core.Path.{_≡_}
 use mathlib.Core.List.{List, [], _∷_, _++_, map}
 use mathlib.Core.Option.{some}
-use lib.ListN.{length, getD, replicate}
+use lib.ListN.{length, take, getD, replicate}
 use Rattle.rules.specs.Lists.{ifSome, join}
 use Rattle.rules.specs.Bytes.{signedBytesOf}
 use Rattle.rules.specs.BookLayout.{records}
@@ -59,11 +59,16 @@ pub record AnswerPut (old : List ℕ) (at : ℕ) (a : PriceAnswer) (new : List �
   pub puts : Puts old at (answerBytes a) new
   pub size : length (answerBytes a) ≡ 33
 
-pub record AnswersAre (b s : List ℕ) (r : Answers) : Type 0 where
+-- these bytes are kept in front of `end`, if that is not behind the whole
+pub record Kept (kept : List ℕ) (end : ℕ) (bytes : List ℕ) : Type 0 where
+  pub is : end ≤ length kept → take end kept ≡ bytes
+
+pub record AnswersAre (b s kept : List ℕ) (r : Answers) : Type 0 where
   pub bytes : Puts (replicate 6600 0) 0 (allAnswers b s) (r .bytes)
   pub size : length (allAnswers b s) ≡ 33 * length (asked s)
   pub lines : lineSize * r .lines ≡ length (allLines b s)
   pub few : r .lines ≤ 99 * length (asked s)
+  pub keeps : Kept kept (r .end) (allLines b s)
 
 -- ---- the call
 

@@ -17,10 +17,12 @@ pub const ANSWER_SIZE: usize = 33;
 // Of the answers of the largest basket.
 pub const ANSWERS_SIZE: usize = 6600;
 
-// The answers stand at the front, zeros behind them.
+// The answers stand at the front, zeros behind them. The lines that were kept end at `end`; a place behind what was lent for them says that
+// they were too many.
 pub struct Answers {
     pub bytes: [u8; ANSWERS_SIZE],
     pub lines: usize,
+    pub end: usize,
 }
 
 // Number, unit total, total.
@@ -46,7 +48,8 @@ fn put_answer(out: &mut [u8], at: usize, answer: PriceAnswer)
     put_run(out, at + 32, answer.unused_count, 1);
 }
 
-// Each question is answered as if it were alone. No lent byte is written here: the room is not known to be enough.
+// Each question is answered as if it were alone. The caller's output is not written here, since the room is not known to be enough: the lines
+// are kept, one question's behind the other's.
 pub fn answers_to(
     book: &[u8],
     questions: &[u8],
@@ -54,20 +57,24 @@ pub fn answers_to(
     ends: &[usize; 500],
     found: [Found; 500],
     n: usize,
+    kept: &mut [u8],
 ) -> Answers
     requires { ⌜ Basketed (now book) (now questions) (now starts) (now ends) found n ⌝ }
-    ensures { λ r. ⌜ AnswersAre (now (book .entry)) (now (questions .entry)) r ⌝ }
+    ensures { λ r. ⌜ AnswersAre (now (book .entry)) (now (questions .entry)) (now (kept .exit)) r ⌝ }
 {
     let mut bytes = [0u8; ANSWERS_SIZE];
     let mut lines = 0;
+    let mut end = 0;
     let mut j = 0;
     while j < n {
         let from = starts[j];
         let to = ends[j];
-        let answer = answer_to(book, &questions[from..to], found[j]);
+        let told = answer_to(book, &questions[from..to], found[j], kept, end);
+        let answer = told.answer;
         put_answer(&mut bytes, ANSWER_SIZE * j, answer);
         lines = lines + answer.lines as usize;
+        end = told.end;
         j += 1;
     }
-    Answers { bytes, lines }
+    Answers { bytes, lines, end }
 }

@@ -5,7 +5,7 @@ mod located;
 
 use crate::answers::ANSWER_SIZE;
 use crate::answers::answers_to;
-use crate::lines::put_all_lines;
+use crate::lines::put_lines;
 use crate::located::locate;
 use layout::strings::put_bytes;
 use questions::questions_of;
@@ -20,6 +20,8 @@ ghost use Rattle.basket.specs.Basket.{Basketed, BasketIs};
 
 // The most questions that a basket has.
 const MOST: usize = 200;
+// So many bytes of lines are kept while the questions are answered: 23 lines for each of the most questions.
+const KEPT_SIZE: usize = 65_536;
 
 fn refusal(number: u8) -> Written
     ensures { λ r. ⌜ r ≡ shownBasket (refused number) ⌝ }
@@ -40,7 +42,9 @@ fn filled(
     requires { ⌜ Basketed (now book) (now questions) (now starts) (now ends) found n ⌝ }
     ensures { λ r. ⌜ BasketIs (now (book .entry)) (now (questions .entry)) (now (out .entry)) r (now (out .exit)) ⌝ }
 {
-    let answers = answers_to(book, questions, starts, ends, found, n);
+    let mut kept = [0u8; KEPT_SIZE];
+    let answers = answers_to(book, questions, starts, ends, found, n, &mut kept);
+    let end = answers.end;
     let bytes = answers.bytes;
     let head = ANSWER_SIZE * n;
     let size = head + LINE_SIZE * answers.lines;
@@ -48,7 +52,18 @@ fn filled(
         return refusal(7);
     }
     put_bytes(out, 0, &bytes[..head]);
-    put_all_lines(out, head, book, questions, starts, ends, found, n);
+    put_lines(
+        out,
+        head,
+        &kept,
+        end,
+        book,
+        questions,
+        starts,
+        ends,
+        found,
+        n,
+    );
     Written {
         length: size as u64,
         number: 0,

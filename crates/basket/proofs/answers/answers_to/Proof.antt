@@ -9,10 +9,10 @@ use Rattle.basket.proofs.answers.answers_to.Tie as tie
 ruleset laws = (needs, part-low, part-fits, ready-at, answers-start, answers-room, answers-again, answers-end)
 
 abbrev Inv-loop : tie.InvT-loop
-Inv-loop book questions starts ends n found bytes₀ lines₀ j₀ bytes lines j = Answering book questions starts ends found n bytes lines j
+Inv-loop book questions starts ends n kept₀ found bytes₀ lines₀ end₀ j₀ kept bytes lines end j = Answering book questions starts ends found n kept₀ kept bytes lines end j
 
 abbrev μ-loop : tie.MeasureT-loop
-μ-loop book questions starts ends n found bytes₀ lines₀ j₀ bytes lines j = n - j
+μ-loop book questions starts ends n kept₀ found bytes₀ lines₀ end₀ j₀ kept bytes lines end j = n - j
 
 pub answers-to-spec : {M : Type 1} → statement M
 answers-to-spec =
@@ -38,4 +38,5 @@ answers-to-spec =
     (λ c. search needs)  -- add-j
     (λ c. search needs)  -- loop-less
     (λ c. search laws)  -- loop-again
+    (λ c. search laws)  -- same-length
     (λ c. search laws))  -- returns

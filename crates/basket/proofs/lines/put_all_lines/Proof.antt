@@ -2,22 +2,17 @@
 use Prim.Native.Nat.{_-_}
 use borrow.Author.Needs.{needs}
 use Rattle.basket.proofs.AskedLaws.{part-low, part-fits, ready-at}
-use Rattle.basket.proofs.LineLaws.{Listing, lines-start, lines-room, lines-again, lines-end}
+use Rattle.basket.proofs.LineLaws.{Listing, lines-start, lines-again, lines-end}
 use Rattle.basket.proofs.lines.put_all_lines.Statement.{statement}
 use Rattle.basket.proofs.lines.put_all_lines.Tie as tie
 
-ruleset laws = (needs, part-low, part-fits, ready-at, lines-start, lines-room, lines-again, lines-end)
+ruleset laws = (needs, part-low, part-fits, ready-at, lines-start, lines-again, lines-end)
 
 abbrev Inv-loop : tie.InvT-loop
 Inv-loop out₀ at book questions starts ends n found end₀ j₀ out end j = Listing book questions starts ends found n out₀ at out end j
 
 abbrev μ-loop : tie.MeasureT-loop
 μ-loop out₀ at book questions starts ends n found end₀ j₀ out end j = n - j
-
-put-lines-to-requires : tie.Need-put-lines-to-requires Inv-loop μ-loop
-put-lines-to-requires c κs =
-    let inv = c .before .before .before .before .before .before .loop .inv in
-    (ready-at (inv .basket) _ (search needs), lines-room inv (search needs))
 
 pub put-all-lines-spec : {M : Type 1} → statement M
 put-all-lines-spec =
@@ -30,12 +25,12 @@ put-all-lines-spec =
     (λ c. search needs)  -- element-copy-out-from
     (λ c. search needs)  -- mul-to
     (λ c. search needs)  -- element-copy-out-to
-    (λ c. search laws)  -- sub-put-lines-to
-    (λ c. search laws)  -- part-put-lines-to-start
-    (λ c. search laws)  -- part-put-lines-to-end
-    (λ c. search needs)  -- mul-put-lines-to
-    (λ c. search needs)  -- array-copy-out-put-lines-to
-    put-lines-to-requires
+    (λ c. search laws)  -- sub-answer-to
+    (λ c. search laws)  -- part-answer-to-start
+    (λ c. search laws)  -- part-answer-to-end
+    (λ c. search needs)  -- mul-answer-to
+    (λ c. search needs)  -- array-copy-out-answer-to
+    (λ c κs. search laws)  -- answer-to-requires
     (λ c. search needs)  -- add-j
     (λ c. search needs)  -- loop-less
     (λ c. search laws)  -- loop-again
