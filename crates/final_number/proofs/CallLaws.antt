@@ -29,7 +29,7 @@ use Rattle.question.specs.Asked.{AskIs, askIn}
 use Rattle.lookup.specs.Ensures.{FirstNamed, articleHeld}
 use Rattle.lookup.proofs.NamedLaws.{article-found, scheme-found, empty-named}
 use Rattle.final_number.specs.Ensures.{NumberCall, ArticleStands, SchemeOf, SchemeOrNone, numberIn}
-use Rattle.final_number.proofs.ValueLaws.{part-bytes, part-long, inner-bytes}
+use Rattle.values.proofs.ValueLaws.{part-bytes, part-long, inner-bytes}
 
 -- ---- zeros beside a number
 

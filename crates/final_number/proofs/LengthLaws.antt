@@ -19,7 +19,7 @@ use Rattle.layout.proofs.CountedLaws.{walk-step}
 use Rattle.properties.specs.Properties.{propertyStop, propertiesAt, PropertiesStand}
 use Rattle.properties.proofs.ReadLaws.{property-fits}
 use Rattle.question.proofs.AskLaws.{ask-parts}
-use Rattle.final_number.proofs.ValueLaws.{shown-wide}
+use Rattle.values.proofs.ValueLaws.{shown-wide}
 
 -- ---- what is counted
 

@@ -14,7 +14,7 @@ use Rattle.layout.specs.Records.{recordsOf}
 use Rattle.records.specs.Asks.{OfKind}
 use Rattle.records.specs.Ensures.{bytesIn}
 use Rattle.lookup.specs.Ensures.{articleHeld, schemeHeld}
-use Rattle.final_number.specs.Values.{most}
+use Rattle.values.specs.Values.{most}
 
 -- a base number of 40 bytes, and 32 properties behind it
 abbrev pub longest : ℕ

@@ -1,13 +1,11 @@
 // The final article number: the base number of the asked article, and behind it its properties' values as the article's scheme writes them.
-mod values;
-
-use crate::values::put_part;
-use crate::values::put_values;
 use layout::strings::put_bytes;
 use lookup::named::first_named;
 use question::Ask;
 use rules::Part;
 use rules::Written;
+use values::put_part;
+use values::put_values;
 ghost use mathlib.Core.Bool.{true};
 ghost use mathlib.Core.Path.{_≡_};
 ghost use Prim.Native.Nat.{_≤_};

@@ -24,7 +24,7 @@ use Rattle.records.specs.Ensures.{bytesIn, schemeIn, SchemeBounds, SchemeIs}
 use Rattle.records.specs.declared.schemes.SchemeParts.{SchemeParts}
 use Rattle.properties.specs.declared.PropertyParts.{PropertyParts}
 use Rattle.properties.specs.Properties.{propertyIn, PropertyFits}
-use Rattle.final_number.specs.Values.{before, most, led, brought, byState, valueBytes}
+use Rattle.values.specs.Values.{before, most, led, brought, byState, valueBytes}
 
 -- ---- a part
 

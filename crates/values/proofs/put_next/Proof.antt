@@ -1,8 +1,8 @@
--- `final_number::values::put_next` meets its contract: by the laws `next-..`.
+-- `values::put_next` meets its contract: by the laws `next-..`.
 use borrow.Author.Needs.{needs}
-use Rattle.final_number.proofs.ValueLaws.{next-none, next-room, next-some}
-use Rattle.final_number.proofs.values.put_next.Statement.{statement}
-use Rattle.final_number.proofs.values.put_next.Tie as tie
+use Rattle.values.proofs.ValueLaws.{next-none, next-room, next-some}
+use Rattle.values.proofs.put_next.Statement.{statement}
+use Rattle.values.proofs.put_next.Tie as tie
 
 ruleset laws = (needs, next-none, next-room, next-some)
 

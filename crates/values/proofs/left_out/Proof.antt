@@ -1,8 +1,8 @@
--- `final_number::values::left_out` meets its contract: a law for each state.
+-- `values::left_out` meets its contract: a law for each state.
 use borrow.Author.Needs.{needs}
-use Rattle.final_number.proofs.ValueLaws.{valued-out, hidden-out, unselected-out}
-use Rattle.final_number.proofs.values.left_out.Statement.{statement}
-use Rattle.final_number.proofs.values.left_out.Tie as tie
+use Rattle.values.proofs.ValueLaws.{valued-out, hidden-out, unselected-out}
+use Rattle.values.proofs.left_out.Statement.{statement}
+use Rattle.values.proofs.left_out.Tie as tie
 
 ruleset laws = (needs, valued-out, hidden-out, unselected-out)
 

@@ -1,8 +1,8 @@
--- `final_number::values::put_value` meets its contract: a law for each state.
+-- `values::put_value` meets its contract: a law for each state.
 use borrow.Author.Needs.{needs}
-use Rattle.final_number.proofs.ValueLaws.{shown-room, value-long, valued, hidden, unselected}
-use Rattle.final_number.proofs.values.put_value.Statement.{statement}
-use Rattle.final_number.proofs.values.put_value.Tie as tie
+use Rattle.values.proofs.ValueLaws.{shown-room, value-long, valued, hidden, unselected}
+use Rattle.values.proofs.put_value.Statement.{statement}
+use Rattle.values.proofs.put_value.Tie as tie
 
 ruleset laws = (needs, shown-room, value-long, valued, hidden, unselected)
 

@@ -1,9 +1,9 @@
--- `final_number::values::put_values` meets its contract: what is left to write, written where the loop stands, makes up the whole, by the laws `put-..`.
+-- `values::put_values` meets its contract: what is left to write, written where the loop stands, makes up the whole, by the laws `put-..`.
 use Rattle.records.specs.Ensures.{schemeIn}
 use borrow.Author.Needs.{needs}
-use Rattle.final_number.proofs.NumberLaws.{Putting, put-start, put-here, put-room, put-again, put-end}
-use Rattle.final_number.proofs.values.put_values.Statement.{statement}
-use Rattle.final_number.proofs.values.put_values.Tie as tie
+use Rattle.values.proofs.PutLaws.{Putting, put-start, put-here, put-room, put-again, put-end}
+use Rattle.values.proofs.put_values.Statement.{statement}
+use Rattle.values.proofs.put_values.Tie as tie
 
 ruleset laws = (needs, put-start, put-here, put-room, put-again, put-end)
 

@@ -16,7 +16,7 @@ ghost use Rattle.rules.specs.FinalNumber.{padded};
 ghost use Rattle.layout.specs.Ensures.{Says, PutsTo};
 ghost use Rattle.records.specs.Ensures.{bytesIn, schemeIn, SchemeIs};
 ghost use Rattle.properties.specs.Properties.{propertyIn, propertiesAt, PropertiesStand, PropertyFits};
-ghost use Rattle.final_number.specs.Values.{before, most, brought, broughtAll, valueBytes};
+ghost use Rattle.values.specs.Values.{before, most, brought, broughtAll, valueBytes};
 
 // A part of s, put at a place.
 pub fn put_part(out: &mut [u8], at: usize, s: &[u8], part: Part) -> usize

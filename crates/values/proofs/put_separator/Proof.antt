@@ -1,8 +1,8 @@
--- `final_number::values::put_separator` meets its contract: by the laws `separator-..`.
+-- `values::put_separator` meets its contract: by the laws `separator-..`.
 use borrow.Author.Needs.{needs}
-use Rattle.final_number.proofs.ValueLaws.{number-room, value-room, separator-blank, separator-number, separator-value}
-use Rattle.final_number.proofs.values.put_separator.Statement.{statement}
-use Rattle.final_number.proofs.values.put_separator.Tie as tie
+use Rattle.values.proofs.ValueLaws.{number-room, value-room, separator-blank, separator-number, separator-value}
+use Rattle.values.proofs.put_separator.Statement.{statement}
+use Rattle.values.proofs.put_separator.Tie as tie
 
 ruleset laws = (needs, number-room, value-room, separator-blank, separator-number, separator-value)
 

@@ -1,8 +1,8 @@
--- `final_number::values::put_part` meets its contract: by the law `part-put`.
+-- `values::put_part` meets its contract: by the law `part-put`.
 use borrow.Author.Needs.{needs}
-use Rattle.final_number.proofs.ValueLaws.{part-put}
-use Rattle.final_number.proofs.values.put_part.Statement.{statement}
-use Rattle.final_number.proofs.values.put_part.Tie as tie
+use Rattle.values.proofs.ValueLaws.{part-put}
+use Rattle.values.proofs.put_part.Statement.{statement}
+use Rattle.values.proofs.put_part.Tie as tie
 
 ruleset laws = (needs, part-put)
 

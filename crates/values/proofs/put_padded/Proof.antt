@@ -1,8 +1,8 @@
--- `final_number::values::put_padded` meets its contract: by the laws `padded-..`.
+-- `values::put_padded` meets its contract: by the laws `padded-..`.
 use borrow.Author.Needs.{needs}
-use Rattle.final_number.proofs.ValueLaws.{padded-filled, padded-trimmed}
-use Rattle.final_number.proofs.values.put_padded.Statement.{statement}
-use Rattle.final_number.proofs.values.put_padded.Tie as tie
+use Rattle.values.proofs.ValueLaws.{padded-filled, padded-trimmed}
+use Rattle.values.proofs.put_padded.Statement.{statement}
+use Rattle.values.proofs.put_padded.Tie as tie
 
 ruleset laws = (needs, padded-filled, padded-trimmed)
 
