@@ -26,7 +26,7 @@ use Rattle.amounts.proofs.TotalLaws.{totalFrom, from-zero, from-end, from-in, f
 use Rattle.lines.specs.declared.Pick.{Pick}
 use Rattle.lines.specs.Views.{View, viewIn, viewsIn, noPick, isBase, baseFirst, amountOn, amountsFrom, amountsOf, amountsIn, noCents}
 use Rattle.lines.specs.Contracts.{OneOfTwo, Sound, LineOn, mostAmount, LineAmount, Listable, ListedIs}
-use Rattle.lines.proofs.WalkLaws.{next-view, views-end}
+use Rattle.lines.proofs.WalkLaws.{next-view, views-end, Comparing}
 
 -- ---- one line
 
@@ -201,8 +201,8 @@ module _ (picks : List Pick) (n : ℕ) where
             ∙ view-amounts base total here behind
             ∙ ap (λ z. z ∷ amountsFrom (cond (isBase here) (base +ℤ z) base) (total +ℤ z) behind) (sym (a .is))
 
-        pub list-out : totalAfter total (r .0) ≡ OutOfRange → ListedIs picks n (record { amounts = replicate 99 noCents; total = OutOfRange })
-        list-out e =
+        pub list-out : totalAfter total (r .0) ≡ OutOfRange → (one : Bool) → ListedIs picks n (record { amounts = replicate 99 noCents; total = OutOfRange; one = one })
+        list-out e one =
             let out : OutOfRange ≡ totalOf (amountsOf (viewsIn picks n)) =
             sym (from-out total (r .0) (amountsFrom (cond (isBase here) (base +ℤ r .0) base) (total +ℤ r .0) behind) e) ∙ ap (totalFrom total) (sym amounts-are) ∙ inv .to-add in
             record {
@@ -248,8 +248,8 @@ module _ (picks : List Pick) (n : ℕ) where
                 to-add = sym (from-in total (r .0) (amountsFrom base′ (after .0) behind) after e) ∙ ap (totalFrom total) (sym step) ∙ inv .to-add;
               }
 
-    pub list-end : n ≤ i → ListedIs picks n (record { amounts = listed; total = InRange (record { 0 = total }) })
-    list-end h =
+    pub list-end : n ≤ i → (one : Bool) → ListedIs picks n (record { amounts = listed; total = InRange (record { 0 = total }); one = one })
+    list-end h one =
         let e : i ≡ n = omega (arith, inv .place) in
         let f : amountsFrom base total (drop i (viewsIn picks n)) ≡ [] = ap (amountsFrom base total) (views-end picks n i (inv .long) h) ∙ no-amounts base total in
         record {
@@ -259,3 +259,10 @@ module _ (picks : List Pick) (n : ℕ) where
           behind = λ k g. inv .behind k (omega arith);
           zeros = λ g. let z : _≡_ {A = ℕ} 0 1 = cc g in absurd (omega arith);
         }
+
+-- ---- and one currency
+
+-- before line i, with a flag for the rows before it
+pub record Judging (c : List ℕ) (picks : List Pick) (n : ℕ) (listed : List Cents) (one : Bool) (base total : ℤ) (i : ℕ) : Type 0 where
+  pub listing : Listing picks n listed base total i
+  pub comparing : Comparing c picks n one i

@@ -1,16 +1,17 @@
 -- Rows one by one: the first base row, and one currency.
 use Prim.Native.Nat.{ℕ, _+_, _≤_, _<_}
-use mathlib.Core.Path.{_≡_, refl, sym, ap, _∙_}
-use mathlib.Core.Bool.{Bool, true, false, _&&_, and-true, and-assoc}
+use mathlib.Core.Path.{_≡_, refl, sym, ap, _∙_, subst}
+use mathlib.Core.Bool.{Bool, true, false, _&&_, _||_, not, cond, true≢false, false≢true, and-true, and-assoc}
 use mathlib.Core.List.{List, [], _∷_, map}
+use mathlib.Core.Option.{Option, some, none}
 use native.Mathlib.Omega.{arith}
 use native.Mathlib.Numerals.{add-one}
 use native.Mathlib.Nat.{le-refl}
 use lib.Dec.{eqb}
 use lib.ListN.{length, take, drop, getD, length-map, List·getD-map, drop-of-length-le}
 use lib.Seq.{drop-cons, getD-take, length-take-le}
-use borrow.Author.Tests.{lt-ltb, le-ltb}
-use Rattle.rules.specs.Lists.{first, pick}
+use borrow.Author.Tests.{lt-ltb, le-ltb, eqb-true, eqb-false}
+use Rattle.rules.specs.Lists.{first, any, pick, isSome}
 use Rattle.rules.specs.Question.{lettersOf}
 use Rattle.rules.specs.declared.Cents.{Cents}
 use Rattle.rules.specs.declared.Currency.{Currency}
@@ -18,10 +19,12 @@ use Rattle.rules.specs.declared.Hundredths.{Hundredths}
 use Rattle.rules.specs.declared.Level.{Level}
 use Rattle.rules.specs.declared.Level.the-variants.{Base, Surcharge, Discount}
 use Rattle.rules.specs.declared.Value.the-variants.{Fixed, Percent}
+use Rattle.rules.proofs.TestLaws.{not-so}
+use Rattle.rules.proofs.ListLaws.{first-any}
 use Rattle.layout.specs.Ensures.{Says}
 use Rattle.lines.specs.declared.Pick.{Pick}
-use Rattle.lines.specs.Views.{viewIn, viewsIn, noPick, isBase, baseLevel, fits, oneCurrency, amountsIn, noCents}
-use Rattle.lines.specs.Contracts.{FirstBase}
+use Rattle.lines.specs.Views.{View, viewIn, viewsIn, noPick, isBase, baseLevel, baseFirst, fits, oneCurrency, amountsIn, noCents}
+use Rattle.lines.specs.Contracts.{FirstBase, Listable}
 
 -- ---- the next of the first n
 
@@ -66,40 +69,56 @@ module _ (level : Level) where
   pub discount-not : level ≡ Discount → Says (baseLevel level) false
   discount-not e = record { is = rw e }
 
--- there is none before row i
-pub record Seeking (picks : List Pick) (n i : ℕ) : Type 0 where
-  pub place : i ≤ n
-  pub long : n ≤ length picks
-  pub rest : first isBase (drop i (viewsIn picks n)) ≡ first isBase (viewsIn picks n)
+-- base rows come first: there is one if the first row is one
+module _ {picks : List Pick} {n : ℕ} (ok : Listable picks n) (k : n ≤ length picks) {b : Bool} (said : Says (baseLevel (getD picks 0 noPick .level)) b) where
+  -- the first row, and those behind it
+  rows-are : 0 < n → viewsIn picks n ≡ viewIn (getD picks 0 noPick) ∷ drop 1 (viewsIn picks n)
+  rows-are h = next-view picks n 0 h k
 
-module _ (picks : List Pick) (n : ℕ) where
-  pub seek-start : n ≤ length picks → Seeking picks n 0
-  seek-start k = record { place = omega arith; long = k; rest = refl }
+  no-row : n ≡ 0 → first isBase (viewsIn picks n) ≡ none
+  no-row z = ap (first isBase) (views-end picks n 0 k (omega arith))
 
-  module _ (i : ℕ) (inv : Seeking picks n i) where
-    pub seek-end : n ≤ i → FirstBase picks n n
-    seek-end h =
-        record {
-          is = sym (inv .rest) ∙ rw (views-end picks n i (inv .long) h, le-ltb n n (le-refl n));
-          within = le-refl n;
-        }
+  no-first : 0 < n → b ≡ false → first isBase (viewsIn picks n) ≡ none
+  unfolding baseFirst
+  no-first h f =
+      let rest : List View = drop 1 (viewsIn picks n) in
+      let e : baseLevel (getD picks 0 noPick .level) ≡ false = said .is ∙ f in
+      let lone : not (any isBase rest) ≡ true =
+      subst (λ (y : Bool). cond y (baseFirst rest) (not (any isBase rest)) ≡ true) e (sym (ap baseFirst (rows-are h)) ∙ ok .base-first) in
+      ap (first isBase) (rows-are h)
+      ∙ ap (λ (y : Bool). pick y (viewIn (getD picks 0 noPick)) (first isBase rest)) e
+      ∙ none-some (first isBase rest) (first-any isBase rest ∙ not-so (any isBase rest) lone)
+    where
+      none-some : {A : Type 0} (o : Option A) → isSome o ≡ false → o ≡ none
+      none-some none e = refl
+      none-some (some a) e = absurd (true≢false e)
 
-    module _ (h : i < n) where
-      -- row i is the first of the rows left, or what the others give
-      here : first isBase (viewsIn picks n)
-          ≡ pick (baseLevel (getD picks i noPick .level)) (viewIn (getD picks i noPick)) (first isBase (drop (i + 1) (viewsIn picks n)))
-      here = sym (inv .rest) ∙ ap (first isBase) (next-view picks n i h (inv .long))
+  pub no-base-row : (eqb n 0 || not b) ≡ true → FirstBase picks n n
+  no-base-row t = record { is = go (eqb n 0) b refl refl t ∙ rw (le-ltb n n (le-refl n)); within = le-refl n }
+    where
+      go : (z c : Bool) → eqb n 0 ≡ z → b ≡ c → (z || not c) ≡ true → first isBase (viewsIn picks n) ≡ none
+      go true c e f t = no-row (eqb-true n 0 e)
+      go false false e f t = no-first (let m : n ≡ 0 → ⊥ = eqb-false n 0 e in omega arith) f
+      go false true e f t = absurd (false≢true t)
 
-      module _ {r : Bool} (said : Says (baseLevel (getD picks i noPick .level)) r) where
-        pub seek-found : r ≡ true → FirstBase picks n i
-        seek-found e = record { is = here ∙ rw (said .is, e, lt-ltb i n h); within = omega arith }
+  module _ (f : (eqb n 0 || not b) ≡ false) where
+    pub some-row : 0 < n
+    some-row = let m : n ≡ 0 → ⊥ = eqb-false n 0 (go (eqb n 0) f) in omega arith
+      where
+        go : (z : Bool) → (z || not b) ≡ false → z ≡ false
+        go true e = e
+        go false e = refl
 
-        pub seek-again : r ≡ false → Seeking picks n (i + 1)
-        seek-again e = record {
-          place = omega arith;
-          long = inv .long;
-          rest = sym (here ∙ rw (said .is, e));
-        }
+    pub first-row-base : FirstBase picks n 0
+    first-row-base = record {
+      is = ap (first isBase) (rows-are some-row) ∙ rw (said .is, go (eqb n 0) b f, lt-ltb 0 n some-row);
+      within = omega arith;
+    }
+      where
+        go : (z c : Bool) → (z || not c) ≡ false → c ≡ true
+        go true c e = absurd (true≢false e)
+        go false true e = refl
+        go false false e = absurd (true≢false e)
 
 -- ---- one currency
 

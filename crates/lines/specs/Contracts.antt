@@ -16,9 +16,10 @@ use Rattle.rules.specs.declared.Cents.{Cents}
 use Rattle.rules.specs.declared.Total.the-variants.{InRange, OutOfRange}
 use Rattle.rules.proofs.ListLaws.{All}
 use Rattle.layout.specs.Reads.{only}
+use Rattle.layout.specs.Ensures.{Says}
 use Rattle.lines.specs.declared.Pick.{Pick}
 use Rattle.lines.specs.declared.Listed.{Listed}
-use Rattle.lines.specs.Views.{View, viewOf, viewIn, viewsIn, noPick, isBase, baseFirst, amountOn, amountsOf, amountsIn, noCents}
+use Rattle.lines.specs.Views.{View, viewOf, viewIn, viewsIn, noPick, isBase, baseFirst, oneCurrency, amountOn, amountsOf, amountsIn, noCents}
 
 -- the first n picks are the chosen rows of a question, with their roundings looked up
 pub record StandFor (book : List Record) (q : Question) (picks : List Pick) (n : ℕ) : Type 0 where
@@ -66,6 +67,11 @@ pub record ListedIs (picks : List Pick) (n : ℕ) (r : Listed) : Type 0 where
   pub amounts : (c : Cents) → r .total ≡ InRange c → amountsIn (r .amounts) n ≡ amountsOf (viewsIn picks n)
   pub behind : (i : ℕ) → n ≤ i → getD (r .amounts) i noCents ≡ noCents
   pub zeros : r .total ≡ OutOfRange → r .amounts ≡ replicate 99 noCents
+
+-- and it says whether the rows are in the currency c
+pub record ListedIn (c : List ℕ) (picks : List Pick) (n : ℕ) (r : Listed) : Type 0 where
+  pub list : ListedIs picks n r
+  pub one : Says (oneCurrency c (viewsIn picks n)) (r .one)
 
 -- ---- bytes
 

@@ -21,23 +21,26 @@ ghost use Rattle.rules.specs.Question.{lettersOf};
 ghost use Rattle.rules.specs.Lines.{lineSize};
 ghost use Rattle.layout.specs.Ensures.{Says, Number, Puts, PutsTo};
 ghost use Rattle.lines.specs.Views.{viewIn, viewsIn, baseLevel, fits, oneCurrency, amountsIn, viewBytes, viewsBytes};
-ghost use Rattle.lines.specs.Contracts.{FirstBase, OneOfTwo, LineOn, LineAmount, Listable, ListedIs, Writable};
+ghost use Rattle.lines.specs.Contracts.{OneOfTwo, LineOn, LineAmount, Listable, ListedIn, Writable};
 
-// A chosen row and the rounding that its record names: all that its line needs. Place 0: no granted name brought it.
+// A chosen row and the rounding that its record names: all that its line needs. Place 0: no granted name brought it. The fields stand so that few
+// bytes between them are left out.
 pub struct Pick {
+    pub rounding: Rounding,
+    pub value: Value,
+    pub text: u32,
     pub place: u8,
     pub level: Level,
     pub rule: Rule,
-    pub text: u32,
-    pub value: Value,
     pub currency: Currency,
-    pub rounding: Rounding,
 }
 
-// The amounts of the lines and what they come to, with zeros behind them. Where the total left its range all are zeros.
+// The amounts of the lines and what they come to, with zeros behind them, and whether the rows are in one currency. Where the total left its
+// range all amounts are zeros.
 struct Listed {
     amounts: [Cents; 99],
     total: Total,
+    one: bool,
 }
 
 // ---- base and currency
@@ -50,23 +53,6 @@ fn is_base(level: Level) -> bool
         Level::Surcharge => false,
         Level::Discount => false,
     }
-}
-
-// The place of the first base row among the first n, or n.
-fn first_base(picks: [Pick; 99], n: usize) -> usize
-    requires { ⌜ n ≤ 99 ⌝ }
-    ensures { λ r. ⌜ FirstBase picks n r ⌝ }
-{
-    let mut i = 0;
-    while i < n {
-        let pick = picks[i];
-        let level = pick.level;
-        if is_base(level) {
-            return i;
-        }
-        i += 1;
-    }
-    n
 }
 
 // A percentage is in every currency.
@@ -127,13 +113,14 @@ fn amount_of(pick: Pick, base: Cents, total: Cents) -> Cents
     amounts::rounded(rounding, exact)
 }
 
-// The amounts of the first n rows' lines. Base lines come first, so what they come to is the total behind the last of them.
-// The total is tested behind each line: one that has left its range is not brought back by a later line.
-fn list_amounts(picks: [Pick; 99], n: usize) -> Listed
+// The amounts of the first n rows' lines, and whether all rows are in the currency c. Base lines come first, so what they come to is the total
+// behind the last of them. The total is tested behind each line: one that has left its range is not brought back by a later line.
+fn list_amounts(picks: [Pick; 99], n: usize, c: Currency) -> Listed
     requires { ⌜ Listable picks n ⌝ }
-    ensures { λ r. ⌜ ListedIs picks n r ⌝ }
+    ensures { λ r. ⌜ ListedIn (lettersOf c) picks n r ⌝ }
 {
     let mut listed = [Cents(0); 99];
+    let mut one = true;
     let mut base = Cents(0);
     let mut total = Cents(0);
     let mut i = 0;
@@ -145,17 +132,20 @@ fn list_amounts(picks: [Pick; 99], n: usize) -> Listed
             return Listed {
                 amounts: [Cents(0); 99],
                 total: Total::OutOfRange,
+                one: in_one_currency(picks, n, c),
             };
         };
         let level = pick.level;
         base = either(is_base(level), after, base);
         total = after;
         listed[i] = amount;
+        one = one & is_in(pick, c);
         i += 1;
     }
     Listed {
         amounts: listed,
         total: Total::InRange(total),
+        one,
     }
 }
 

@@ -1,7 +1,6 @@
 // The price of the chosen rows, or why there is none: refusals 4, 5 and 6 in that order.
 use crate::Pick;
-use crate::first_base;
-use crate::in_one_currency;
+use crate::is_base;
 use crate::list_amounts;
 use rules::Cents;
 use rules::Currency;
@@ -31,21 +30,21 @@ fn refused(number: u8) -> Verdict
     }
 }
 
-// Whether there is a base line and one currency is known before any amount is worked out.
+// Base lines come first, so that there is one if the first is. One walk over the rows finds whether they are in one currency, and their amounts.
 pub fn judge(picks: [Pick; 99], n: usize) -> Verdict
     requires { ⌜ Listable picks n ⌝ }
     ensures { λ r. ⌜ VerdictIs picks n r ⌝ }
 {
-    let base = first_base(picks, n);
-    if n <= base {
+    let first = picks[0];
+    let level = first.level;
+    if (n == 0) | !is_base(level) {
         return refused(4);
     }
-    let first = picks[base];
     let currency = first.currency;
-    if !in_one_currency(picks, n, currency) {
+    let listed = list_amounts(picks, n, currency);
+    if !listed.one {
         return refused(5);
     }
-    let listed = list_amounts(picks, n);
     let total = listed.total;
     let Total::InRange(unit) = total else {
         return refused(6);
