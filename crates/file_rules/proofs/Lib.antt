@@ -12,4 +12,5 @@ pub mod UnfitLaws
 pub mod WriteLaws
 pub mod ExactLaws
 pub mod Cases
+pub mod CallLaws
 pub mod Promises

@@ -3,17 +3,20 @@ use Prim.Native.Nat.{ℕ, suc, _+_, _≤_, _<_}
 use mathlib.Core.Path.{_≡_, refl, sym, _∙_, ap, subst}
 use mathlib.Core.Bool.{Bool, true, false, _||_, cond, false≢true}
 use mathlib.Core.List.{List, [], _∷_, _++_, map}
-use mathlib.Core.Option.{some, none}
+use mathlib.Core.Option.{some, none, Option·some-injective}
 use mathlib.Core.Logic.{_⊎_, inl, inr}
 use native.Mathlib.Omega.{arith}
-use lib.ListN.{length}
-use Rattle.rules.specs.Book.{PriceRecord, Row}
+use lib.ListN.{length, take, drop}
+use Rattle.rules.specs.Book.{Record, PriceRecord, Row, rows}
 use Rattle.rules.specs.BookLayout.{oneRecord, records, mostBytes}
 use Rattle.rules.specs.RowBytes.{rowBytes, rowsBytes, bookWith}
 use Rattle.rules.specs.PlacedRefusals.{Done, RefusedAt, lentAfterAt}
+use Rattle.rules.specs.declared.PlacedAnswer.{PlacedAnswer}
+use Rattle.rules.proofs.PlacedRefusalLaws.{done-is}
 use Rattle.file_rules.specs.Fields.{semicolon, linesOf, field, isRemark, isBlank, needsQuotes}
 use Rattle.file_rules.specs.PriceLine.{NamedRow, isEmpty, broughtBy, brought}
 use Rattle.file_rules.specs.PriceFile.{placeIn, textNames, textNumber, textsRun, readFile, shownRead, lentAfterRead, fitsLine, fileText, writeFile, shownWrite, lentAfterWrite}
+use Rattle.file_rules.specs.Calls.{ReadIs, WriteIs}
 use Rattle.rules.proofs.ListLaws.{All}
 use Rattle.file_rules.proofs.FieldLaws.{Ends, plain-read, quotes-needed}
 use Rattle.file_rules.proofs.PriceLineLaws.{SoundRow}
@@ -25,7 +28,8 @@ use Rattle.file_rules.proofs.BookSoundLaws.{AreBytes, book-sound}
 use Rattle.file_rules.proofs.ExactLaws.{record-exact, book-exact}
 use Rattle.file_rules.proofs.ReadLaws.{numbers-run, rows-sound}
 use Rattle.file_rules.proofs.UnfitLaws.{UnfitAt}
-use Rattle.file_rules.proofs.WriteLaws.{WrittenFrom, done-from, refused-by, write-rows}
+use Rattle.file_rules.proofs.WriteLaws.{WrittenFrom, done-from, refused-by, rows-all, write-rows}
+use Rattle.file_rules.proofs.CallLaws.{read-out, read-not, write-out, write-not}
 
 -- ---- what is read
 
@@ -148,3 +152,78 @@ pub refused-file : (n p : ℕ) (lent : List ℕ)
     × (shownWrite (RefusedAt n p) ≡ record { length = 0; place = p; number = n }) × (lentAfterWrite (RefusedAt n p) lent ≡ lent)
 unfolding shownRead shownWrite lentAfterAt
 refused-file n p lent = (refl, refl, refl, refl)
+
+-- ---- over the calls
+
+-- What the reader hands out are price records: with a book's head in front they are an accepted book, unless it is too long, and of the lent
+-- output only they have changed.
+pub handed-records : {file lent : List ℕ} {r : PlacedAnswer} {after : List ℕ} → ReadIs file lent r after → r .number ≡ 0 → 5 + r .length ≤ mostBytes
+    → (rs : List Row) × (records (bookWith (take (r .length) after)) ≡ some (map PriceRecord rs)) × (drop (r .length) after ≡ drop (r .length) lent)
+handed-records {file} {lent} call z h =
+    let x = read-out call z in
+    let good = read-accepted file (length lent) (x .0) (x .1) (omega (arith, x .2 .long)) in
+    (x .0, ap (λ (l : List ℕ). records (bookWith l)) (x .2 .front) ∙ good, x .2 .rest)
+
+-- The line that 13 names is the first that makes no record, and wherever there is such a line, the first one is named.
+pub handed-bad-line : {file lent : List ℕ} {r : PlacedAnswer} {after : List ℕ} → ReadIs file lent r after
+    → (r .number ≡ 13 → FirstBad 1 (linesOf file) (r .place)) × ((p : ℕ) → FirstBad 1 (linesOf file) p → (r .number ≡ 13) × (r .place ≡ p))
+unfolding shownRead
+handed-bad-line {file} {lent} {r} call = (named, λ p b. there-is p (call .answer ∙ ap shownRead (bad-line-named file (length lent) p b)))
+  where
+    named : r .number ≡ 13 → FirstBad 1 (linesOf file) (r .place)
+    named e =
+        let x = read-not call (λ z. omega (arith, sym e ∙ z)) in
+        read-first-bad file (length lent) (r .place) (x .0 ∙ ap (λ (n : ℕ). RefusedAt n (r .place)) e)
+
+    there-is : (p : ℕ) → r ≡ shownRead (RefusedAt 13 p) → (r .number ≡ 13) × (r .place ≡ p)
+    there-is p e = (ap (λ (y : PlacedAnswer). y .number) e, ap (λ (y : PlacedAnswer). y .place) e)
+
+-- What the writer hands out, the reader reads back to the same price records exactly where their text numbers run 1, 2, 3 and on by first
+-- appearance: here the one direction,
+pub round-trip : {book lent : List ℕ} {r : PlacedAnswer} {after : List ℕ} → WriteIs book lent r after → AreBytes book → r .number ≡ 0
+    → {content : List Record} → records book ≡ some content → textsRun (rows content) ≡ true
+    → {lent₂ : List ℕ} {r₂ : PlacedAnswer} {after₂ : List ℕ} → ReadIs (take (r .length) after) lent₂ r₂ after₂ → length (rowsBytes (rows content)) ≤ length lent₂
+    → (r₂ .number ≡ 0) × (take (r₂ .length) after₂ ≡ rowsBytes (rows content))
+unfolding shownRead lentAfterAt
+round-trip {book} {lent} {r} {after} call b z {content} good runs {lent₂} {r₂} {after₂} back room =
+    let x = write-out call z in
+    let w = write-done book (length lent) (x .0) (x .1) in
+    let same : x .0 ≡ rows content = sym (w .is) ∙ ap rows (Option·some-injective (w .content) content (sym (w .good) ∙ good)) in
+    let read : readFile (fileText (x .0)) (length lent₂) ≡ Done (x .0) =
+    same-again book (length lent) (length lent₂) (x .0) b (x .1) (omega (arith, room, ap (λ (l : List Row). length (rowsBytes l)) same)) .0
+    (ap textsRun same ∙ runs) in
+    let all : readFile (take (r .length) after) (length lent₂) ≡ Done (x .0) = ap (λ (l : List ℕ). readFile l (length lent₂)) (x .2 .front) ∙ read in
+    let zero : r₂ .number ≡ 0 = ap (λ (y : PlacedAnswer). y .number) (back .answer ∙ ap shownRead all) in
+    let y = read-out back zero in
+    (zero, y .2 .front ∙ ap rowsBytes (done-is (y .0) (x .0) (sym (y .1) ∙ all) ∙ same))
+
+-- and here the other.
+pub round-trip-only : {book lent : List ℕ} {r : PlacedAnswer} {after : List ℕ} → WriteIs book lent r after → AreBytes book → r .number ≡ 0
+    → {content : List Record} → records book ≡ some content → 5 + length (rowsBytes (rows content)) ≤ mostBytes
+    → {lent₂ : List ℕ} {r₂ : PlacedAnswer} {after₂ : List ℕ} → ReadIs (take (r .length) after) lent₂ r₂ after₂
+    → r₂ .number ≡ 0 → take (r₂ .length) after₂ ≡ rowsBytes (rows content) → textsRun (rows content) ≡ true
+round-trip-only {book} {lent} call b z {content} good few {lent₂} back zero e =
+    let y = read-out back zero in
+    let bytes : rowsBytes (y .0) ≡ rowsBytes (rows content) = sym (y .2 .front) ∙ e in
+    let short = ap length bytes in
+    let own = read-accepted _ (length lent₂) (y .0) (y .1) (omega (arith, short)) in
+    let others = book-of-rows (rows content) (book-sound book content b good) few in
+    let same : y .0 ≡ rows content =
+    sym (rows-all (y .0))
+    ∙ (ap rows (Option·some-injective (map PriceRecord (y .0)) (map PriceRecord (rows content)) (sym own ∙ (ap (λ (l : List ℕ). records (bookWith l)) bytes ∙ others)))
+    ∙ rows-all (rows content)) in
+    sym (ap textsRun same) ∙ read-runs _ (length lent₂) (y .0) (y .1)
+
+-- A refused call hands out its number, a place only beside 13, and nothing else.
+pub refused-call : {file lent : List ℕ} {r : PlacedAnswer} {after : List ℕ} → ReadIs file lent r after → (r .number ≡ 0 → ⊥) → (r .length ≡ 0) × (after ≡ lent)
+refused-call call z = let x = read-not call z in (x .1, x .2)
+
+pub refused-writing : {book lent : List ℕ} {r : PlacedAnswer} {after : List ℕ} → WriteIs book lent r after → (r .number ≡ 0 → ⊥) → (r .length ≡ 0) × (after ≡ lent)
+refused-writing call z = let x = write-not call z in (x .1, x .2)
+
+-- Two results that a contract allows are one.
+pub one-reading : {file lent : List ℕ} {r s : PlacedAnswer} {a b : List ℕ} → ReadIs file lent r a → ReadIs file lent s b → (r ≡ s) × (a ≡ b)
+one-reading p q = (p .answer ∙ sym (q .answer), p .output ∙ sym (q .output))
+
+pub one-writing : {book lent : List ℕ} {r s : PlacedAnswer} {a b : List ℕ} → WriteIs book lent r a → WriteIs book lent s b → (r ≡ s) × (a ≡ b)
+one-writing p q = (p .answer ∙ sym (q .answer), p .output ∙ sym (q .output))

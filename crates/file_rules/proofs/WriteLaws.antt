@@ -120,7 +120,7 @@ refused-by book room n p e = go (then-refused (orRefuseAt 1 0 (placedRecords boo
         let x = or-refused 1 0 (placedRecords book) f in inl (x .1, x .2, placed-held book ∙ ap (Option·map heldIn) (x .0))
     go (inr f) = unfit (f .0) (or-done 1 0 (placedRecords book) (f .1)) (written-refused room (placedAs asRow (f .0)) (f .2))
 
-rows-all : (rs : List Row) → rows (map PriceRecord rs) ≡ rs
+pub rows-all : (rs : List Row) → rows (map PriceRecord rs) ≡ rs
 rows-all [] = refl
 rows-all (r ∷ rs) = ap (λ rs. r ∷ rs) (rows-all rs)
 
