@@ -1,3 +1,4 @@
 pub mod WindowLaws
 pub mod SurveyLaws
 pub mod EntranceLaws
+pub mod OwnLaws

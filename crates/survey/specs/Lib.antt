@@ -1,3 +1,4 @@
 pub mod Window
 pub mod Survey
 pub mod Entrance
+pub mod Own

@@ -1,8 +1,11 @@
 // A book accepted, and what is asked for found in it, in one pass: whether an article has a record, and where its rows of one sort and the
 // roundings stand.
 pub mod entrance;
+mod own;
 pub mod window;
 
+use crate::own::ending_of;
+use crate::own::is_own;
 use crate::window::Window;
 use crate::window::window_after;
 use book::record_end;
@@ -10,13 +13,13 @@ use book::record_stop;
 use layout::heads::book_head_ok;
 use records::is_article;
 use records::is_rounding;
-use records::is_row;
 ghost use mathlib.Core.Path.{_≡_};
 ghost use mathlib.Core.Bool.{true};
 ghost use Rattle.rules.specs.Lists.{isSome};
 ghost use Rattle.rules.specs.Layout.{whole};
 ghost use Rattle.rules.specs.BookLayout.{kinded, records};
 ghost use Rattle.records.specs.Asks.{Accepted};
+ghost use Rattle.survey.specs.Own.{EndingIs};
 ghost use Rattle.survey.specs.Survey.{FoundAfter, FoundIs, PassIs, SurveyIs};
 
 // Whether the article has a record, and where its rows of the sort and the roundings stand.
@@ -50,12 +53,21 @@ const NO_BOOK: Surveyed = Surveyed {
 };
 
 // What is found once the record t, which stands from `at` to `end`, has gone by too. Each kind is looked at for one thing alone.
-fn noted(found: Found, t: &[u8], at: usize, end: usize, article: &[u8], sort: u8) -> Found
+fn noted(
+    found: Found,
+    t: &[u8],
+    at: usize,
+    end: usize,
+    article: &[u8],
+    ending: usize,
+    sort: u8,
+) -> Found
     requires { ⌜ Accepted (now t) ⌝ }
+    requires { ⌜ EndingIs (now article) ending ⌝ }
     ensures { λ r. ⌜ FoundAfter found (now (article .entry)) sort (whole kinded (now (t .entry))) at end r ⌝ }
 {
     if t[0] == 2 {
-        let own = is_row(t, article, sort);
+        let own = is_own(t, article, ending, sort);
         let window = window_after(found.window, own, false, at, end);
         return Found {
             article: found.article,
@@ -81,12 +93,13 @@ pub fn find(b: &[u8], article: &[u8], sort: u8) -> Found
     requires { ⌜ isSome (records (now b)) ≡ true ⌝ }
     ensures { λ r. ⌜ FoundIs (now (b .entry)) (now (article .entry)) sort r ⌝ }
 {
+    let ending = ending_of(article);
     let mut found = Found::NOTHING;
     let mut at = 5;
     while at < b.len() {
         let end = record_stop(b, at);
         let start = at + 2;
-        found = noted(found, &b[start..end], at, end, article, sort);
+        found = noted(found, &b[start..end], at, end, article, ending, sort);
         at = end;
     }
     found
@@ -101,6 +114,7 @@ fn pass(b: &[u8], article: &[u8], sort: u8) -> Surveyed
     if !book_head_ok(b) {
         return Surveyed { ok: false, found };
     }
+    let ending = ending_of(article);
     let mut at = 5;
     while at < b.len() {
         let end = record_end(b, at);
@@ -108,7 +122,7 @@ fn pass(b: &[u8], article: &[u8], sort: u8) -> Surveyed
             return Surveyed { ok: false, found };
         }
         let start = at + 2;
-        found = noted(found, &b[start..end], at, end, article, sort);
+        found = noted(found, &b[start..end], at, end, article, ending, sort);
         at = end;
     }
     Surveyed { ok: true, found }

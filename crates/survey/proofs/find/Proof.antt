@@ -10,10 +10,10 @@ use Rattle.survey.proofs.find.Tie as tie
 ruleset laws = (needs, accepted, find-start, find-here, find-turn, find-end)
 
 abbrev Inv-loop : tie.InvT-loop
-Inv-loop b article sort found₀ at₀ found at = Passed b article sort found at
+Inv-loop b article sort ending found₀ at₀ found at = Passed b article sort found at
 
 abbrev μ-loop : tie.MeasureT-loop
-μ-loop b article sort found₀ at₀ found at = length b - at
+μ-loop b article sort ending found₀ at₀ found at = length b - at
 
 pub find-spec : {M : Type 1} → statement M
 find-spec =
@@ -21,6 +21,7 @@ find-spec =
     (tie.spec
     Inv-loop
     μ-loop
+    (λ c κs. search needs)  -- ending-of-requires
     (λ c. search laws)  -- loop-holds
     (λ c κs. search laws)  -- record-stop-requires
     (λ c. search needs)  -- add-start

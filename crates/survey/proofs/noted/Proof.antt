@@ -1,18 +1,18 @@
 -- `survey::noted` meets its contract: each kind by its law `noted-..`.
 use borrow.Author.Needs.{needs}
-use Rattle.records.proofs.FieldLaws.{accepted-long}
+use Rattle.records.proofs.FieldLaws.{accepted-long, of-kind}
 use Rattle.survey.proofs.SurveyLaws.{noted-row, noted-rounding, noted-other}
 use Rattle.survey.proofs.noted.Statement.{statement}
 use Rattle.survey.proofs.noted.Tie as tie
 
-ruleset laws = (needs, accepted-long, noted-row, noted-rounding, noted-other)
+ruleset laws = (needs, accepted-long, of-kind, noted-row, noted-rounding, noted-other)
 
 pub noted-spec : {M : Type 1} → statement M
 noted-spec =
     tie.close
     (tie.spec
     (λ c. search laws)  -- shared-slice-read-if1
-    (λ c κs. search laws)  -- is-row-requires
+    (λ c κs. search laws)  -- is-own-requires
     (λ c κs. search laws)  -- window-after-requires
     (λ c. search laws)  -- returns
     (λ c κs. search laws)  -- is-rounding-requires

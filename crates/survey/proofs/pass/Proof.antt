@@ -9,10 +9,10 @@ use Rattle.survey.proofs.pass.Tie as tie
 ruleset laws = (needs, survey-header, survey-start, survey-here, survey-bad, survey-low, survey-less, survey-accepted, survey-turn, survey-end)
 
 abbrev Inv-loop : tie.InvT-loop
-Inv-loop b article sort found₀ at₀ found at = Surveying b article sort found at
+Inv-loop b article sort found₀ ending at₀ found at = Surveying b article sort found at
 
 abbrev μ-loop : tie.MeasureT-loop
-μ-loop b article sort found₀ at₀ found at = length b - at
+μ-loop b article sort found₀ ending at₀ found at = length b - at
 
 pub pass-spec : {M : Type 1} → statement M
 pass-spec =
@@ -22,6 +22,7 @@ pass-spec =
     μ-loop
     (λ c κs. search laws)  -- book-head-ok-requires
     (λ c. search laws)  -- returns
+    (λ c κs. search needs)  -- ending-of-requires
     (λ c. search laws)  -- loop-holds
     (λ c κs. search laws)  -- record-end-requires
     (λ c. search laws)  -- returns-2
