@@ -30,8 +30,7 @@ use Rattle.records.specs.Ensures.{Bounded, RoundingBounds, RoundingIs}
 use Rattle.records.specs.Tests.{roundingNumber}
 use Rattle.records.proofs.BoundLaws.{gives-record}
 use Rattle.records.proofs.RoundingLaws.{number-kind, rounding-long}
-use Rattle.lookup.specs.declared.roundings.Open.{Open}
-use Rattle.lookup.specs.Roundings.{RoundingUsed, roundingHeld, spotOr, RoundingHere, SpotHeld, RoundingAt, Found, SpotsFound, Sought, Placing, Wants, OpenAre, NextOpen, SpotAfter, SpotsAfter}
+use Rattle.lookup.specs.Roundings.{RoundingUsed, roundingHeld, spotOr, RoundingHere, SpotHeld, RoundingAt, Found, SpotsFound, Sought, Room, Placing, Wants, OpenAre, NextOpen, SpotAfter, SpotsAfter, Noted}
 -- at this door
 pub use Rattle.book.proofs.WalkLaws.{book-records}
 
@@ -73,11 +72,11 @@ zero-plain b at = none-zero (roundings (recordsLeft b at)) (list-all roundingKin
 -- of the numbers before i
 pub record Opening (numbers spots : List ℕ) (low : List Bool) (any : Bool) (i : ℕ) : Type 0 where
   pub long : length low ≡ 256
-  pub each : (j : ℕ) → j < i → (getD numbers j 0 ≡ 0 → ⊥) → getD spots j 0 ≡ 0 → Wants (record { low = low; any = any }) (getD numbers j 0)
+  pub each : (j : ℕ) → j < i → (getD numbers j 0 ≡ 0 → ⊥) → getD spots j 0 ≡ 0 → Wants low any (getD numbers j 0)
 
 module _ (numbers spots : List ℕ) where
-  pub opening-start : Opening numbers spots (replicate 256 false) false 0
-  opening-start = record { long = length-replicate 256 false; each = λ j l. absurd (omega arith) }
+  pub opening-start : {low : List Bool} → length low ≡ 256 → Opening numbers spots low false 0
+  opening-start e = record { long = e; each = λ j l. absurd (omega arith) }
 
   -- the test of number i
   abbrev isOpen : ℕ → Bool
@@ -94,7 +93,7 @@ module _ (numbers spots : List ℕ) where
     inside = omega (arith, inv .long)
 
     -- what was looked for still is
-    still : {k : ℕ} → Wants (record { low = low; any = any }) k → Wants (record { low = lowAfter; any = any || isOpen i }) k
+    still : {k : ℕ} → Wants low any k → Wants lowAfter (any || isOpen i) k
     still {k} w = record { some = w .some; any = rw (w .any); low = go (ℕ-discrete (k % 256) byte) }
       where
         go : Dec (k % 256 ≡ byte) → getD lowAfter (k % 256) false ≡ true
@@ -103,7 +102,7 @@ module _ (numbers spots : List ℕ) where
             ap (λ (j : ℕ). getD lowAfter j false) e ∙ getD-set-same low byte (getD low byte false || isOpen i) false inside ∙ ap (λ (t : Bool). t || isOpen i) f
         go (no n) = getD-set-other low byte (k % 256) (getD low byte false || isOpen i) false n ∙ w .low
 
-    newly : (getD numbers i 0 ≡ 0 → ⊥) → getD spots i 0 ≡ 0 → Wants (record { low = lowAfter; any = any || isOpen i }) (getD numbers i 0)
+    newly : (getD numbers i 0 ≡ 0 → ⊥) → getD spots i 0 ≡ 0 → Wants lowAfter (any || isOpen i) (getD numbers i 0)
     newly n z =
         let t : isOpen i ≡ true = rw (ne-eqb (getD numbers i 0) 0 n, z) in
         record {
@@ -115,14 +114,14 @@ module _ (numbers spots : List ℕ) where
     pub opening-again : Opening numbers spots (set low (getD numbers i 0 % 256) (getD low (getD numbers i 0 % 256) false || (not (eqb (getD numbers i 0) 0) && eqb (getD spots i 0) 0))) (any || (not (eqb (getD numbers i 0) 0) && eqb (getD spots i 0) 0)) (i + 1)
     opening-again = record { long = length-set low byte (getD low byte false || isOpen i) ∙ inv .long; each = λ j l n z. go j n z (decLt j i) l }
       where
-        go : (j : ℕ) → (getD numbers j 0 ≡ 0 → ⊥) → getD spots j 0 ≡ 0 → Dec (j < i) → j < i + 1 → Wants (record { low = lowAfter; any = any || isOpen i }) (getD numbers j 0)
+        go : (j : ℕ) → (getD numbers j 0 ≡ 0 → ⊥) → getD spots j 0 ≡ 0 → Dec (j < i) → j < i + 1 → Wants lowAfter (any || isOpen i) (getD numbers j 0)
         go j n z (yes h) l = still (inv .each j h n z)
         go j n z (no h) l =
             let e : i ≡ j = omega arith in
-            subst (λ (m : ℕ). (getD numbers m 0 ≡ 0 → ⊥) → getD spots m 0 ≡ 0 → Wants (record { low = lowAfter; any = any || isOpen i }) (getD numbers m 0)) e newly n z
+            subst (λ (m : ℕ). (getD numbers m 0 ≡ 0 → ⊥) → getD spots m 0 ≡ 0 → Wants lowAfter (any || isOpen i) (getD numbers m 0)) e newly n z
 
-    pub opening-end : {n : ℕ} → n ≤ i → OpenAre numbers spots n (record { low = low; any = any })
-    opening-end h = record { each = λ j l. inv .each j (omega arith) }
+    pub opening-end : {n : ℕ} → n ≤ i → OpenAre numbers spots n low any
+    opening-end h = record { long = inv .long; each = λ j l. inv .each j (omega arith) }
 
 -- ---- a record of the book
 
@@ -167,8 +166,8 @@ pub record Passing (b : List ℕ) (from : ℕ) (low : List Bool) (at : ℕ) : Ty
   pub between : Between b at
   pub rest : (k : ℕ) → (k ≡ 0 → ⊥) → getD low (k % 256) false ≡ true → roundingFor k (roundings (recordsLeft b at)) ≡ roundingFor k (roundings (recordsLeft b from))
 
-module _ {b : List ℕ} {from : ℕ} (o : Open) where
-  pub next-none : Between b from → not (o .any) ≡ true → NextOpen b from o (length b)
+module _ {b : List ℕ} {from : ℕ} (low : List Bool) (any : Bool) where
+  pub next-none : Between b from → not any ≡ true → NextOpen b from low any (length b)
   next-none w t = record {
     onward = w .fits;
     between = record {
@@ -177,14 +176,14 @@ module _ {b : List ℕ} {from : ℕ} (o : Open) where
       ok = ap isSome (from-end b (length b) (omega arith));
     };
     here = λ l. absurd (omega arith);
-    rest = λ k a. absurd (false≢true (sym (not-true (o .any) t) ∙ a .any));
+    rest = λ k a. absurd (false≢true (sym (not-true any t) ∙ a .any));
   }
 
-  pub next-start : Between b from → Passing b from (o .low) from
+  pub next-start : Between b from → Passing b from low from
   next-start w = record { onward = omega arith; between = w; rest = λ k n l. refl }
 
-  module _ {at : ℕ} (inv : Passing b from (o .low) at) where
-    pub next-end : length b ≤ at → NextOpen b from o at
+  module _ {at : ℕ} (inv : Passing b from low at) where
+    pub next-end : length b ≤ at → NextOpen b from low any at
     next-end h = record {
       onward = inv .onward;
       between = inv .between;
@@ -204,7 +203,7 @@ module _ {b : List ℕ} {from : ℕ} (o : Open) where
         next-less = pass-less (inv .between) h s
 
         module _ {x : ℕ} (is : Number (roundingNumber (whole kinded (part b (at + 2) e))) 65536 x) where
-          pub next-found : (not (eqb x 0) && getD (o .low) (x % 256) false) ≡ true → NextOpen b from o at
+          pub next-found : (not (eqb x 0) && getD low (x % 256) false) ≡ true → NextOpen b from low any at
           next-found t = record {
             onward = inv .onward;
             between = inv .between;
@@ -212,17 +211,17 @@ module _ {b : List ℕ} {from : ℕ} (o : Open) where
             rest = λ k a. inv .rest k (a .some) (a .low);
           }
 
-          pub next-again : (not (eqb x 0) && getD (o .low) (x % 256) false) ≡ false → Passing b from (o .low) e
+          pub next-again : (not (eqb x 0) && getD low (x % 256) false) ≡ false → Passing b from low e
           next-again t = record {
             onward = omega (arith, inv .onward, s .low);
             between = pass-next (inv .between) h s;
             rest = λ k n l. left-passed (inv .between) h s k (λ d. other k n l (is .is ∙ d)) ∙ inv .rest k n l;
           }
             where
-              other : (k : ℕ) → (k ≡ 0 → ⊥) → getD (o .low) (k % 256) false ≡ true → x ≡ k → ⊥
+              other : (k : ℕ) → (k ≡ 0 → ⊥) → getD low (k % 256) false ≡ true → x ≡ k → ⊥
               other k n l d =
-                  let y : (not (eqb k 0) && getD (o .low) (k % 256) false) ≡ true = rw (ne-eqb k 0 n) l in
-                  false≢true (sym t ∙ ap (λ (m : ℕ). not (eqb m 0) && getD (o .low) (m % 256) false) d ∙ y)
+                  let y : (not (eqb k 0) && getD low (k % 256) false) ≡ true = rw (ne-eqb k 0 n) l in
+                  false≢true (sym t ∙ ap (λ (m : ℕ). not (eqb m 0) && getD low (m % 256) false) d ∙ y)
 
 -- ---- a number's spot
 
@@ -245,7 +244,7 @@ module _ (spots numbers : List ℕ) (number at : ℕ) where
 
   module _ {after : List ℕ} {i : ℕ} (inv : Replacing spots numbers number at after i) where
     pub replace-end : {n : ℕ} → n ≤ i → SpotsAfter spots numbers n number at after
-    replace-end h = record { each = λ j l. inv .done j (omega arith) }
+    replace-end h = record { long = inv .long; each = λ j l. inv .done j (omega arith) }
 
     pub replace-again : {n : ℕ} → i < n → n ≤ 99 → {r : ℕ} → SpotAfter (getD after i 0) (eqb (getD numbers i 0) number) at r → Replacing spots numbers number at (set after i r) (i + 1)
     replace-again h l {r} p = record {
@@ -311,9 +310,10 @@ module _ {b : List ℕ} {from : ℕ} where
           })
 
   -- and the records up to the next that is looked for
-  sought-next : {numbers spots : List ℕ} {n e : ℕ} {o : Open} → ((i : ℕ) → i < n → Sought b from (getD numbers i 0) (getD spots i 0) e) → OpenAre numbers spots n o
-      → {at : ℕ} → NextOpen b e o at → Placing b from numbers n spots at
-  sought-next {numbers} {spots} {n} {e} {o} each are {at} next = record {
+  sought-next : {numbers spots : List ℕ} {n e : ℕ} {low : List Bool} {any : Bool} → Room spots low n → ((i : ℕ) → i < n → Sought b from (getD numbers i 0) (getD spots i 0) e) → OpenAre numbers spots n low any
+      → {at : ℕ} → NextOpen b e low any at → Placing b from numbers n spots low at
+  sought-next {numbers} {spots} {n} {e} room each are {at} next = record {
+    room = room;
     between = next .between;
     here = next .here;
     each = λ i l. record { held = each i l .held; is = go i l (ℕ-discrete (getD spots i 0) 0) (ℕ-discrete (getD numbers i 0) 0) ∙ each i l .is };
@@ -328,13 +328,13 @@ module _ {b : List ℕ} {from : ℕ} where
       go i l (yes z) (no d) = ap (spotOr b (getD spots i 0)) (next .rest (getD numbers i 0) (are .each i l d z))
 
 module _ {b : List ℕ} {from : ℕ} {numbers : List ℕ} {n : ℕ} where
-  pub placing-start : n ≤ 99 → {o : Open} → OpenAre numbers (replicate 99 0) n o → {at : ℕ} → NextOpen b from o at → Placing b from numbers n (replicate 99 0) at
-  placing-start l are next = sought-next (λ i k. start (getD-replicate 99 i 0 0 (omega arith))) are next
+  pub placing-start : n ≤ 99 → {low : List Bool} {any : Bool} → OpenAre numbers (replicate 99 0) n low any → {at : ℕ} → NextOpen b from low any at → Placing b from numbers n (replicate 99 0) low at
+  placing-start l are next = sought-next (record { spots-long = length-replicate {A = ℕ} 99 0; flags-long = are .long; few = l }) (λ i k. start (getD-replicate 99 i 0 0 (omega arith))) are next
     where
       start : {k p : ℕ} → p ≡ 0 → Sought b from k p from
       start {k} {p} z = record { held = record { held = λ f. absurd (f z) }; is = at-none b p (roundingFor k (roundings (recordsLeft b from))) z }
 
-  module _ {spots : List ℕ} {at : ℕ} (inv : Placing b from numbers n spots at) where
+  module _ {spots : List ℕ} {flags : List Bool} {at : ℕ} (inv : Placing b from numbers n spots flags at) where
     pub placing-end : length b ≤ at → SpotsFound b from numbers n spots
     unfolding roundingFor
     placing-end h = record {
@@ -358,12 +358,14 @@ module _ {b : List ℕ} {from : ℕ} {numbers : List ℕ} {n : ℕ} where
         pub placing-between : Between b e
         placing-between = pass-next (inv .between) h s
 
-        pub placing-less : {o : Open} {next : ℕ} → NextOpen b e o next → length b - next < length b - at
+        pub placing-less : {low : List Bool} {any : Bool} {next : ℕ} → NextOpen b e low any next → length b - next < length b - at
         placing-less p = omega (arith, p .onward, s .low)
 
-        pub placing-again : {x : Rounding} → RoundingIs (part b (at + 2) e) x → {after : List ℕ} → SpotsAfter spots numbers n (x .number) at after
-            → {o : Open} → OpenAre numbers after n o → {next : ℕ} → NextOpen b e o next → Placing b from numbers n after next
-        placing-again r p are next = sought-next (λ i l. sought-after (inv .between) h (inv .here h) s r (inv .each i l) (p .each i l)) are next
+        pub placing-again : {x : Rounding} → RoundingIs (part b (at + 2) e) x → {after : List ℕ} {low : List Bool} {any : Bool} → Noted spots numbers n (x .number) at after low any
+            → {next : ℕ} → NextOpen b e low any next → Placing b from numbers n after low next
+        placing-again r p next =
+            sought-next (record { spots-long = p .put .long; flags-long = p .opened .long; few = inv .room .few })
+            (λ i l. sought-after (inv .between) h (inv .here h) s r (inv .each i l) (p .put .each i l)) (p .opened) next
 
 -- ---- the rounding at a spot
 

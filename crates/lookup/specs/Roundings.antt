@@ -15,7 +15,6 @@ use Rattle.rules.specs.declared.Rounding.{Rounding}
 use Rattle.layout.specs.Reads.{part}
 use Rattle.layout.specs.Records.{recordStop, recordsLeft, Between}
 use Rattle.records.specs.Asks.{OfKind}
-use Rattle.lookup.specs.declared.roundings.Open.{Open}
 
 -- `r` is the rounding that a row with this number takes, among the records from a spot on; its numbers are in their bounds
 pub record RoundingUsed (b : List ℕ) (from number : ℕ) (r : Rounding) : Type 0 where
@@ -60,28 +59,36 @@ pub record Sought (b : List ℕ) (from number spot at : ℕ) : Type 0 where
   pub held : SpotHeld b spot
   pub is : spotOr b spot (roundingFor number (roundings (recordsLeft b at))) ≡ roundingFor number (roundings (recordsLeft b from))
 
+-- there are spots for n numbers, and flags for all low bytes
+pub record Room (spots : List ℕ) (flags : List Bool) (n : ℕ) : Type 0 where
+  pub spots-long : length spots ≡ 99
+  pub flags-long : length flags ≡ 256
+  pub few : n ≤ 99
+
 -- the walk stands at a rounding or at the end
-pub record Placing (b : List ℕ) (from : ℕ) (numbers : List ℕ) (n : ℕ) (spots : List ℕ) (at : ℕ) : Type 0 where
+pub record Placing (b : List ℕ) (from : ℕ) (numbers : List ℕ) (n : ℕ) (spots : List ℕ) (flags : List Bool) (at : ℕ) : Type 0 where
+  pub room : Room spots flags n
   pub between : Between b at
   pub here : at < length b → RoundingHere b at
   pub each : (i : ℕ) → i < n → Sought b from (getD numbers i 0) (getD spots i 0) at
 
--- the number is looked for
-pub record Wants (o : Open) (number : ℕ) : Type 0 where
+-- the number is looked for, by the flags of low bytes and whether there are any
+pub record Wants (flags : List Bool) (left : Bool) (number : ℕ) : Type 0 where
   pub some : number ≡ 0 → ⊥
-  pub any : o .any ≡ true
-  pub low : getD (o .low) (number % 256) false ≡ true
+  pub any : left ≡ true
+  pub low : getD flags (number % 256) false ≡ true
 
 -- each of the first n numbers is 0, or has a spot, or is looked for
-pub record OpenAre (numbers spots : List ℕ) (n : ℕ) (o : Open) : Type 0 where
-  pub each : (i : ℕ) → i < n → (getD numbers i 0 ≡ 0 → ⊥) → getD spots i 0 ≡ 0 → Wants o (getD numbers i 0)
+pub record OpenAre (numbers spots : List ℕ) (n : ℕ) (flags : List Bool) (left : Bool) : Type 0 where
+  pub long : length flags ≡ 256
+  pub each : (i : ℕ) → i < n → (getD numbers i 0 ≡ 0 → ⊥) → getD spots i 0 ≡ 0 → Wants flags left (getD numbers i 0)
 
 -- `r` is the spot of a rounding or the end, and none of the records passed is looked for
-pub record NextOpen (b : List ℕ) (from : ℕ) (o : Open) (r : ℕ) : Type 0 where
+pub record NextOpen (b : List ℕ) (from : ℕ) (flags : List Bool) (left : Bool) (r : ℕ) : Type 0 where
   pub onward : from ≤ r
   pub between : Between b r
   pub here : r < length b → RoundingHere b r
-  pub rest : (number : ℕ) → Wants o number → roundingFor number (roundings (recordsLeft b r)) ≡ roundingFor number (roundings (recordsLeft b from))
+  pub rest : (number : ℕ) → Wants flags left number → roundingFor number (roundings (recordsLeft b r)) ≡ roundingFor number (roundings (recordsLeft b from))
 
 -- `r` is a number's spot once a record at `at` has gone by, which has the number or has not
 pub record SpotAfter (spot : ℕ) (here : Bool) (at r : ℕ) : Type 0 where
@@ -89,4 +96,10 @@ pub record SpotAfter (spot : ℕ) (here : Bool) (at r : ℕ) : Type 0 where
 
 -- and so for the first n numbers
 pub record SpotsAfter (spots numbers : List ℕ) (n number at : ℕ) (r : List ℕ) : Type 0 where
+  pub long : length r ≡ 99
   pub each : (i : ℕ) → i < n → getD r i 0 ≡ cond (eqb (getD spots i 0) 0 && eqb (getD numbers i 0) number) at (getD spots i 0)
+
+-- and what is looked for then
+pub record Noted (spots numbers : List ℕ) (n number at : ℕ) (r : List ℕ) (flags : List Bool) (left : Bool) : Type 0 where
+  pub put : SpotsAfter spots numbers n number at r
+  pub opened : OpenAre numbers r n flags left

@@ -10,20 +10,15 @@ ghost use mathlib.Core.Path.{_≡_};
 ghost use Rattle.rules.specs.Book.{plain};
 ghost use lib.ListN.{length};
 ghost use Rattle.layout.specs.Records.{Between, StopIs};
-ghost use Rattle.lookup.specs.Roundings.{SpotAfter, SpotsAfter, OpenAre, NextOpen, SpotsFound, RoundingHere, SpotHeld, RoundingAt};
+ghost use Rattle.lookup.specs.Roundings.{SpotAfter, SpotsAfter, OpenAre, Room, Noted, NextOpen, SpotsFound, RoundingHere, SpotHeld, RoundingAt};
 
-// What is still looked for: the low bytes of those numbers, and whether there are any.
-struct Open {
-    low: [bool; 256],
-    any: bool,
-}
-
-// Of the first n numbers those that have no spot. No record has number 0, so that it is not looked for.
-fn open_numbers(numbers: [u16; 99], spots: [usize; 99], n: usize) -> Open
+// Sets the flags of the low bytes of those of the first n numbers that have no spot, and tells whether there are any. No record has number 0,
+// so that it is not looked for.
+fn flag_open(low: &mut [bool; 256], numbers: &[u16; 99], spots: &[usize; 99], n: usize) -> bool
+    requires { ⌜ length (now low) ≡ 256 ⌝ }
     requires { ⌜ n ≤ 99 ⌝ }
-    ensures { λ r. ⌜ OpenAre numbers spots n r ⌝ }
+    ensures { λ r. ⌜ OpenAre (now (numbers .entry)) (now (spots .entry)) n (now (low .exit)) r ⌝ }
 {
-    let mut low = [false; 256];
     let mut any = false;
     let mut i = 0;
     while i < n {
@@ -34,18 +29,17 @@ fn open_numbers(numbers: [u16; 99], spots: [usize; 99], n: usize) -> Open
         any = any | wanted;
         i += 1;
     }
-    Open { low, any }
+    any
 }
 
-// The spot of the next rounding that may be looked for, or the end.
-fn next_open(b: &[u8], from: usize, wanted: Open) -> usize
+// The spot of the next rounding that may be looked for, by the flags of low bytes, or the end. Where none is looked for, that is the end at once.
+fn next_open(b: &[u8], from: usize, low: &[bool; 256], any: bool) -> usize
     requires { ⌜ Between (now b) from ⌝ }
-    ensures { λ r. ⌜ NextOpen (now (b .entry)) from wanted r ⌝ }
+    ensures { λ r. ⌜ NextOpen (now (b .entry)) from (now (low .entry)) any r ⌝ }
 {
-    if !wanted.any {
+    if !any {
         return b.len();
     }
-    let low = wanted.low;
     let mut at = from;
     while at < b.len() {
         let end = record_stop(b, at);
@@ -75,24 +69,35 @@ fn first_spot(spot: usize, here: bool, at: usize) -> usize
     if (spot == 0) & here { at } else { spot }
 }
 
-// The spots of the first n numbers once the rounding of `number` at `at` has gone by.
-fn spots_after(
-    spots: [usize; 99],
-    numbers: [u16; 99],
+// The rounding of `number` at `at` goes by: its spot is that of each of the first n numbers that it is the first of.
+fn put_spots(spots: &mut [usize; 99], numbers: &[u16; 99], n: usize, number: u16, at: usize)
+    requires { ⌜ length (now spots) ≡ 99 ⌝ }
+    requires { ⌜ n ≤ 99 ⌝ }
+    ensures { λ _. ⌜ SpotsAfter (now (spots .entry)) (now (numbers .entry)) n number at (now (spots .exit)) ⌝ }
+{
+    let mut i = 0;
+    while i < n {
+        spots[i] = first_spot(spots[i], numbers[i] == number, at);
+        i += 1;
+    }
+}
+
+// The same, with the flags of what is still looked for, and whether there is anything. The flag of a rounding that is found falls, unless a number
+// with the same low byte is left: so a record that repeats its number is passed over.
+fn note_rounding(
+    spots: &mut [usize; 99],
+    low: &mut [bool; 256],
+    numbers: &[u16; 99],
     n: usize,
     number: u16,
     at: usize,
-) -> [usize; 99]
-    requires { ⌜ n ≤ 99 ⌝ }
-    ensures { λ r. ⌜ SpotsAfter spots numbers n number at r ⌝ }
+) -> bool
+    requires { ⌜ Room (now spots) (now low) n ⌝ }
+    ensures { λ r. ⌜ Noted (now (spots .entry)) (now (numbers .entry)) n number at (now (spots .exit)) (now (low .exit)) r ⌝ }
 {
-    let mut after = spots;
-    let mut i = 0;
-    while i < n {
-        after[i] = first_spot(after[i], numbers[i] == number, at);
-        i += 1;
-    }
-    after
+    put_spots(spots, numbers, n, number, at);
+    low[(number % 256) as usize] = false;
+    flag_open(low, numbers, spots, n)
 }
 
 // Where the roundings of the first n numbers stand, looked for from a spot of the book on; 0 for a number that no record has.
@@ -103,14 +108,15 @@ pub fn rounding_spots(b: &[u8], from: usize, numbers: [u16; 99], n: usize) -> [u
     ensures { λ r. ⌜ SpotsFound (now (b .entry)) from numbers n r ⌝ }
 {
     let mut spots = [0; 99];
-    let mut at = next_open(b, from, open_numbers(numbers, spots, n));
+    let mut low = [false; 256];
+    let open = flag_open(&mut low, &numbers, &spots, n);
+    let mut at = next_open(b, from, &low, open);
     while at < b.len() {
         let end = rounding_stop(b, at);
         let body = at + 2;
         let rounding = rounding_of(&b[body..end]);
-        let after = spots_after(spots, numbers, n, rounding.number, at);
-        at = next_open(b, end, open_numbers(numbers, after, n));
-        spots = after;
+        let left = note_rounding(&mut spots, &mut low, &numbers, n, rounding.number, at);
+        at = next_open(b, end, &low, left);
     }
     spots
 }

@@ -9,10 +9,10 @@ use Rattle.lookup.proofs.roundings.next_open.Tie as tie
 ruleset laws = (needs, next-none, next-start, next-end, next-here, next-accepted, next-less, next-found, next-again)
 
 abbrev Inv-loop : tie.InvT-loop
-Inv-loop b from low at₀ at = Passing b from low at
+Inv-loop b from low any at₀ at = Passing b from low at
 
 abbrev μ-loop : tie.MeasureT-loop
-μ-loop b from low at₀ at = length b - at
+μ-loop b from low any at₀ at = length b - at
 
 pub next-open-spec : {M : Type 1} → statement M
 next-open-spec =
@@ -29,7 +29,7 @@ next-open-spec =
     (λ c. search needs)  -- part-rounding-number-end
     (λ c κs. search laws)  -- rounding-number-requires
     (λ c. search needs)  -- cast-if2
-    (λ c. search needs)  -- array-read-if2
+    (λ c. search needs)  -- element-copy-out-if2
     (λ c. search laws)  -- returns-2
     (λ c. search laws)  -- loop-less
     (λ c. search laws)  -- loop-again
