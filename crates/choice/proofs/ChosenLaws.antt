@@ -3,17 +3,20 @@ use Prim.Native.Nat.{ℕ, _+_, _-_, _*_, _/_, _%_, _<_}
 use mathlib.Core.Path.{_≡_, refl, sym, _∙_, ap, subst}
 use mathlib.Core.Bool.{Bool, true, false, cond, false≢true}
 use mathlib.Core.List.{List}
-use mathlib.Core.Option.{Option, none, Option·map}
+use mathlib.Core.Option.{Option, some, none, Option·map}
 use native.Mathlib.Omega.{arith}
 use lib.ListN.{take, drop, getD}
 use borrow.Author.Tests.{eqb-true}
 use Rattle.rules.specs.Lists.{isSome, keep}
+use Rattle.rules.specs.Layout.{whole}
 use Rattle.rules.specs.Book.{Row, PriceRecord, rows}
+use Rattle.rules.specs.BookLayout.{kinded}
 use Rattle.rules.specs.Question.{Question}
 use Rattle.rules.specs.Choice.{choose}
 use Rattle.rules.specs.Lines.{Chosen}
 use Rattle.rules.specs.declared.PriceRow.{PriceRow}
 use Rattle.rules.proofs.ChoiceLaws as Choice
+use Rattle.layout.specs.Records.{RecordHere, StopIs}
 use Rattle.records.specs.Asks.{OfKind}
 use Rattle.records.specs.Ensures.{rowIn, RowIs}
 use Rattle.records.proofs.FieldLaws.{kind-byte}
@@ -72,13 +75,21 @@ module _ {w : List ℕ} {rs : List Row} {q : Question} {slots : List Seen} (hold
 
 -- ---- the row in hand can be read
 
-module _ {w : List ℕ} {at end : ℕ} {r : Row} (there : RowThere w at end r) where
-  pub there-kind : OfKind 2 (take (end - at) (drop at w))
-  there-kind = record { kind = kind-byte (take (end - at) (drop at w)) (PriceRecord r) (there .is); ok = ap isSome (there .is) }
-
-  pub there-row : (row : PriceRow) → RowIs (take (end - at) (drop at w)) row → rowIn (take (end - at) (drop at w)) row ≡ r
-  there-row row p = same-row (sym (p .is) ∙ there .is)
+module _ {w : List ℕ} {at : ℕ} {r : Row} (there : RowThere w at r) where
+  pub there-here : RecordHere w at
+  there-here = record { fits = there .fits; ok = ap isSome (there .is) }
 
   -- and there is one
-  pub there-same : {x : Row} → RowThere w at end x → r ≡ x
+  pub there-same : {x : Row} → RowThere w at x → r ≡ x
   there-same also = same-row (sym (there .is) ∙ also .is)
+
+  -- between the body's first byte and the record's end
+  module _ {end : ℕ} (stop : StopIs w at end) where
+    body : whole kinded (take (end - (at + 2)) (drop (at + 2) w)) ≡ some (PriceRecord r)
+    body = subst (λ (k : ℕ). whole kinded (take (k - (at + 2)) (drop (at + 2) w)) ≡ some (PriceRecord r)) (sym (stop .is)) (there .is)
+
+    pub there-kind : OfKind 2 (take (end - (at + 2)) (drop (at + 2) w))
+    there-kind = record { kind = kind-byte (take (end - (at + 2)) (drop (at + 2) w)) (PriceRecord r) body; ok = ap isSome body }
+
+    pub there-row : (row : PriceRow) → RowIs (take (end - (at + 2)) (drop (at + 2) w)) row → rowIn (take (end - (at + 2)) (drop (at + 2) w)) row ≡ r
+    there-row row p = same-row (sym (p .is) ∙ body)

@@ -143,29 +143,29 @@ module _ (level : Level) (value : Value) where
   pub discount-percent : level ≡ Discount → Says (eqb (letterOf level) base && isPercent value) false
   discount-percent e = record { is = rw e }
 
-module _ (t : List ℕ) (row : PriceRow) (at end : ℕ) (table : List ℕ) (terms : Terms) {percent holds : Bool} (p : Says (eqb (letterOf (row .level)) base && isPercent (row .value)) percent)
+module _ (t : List ℕ) (row : PriceRow) (at : ℕ) (table : List ℕ) (terms : Terms) {percent holds : Bool} (p : Says (eqb (letterOf (row .level)) base && isPercent (row .value)) percent)
     (h : Says (isDay (row .from) && (isDay (row .to) && between (row .from) (row .to) (terms .date .0))) holds) where
   counts : {article : List ℕ} (q : Question) → Asks q article table terms
       → stands (q .date) (rowIn t row) ≡ (not percent && holds)
   unfolding rowIn
   counts q a = ap (λ (d : ℕ). stands d (rowIn t row)) (a .date) ∙ (λ i. not (p .is i) && h .is i)
 
-  pub row-past : not (not percent && holds) ≡ true → RowPasses table terms at end (rowIn t row) uncounted
+  pub row-past : not (not percent && holds) ≡ true → RowPasses table terms at (rowIn t row) uncounted
   unfolding passingOf
   row-past e = record {
     below = omega arith;
-    of = λ q a. ap (λ (x : Bool). cond x (standing q at end (rowIn t row)) uncounted) (sym (counts q a ∙ not-so _ e));
+    of = λ q a. ap (λ (x : Bool). cond x (standing q at (rowIn t row)) uncounted) (sym (counts q a ∙ not-so _ e));
   }
 
   pub row-passes : not (not percent && holds) ≡ false → {slot : ℕ} {asked : Bool} → SlotIs table terms (rowIn t row) slot
       → Says (inAsked (askedOf (lettersOf (terms .currency))) (lettersOf (row .currency))) asked
-      → RowPasses table terms at end (rowIn t row)
+      → RowPasses table terms at (rowIn t row)
       (record {
         slot = slot;
         stands = not percent && holds;
         asked = asked;
         reaches = eqb (row .upto) 0 || leb (terms .quantity) (row .upto);
-        hand = record { at = at; end = end; upto = row .upto; from = row .from; rounding = row .rounding };
+        hand = record { at = at; upto = row .upto; from = row .from };
       })
   unfolding passingOf rowIn
   row-passes e s c = record {
@@ -179,9 +179,9 @@ module _ (t : List ℕ) (row : PriceRow) (at end : ℕ) (table : List ℕ) (term
           stands = sym (counts q a) i;
           asked = asked-too i;
           reaches = eqb (row .upto) 0 || leb (sym (a .quantity) i) (row .upto);
-          hand = record { at = at; end = end; upto = row .upto; from = row .from; rounding = row .rounding };
+          hand = record { at = at; upto = row .upto; from = row .from };
         })
-        ∙ ap (λ (x : Bool). cond x (standing q at end (rowIn t row)) uncounted) (sym (counts q a ∙ so _ e));
+        ∙ ap (λ (x : Bool). cond x (standing q at (rowIn t row)) uncounted) (sym (counts q a ∙ so _ e));
   }
 
 -- ---- any record
@@ -191,28 +191,28 @@ pub same-row : {x y : Row} → some (PriceRecord x) ≡ some (PriceRecord y) →
 same-row {x} {y} e = same-held rowKind x y (Option·some-injective (PriceRecord x) (PriceRecord y) e)
 
 -- no row of the asked article and sort
-foreign : (q : Question) (at end : ℕ) (o : Option Record) → Tests.isRow (q .article) (q .sort) o ≡ false → passingIn q at end o ≡ uncounted
+foreign : (q : Question) (at : ℕ) (o : Option Record) → Tests.isRow (q .article) (q .sort) o ≡ false → passingIn q at o ≡ uncounted
 unfolding passingIn Tests.isRow
-foreign q at end none e = refl
-foreign q at end (some x) e = go (asRow x) e
+foreign q at none e = refl
+foreign q at (some x) e = go (asRow x) e
   where
-    go : (o : Option Row) → ifSome o false (isOwn q) ≡ false → ifSome o uncounted (λ r. cond (isOwn q r) (passingOf q at end r) uncounted) ≡ uncounted
+    go : (o : Option Row) → ifSome o false (isOwn q) ≡ false → ifSome o uncounted (λ r. cond (isOwn q r) (passingOf q at r) uncounted) ≡ uncounted
     go none e = refl
-    go (some r) e = ap (λ (b : Bool). cond b (passingOf q at end r) uncounted) e
+    go (some r) e = ap (λ (b : Bool). cond b (passingOf q at r) uncounted) e
 
-module _ (t article table : List ℕ) (terms : Terms) (at end : ℕ) {b : Bool} (s : Says (Tests.isRow article (terms .sort) (whole kinded t)) b) where
+module _ (t article table : List ℕ) (terms : Terms) (at : ℕ) {b : Bool} (s : Says (Tests.isRow article (terms .sort) (whole kinded t)) b) where
   told : (q : Question) → Asks q article table terms → Tests.isRow (q .article) (q .sort) (whole kinded t) ≡ b
   told q a = (λ i. Tests.isRow (a .article i) (a .sort i) (whole kinded t)) ∙ s .is
 
-  pub passes-row : {row : PriceRow} {p : Passing} → b ≡ true → RowIs t row → RowPasses table terms at end (rowIn t row) p
-      → Passes article table terms at end (whole kinded t) p
+  pub passes-row : {row : PriceRow} {p : Passing} → b ≡ true → RowIs t row → RowPasses table terms at (rowIn t row) p
+      → Passes article table terms at (whole kinded t) p
   unfolding passingIn Tests.isRow
   passes-row {row} {p} e r h = record {
     below = h .below;
     of = λ q a.
         let own : isOwn q (rowIn t row) ≡ true = sym (ap (Tests.isRow (q .article) (q .sort)) (r .is)) ∙ told q a ∙ e in
-        h .of q a ∙ ap (λ (x : Bool). cond x (passingOf q at end (rowIn t row)) uncounted) (sym own) ∙ ap (passingIn q at end) (sym (r .is));
+        h .of q a ∙ ap (λ (x : Bool). cond x (passingOf q at (rowIn t row)) uncounted) (sym own) ∙ ap (passingIn q at) (sym (r .is));
   }
 
-  pub passes-other : b ≡ false → Passes article table terms at end (whole kinded t) uncounted
-  passes-other e = record { below = omega arith; of = λ q a. sym (foreign q at end (whole kinded t) (told q a ∙ e)) }
+  pub passes-other : b ≡ false → Passes article table terms at (whole kinded t) uncounted
+  passes-other e = record { below = omega arith; of = λ q a. sym (foreign q at (whole kinded t) (told q a ∙ e)) }

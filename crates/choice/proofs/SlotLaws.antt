@@ -1,13 +1,15 @@
 -- The rows that the 99 slots choose, slot after slot, are the chosen rows of the definition.
-use Prim.Native.Nat.{ℕ, _+_, _/_, _%_}
+use Prim.Native.Nat.{ℕ, suc, _+_, _/_, _%_, _≤_, _<_}
 use mathlib.Core.Path.{_≡_, refl, sym, _∙_, ap}
 use mathlib.Core.Bool.{Bool, true, false, _&&_, cond}
 use mathlib.Core.List.{List, [], _∷_, _++_, map}
 use mathlib.Core.Option.{Option, some, none, Option·map}
 use native.Mathlib.Omega.{arith}
 use lib.Dec.{eqb}
-use borrow.Author.Tests.{eqb-true}
+use lib.ListN.{length}
+use borrow.Author.Tests.{eqb-true, ne-eqb}
 use Rattle.rules.specs.Lists.{same, keep, consIf, consSome, gather}
+use Rattle.rules.specs.Bytes.{raise}
 use Rattle.rules.specs.Book.{Row, base, surcharge, discount}
 use Rattle.rules.specs.Question.{Question, Grant, grants}
 use Rattle.rules.specs.Choice.{component, choose, step₁, step₂, step₃, step₄, step₅, surviving}
@@ -17,6 +19,7 @@ use Rattle.rules.proofs.ListLaws.{All, gather-append}
 use Rattle.grants.specs.Table.{GrantsAre}
 use Rattle.grants.specs.Places as Grants
 use Rattle.grants.proofs.GatherLaws as Gathered
+use Rattle.grants.proofs.FirstLaws.{firstFrom, place-first}
 use Rattle.choice.specs.Slots.{levelOf, inSlot, slotChosen, slotsChosen}
 
 -- ---- lists
@@ -80,27 +83,45 @@ level-is Discount x = go (eqb x base) (eqb x surcharge) (eqb x discount) refl re
     go false false true e f g = refl
     go false false false e f g = refl
 
+-- a slot that no row is of
+empty-slot : (q : Question) (rs : List Row) (l place : ℕ) → ((c : List ℕ) → eqb (Grants.placeOf (q .granted) c) place ≡ false) → slotChosen rs q l place ≡ none
+unfolding slotChosen inSlot
+empty-slot q rs l place h =
+    ap (λ (xs : List Row). Option·map (λ r. record { place = place; row = r }) (choose (q .date) (q .quantity) (q .currency) xs)) (keep-none (inSlot q l place) rs (all-of none-in rs))
+    ∙ ap (Option·map (λ r. record { place = place; row = r })) (nothing (q .currency))
+  where
+    none-in : (r : Row) → inSlot q l place r ≡ false
+    none-in r =
+        rw (h (r .condition), and-false (eqb (levelOf (r .level)) l), and-false (eqb (r .sort) (q .sort))) (and-false (same (r .article) (q .article)))
+
+    nothing : (c : Option (List ℕ)) → choose (q .date) (q .quantity) c [] ≡ none
+    nothing none = unfold choose surviving step₁ step₂ step₃ step₄ step₅ in refl
+    nothing (some c) = unfold choose surviving step₁ step₂ step₃ step₄ step₅ in refl
+
+-- no condition is at a place behind the last granted name
+behind-names : (k : ℕ) (names : List (List ℕ)) (c : List ℕ) (place : ℕ) → k + length names ≤ place → place < 33 → eqb (firstFrom k names c) place ≡ false
+unfolding firstFrom
+behind-names k [] c place h l = ne-eqb 33 place (λ e. omega arith)
+behind-names k (g ∷ gs) c place h l = go (same (map raise g) c) (behind-names (suc k) gs c place (omega arith) l)
+  where
+    go : (b : Bool) → eqb (firstFrom (suc k) gs c) place ≡ false → eqb (cond b k (firstFrom (suc k) gs c)) place ≡ false
+    go true f = ne-eqb k place (λ e. omega arith)
+    go false f = f
+
+pub slot-behind : (q : Question) (rs : List Row) (l place : ℕ) → length (q .granted) < place → place < 33 → slotChosen rs q l place ≡ none
+unfolding Grants.placeOf
+slot-behind q rs l place h k = empty-slot q rs l place nowhere
+  where
+    nowhere : (c : List ℕ) → eqb (Grants.placeOf (q .granted) c) place ≡ false
+    nowhere [] = ne-eqb 0 place (λ e. omega arith)
+    nowhere (b ∷ c) = ap (λ (x : ℕ). eqb x place) (place-first (q .granted) (b ∷ c)) ∙ behind-names 1 (q .granted) (b ∷ c) place (omega arith) k
+
 module _ (q : Question) {table : List ℕ} (ok : GrantsAre (q .granted) table) {l : ℕ} {letter : ℕ} (level : Level l letter) (rs : List Row) where
   in-component : (place : ℕ) (name : List ℕ) → ((c : List ℕ) → eqb (Grants.placeOf (q .granted) c) place ≡ same c name)
       → keep (inSlot q l place) rs ≡ component (q .article) (q .sort) letter name rs
   unfolding inSlot component
   in-component place name h =
       keep-same _ _ rs (all-of (λ r. λ i. same (r .article) (q .article) && (eqb (r .sort) (q .sort) && (level-is level (r .level) i && h (r .condition) i))) rs)
-
-  -- a slot that no row is of
-  empty-slot : (place : ℕ) → ((c : List ℕ) → eqb (Grants.placeOf (q .granted) c) place ≡ false) → slotChosen rs q l place ≡ none
-  unfolding slotChosen inSlot
-  empty-slot place h =
-      ap (λ (xs : List Row). Option·map (λ r. record { place = place; row = r }) (choose (q .date) (q .quantity) (q .currency) xs)) (keep-none (inSlot q l place) rs (all-of none-in rs))
-      ∙ ap (Option·map (λ r. record { place = place; row = r })) (nothing (q .currency))
-    where
-      none-in : (r : Row) → inSlot q l place r ≡ false
-      none-in r =
-          rw (h (r .condition), and-false (eqb (levelOf (r .level)) l), and-false (eqb (r .sort) (q .sort))) (and-false (same (r .article) (q .article)))
-
-      nothing : (c : Option (List ℕ)) → choose (q .date) (q .quantity) c [] ≡ none
-      nothing none = unfold choose surviving step₁ step₂ step₃ step₄ step₅ in refl
-      nothing (some c) = unfold choose surviving step₁ step₂ step₃ step₄ step₅ in refl
 
   slot-component : (place : ℕ) (name : List ℕ) → ((c : List ℕ) → eqb (Grants.placeOf (q .granted) c) place ≡ same c name)
       → slotChosen rs q l place ≡ chosenAt rs q (record { level = letter; place = place; condition = name })
@@ -113,7 +134,7 @@ module _ (q : Question) {table : List ℕ} (ok : GrantsAre (q .granted) table) {
   level-chosen =
       let of : Grant → Slot = λ g. record { level = letter; place = g .place; condition = g .name } in
       let rest : gather (slotChosen rs q l) (Grants.upFrom 1 32) ≡ gather (chosenAt rs q) (map of (grants (q .granted))) =
-      Gathered.places-gathered ok (slotChosen rs q l) (λ g. chosenAt rs q (of g)) (λ g h. slot-component (g .place) (g .name) h) empty-slot
+      Gathered.places-gathered ok (slotChosen rs q l) (λ g. chosenAt rs q (of g)) (λ g h. slot-component (g .place) (g .name) h) (empty-slot q rs l)
       ∙ sym (gather-map (chosenAt rs q) of (grants (q .granted))) in
       (λ i. consSome (slot-component 0 [] (Gathered.none-is ok) i) (rest i))
 

@@ -54,12 +54,12 @@ module _ {w : List ℕ} {new : Hand} {r : Row} (n : Holds w new r) where
   hand-is true h = hand-counts h
   hand-is false h = unfold handAfter in h
 
-pub seen-row : (q : Question) (at end : ℕ) {w : List ℕ} {r : Row} {s : Seen} {state : Choice.Seen} → RowThere w at end r → SeenIs w s state
-    → SeenIs w (seenAfter s (standing q at end r)) (Choice.see (q .date) (q .quantity) (q .currency) state r)
+pub seen-row : (q : Question) (at : ℕ) {w : List ℕ} {r : Row} {s : Seen} {state : Choice.Seen} → RowThere w at r → SeenIs w s state
+    → SeenIs w (seenAfter s (standing q at r)) (Choice.see (q .date) (q .quantity) (q .currency) state r)
 unfolding seenAfter
-seen-row q at end {w} {r} there p =
-    let holds : Holds w (record { at = at; end = end; upto = r .upTo; from = r .from; rounding = r .rounding }) r =
-    record { there = there; upto = refl; from = refl; rounding = refl } in
+seen-row q at {w} {r} there p =
+    let holds : Holds w (record { at = at; upto = r .upTo; from = r .from }) r =
+    record { there = there; upto = refl; from = refl } in
     record {
       met = ap (λ b. b || (Choice.stands (q .date) r && Choice.isAsked (q .currency) r)) (p .met);
       asked = hand-is holds _ (p .asked);
@@ -108,22 +108,22 @@ module _ {w : List ℕ} {q : Question} {level place : ℕ} (l : level < 3) (m : 
     sees-not n s = rw (getD-set-other slots i (level * 33 + place) new unseen (λ e. n (sym e))) s
 
     -- a row of this slot
-    sees-row : (at end : ℕ) {r : Row} {left : List Row} → length slots ≡ 100 → RowThere w at end r → i ≡ level * 33 + place → inSlot q level place r ≡ true
-        → new ≡ seenAfter (getD slots i unseen) (standing q at end r) → Sees w q level place (getD slots (level * 33 + place) unseen) (r ∷ left) all
+    sees-row : (at : ℕ) {r : Row} {left : List Row} → length slots ≡ 100 → RowThere w at r → i ≡ level * 33 + place → inSlot q level place r ≡ true
+        → new ≡ seenAfter (getD slots i unseen) (standing q at r) → Sees w q level place (getD slots (level * 33 + place) unseen) (r ∷ left) all
         → Sees w q level place (getD (set slots i new) (level * 33 + place) unseen) left all
-    sees-row at end {r} {left} long there e t f s =
+    sees-row at {r} {left} long there e t f s =
         let here : i < length slots = omega (arith, long) in
-        let now : getD (set slots i new) (level * 33 + place) unseen ≡ seenAfter (getD slots (level * 33 + place) unseen) (standing q at end r) =
+        let now : getD (set slots i new) (level * 33 + place) unseen ≡ seenAfter (getD slots (level * 33 + place) unseen) (standing q at r) =
         rw (← e) (getD-set-same slots i new unseen here ∙ f) in
         record {
           state = Choice.see (q .date) (q .quantity) (q .currency) (s .state) r;
-          is = rw now (seen-row q at end there (s .is));
+          is = rw now (seen-row q at there (s .is));
           rest = sym (ap (λ b. Choice.walk (q .date) (q .quantity) (q .currency) (s .state) (consIf b r (keep (inSlot q level place) left))) t) ∙ s .rest;
         }
 
 -- any record goes by
-module _ {w : List ℕ} {q : Question} {at end : ℕ} {o : Option Record} {p : Passing} (pass : p ≡ passingIn q at end o)
-    (there : (r : Row) → o ≡ some (PriceRecord r) → RowThere w at end r)
+module _ {w : List ℕ} {q : Question} {at : ℕ} {o : Option Record} {p : Passing} (pass : p ≡ passingIn q at o)
+    (there : (r : Row) → o ≡ some (PriceRecord r) → RowThere w at r)
     (slots : List Seen) (long : length slots ≡ 100) {new : Seen} (after : SeenAfter (getD slots (p .slot) unseen) p new) (rs : List Record) {all : List Row} {level place : ℕ}
     (l : level < 3) (m : place < 33) where
   sees-turn : Sees w q level place (getD slots (level * 33 + place) unseen) (rows (consSome o rs)) all → Sees w q level place (getD (set slots (p .slot) new) (level * 33 + place) unseen) (rows rs) all
@@ -140,36 +140,36 @@ module _ {w : List ℕ} {q : Question} {at end : ℕ} {o : Option Record} {p : P
       skip e s = sees-not l m slots (p .slot) new (λ f. omega (arith, ap (λ (x : Passing). x .slot) e)) s
 
       -- a row that counts that day is of this slot, or of another
-      counted : (r : Row) → RowThere w at end r → isOwn q r ≡ true → p ≡ standing q at end r
+      counted : (r : Row) → RowThere w at r → isOwn q r ≡ true → p ≡ standing q at r
           → (b : Bool) → eqb (slotOf q r) (level * 33 + place) ≡ b → Left (r ∷ rows rs) → Done
       counted r t a f true h s =
-          sees-row l m slots (p .slot) new at end long t (ap (λ x. x .slot) f ∙ eqb-true (slotOf q r) (level * 33 + place) h) (slot-in q r level place l m ∙ rw (a, h))
+          sees-row l m slots (p .slot) new at long t (ap (λ x. x .slot) f ∙ eqb-true (slotOf q r) (level * 33 + place) h) (slot-in q r level place l m ∙ rw (a, h))
           (after .is ∙ ap (seenAfter (getD slots (p .slot) unseen)) f) s
       counted r t a f false h s =
           sees-not l m slots (p .slot) new (λ g. eqb-false (slotOf q r) (level * 33 + place) h (sym (ap (λ x. x .slot) f) ∙ g))
           (sees-past l m (slot-in q r level place l m ∙ rw (a, h)) s)
 
       -- a row of the asked article and sort counts that day, or does not
-      own : (r : Row) → RowThere w at end r → isOwn q r ≡ true → p ≡ passingOf q at end r
+      own : (r : Row) → RowThere w at r → isOwn q r ≡ true → p ≡ passingOf q at r
           → (b : Bool) → Choice.stands (q .date) r ≡ b → Left (r ∷ rows rs) → Done
       own r t a f true h s =
-          counted r t a (f ∙ ap (λ (b : Bool). cond b (standing q at end r) uncounted) h) (eqb (slotOf q r) (level * 33 + place)) refl s
-      own r t a f false h s = skip (f ∙ ap (λ (b : Bool). cond b (standing q at end r) uncounted) h) (sees-still l m h s)
+          counted r t a (f ∙ ap (λ (b : Bool). cond b (standing q at r) uncounted) h) (eqb (slotOf q r) (level * 33 + place)) refl s
+      own r t a f false h s = skip (f ∙ ap (λ (b : Bool). cond b (standing q at r) uncounted) h) (sees-still l m h s)
 
-      priced : (r : Row) → RowThere w at end r → p ≡ cond (isOwn q r) (passingOf q at end r) uncounted
+      priced : (r : Row) → RowThere w at r → p ≡ cond (isOwn q r) (passingOf q at r) uncounted
           → (b : Bool) → isOwn q r ≡ b → Left (r ∷ rows rs) → Done
-      priced r t f true a s = own r t a (f ∙ ap (λ (b : Bool). cond b (passingOf q at end r) uncounted) a) (Choice.stands (q .date) r) refl s
+      priced r t f true a s = own r t a (f ∙ ap (λ (b : Bool). cond b (passingOf q at r) uncounted) a) (Choice.stands (q .date) r) refl s
       priced r t f false a s =
-          skip (f ∙ ap (λ (b : Bool). cond b (passingOf q at end r) uncounted) a) (sees-past l m (slot-in q r level place l m ∙ rw a) s)
+          skip (f ∙ ap (λ (b : Bool). cond b (passingOf q at r) uncounted) a) (sees-past l m (slot-in q r level place l m ∙ rw a) s)
 
       read : (x : Record) → o ≡ some x → (y : Option Row) → asRow x ≡ y
-          → p ≡ ifSome y uncounted (λ r. cond (isOwn q r) (passingOf q at end r) uncounted) → Left (consSome y (rows rs)) → Done
+          → p ≡ ifSome y uncounted (λ r. cond (isOwn q r) (passingOf q at r) uncounted) → Left (consSome y (rows rs)) → Done
       read x e none f g s = skip g s
       read x e (some r) f g s = priced r (there r (e ∙ ap some (read-only rowKind x r f))) g (isOwn q r) refl s
 
       go : (x : Option Record) → o ≡ x → Left (rows (consSome x rs)) → Done
-      go none e s = skip (pass ∙ ap (passingIn q at end) e) s
-      go (some x) e s = read x e (asRow x) refl (pass ∙ ap (passingIn q at end) e) s
+      go none e s = skip (pass ∙ ap (passingIn q at) e) s
+      go (some x) e s = read x e (asRow x) refl (pass ∙ ap (passingIn q at) e) s
 
 -- ---- the loop
 
@@ -201,7 +201,7 @@ module _ (w : List ℕ) (from : ℕ) (article table : List ℕ) (terms : Terms) 
     walk-here h = pass-here (inv .between) h
 
     pub walk-turn : at < length w → {end : ℕ} → StopIs w at end
-        → {p : Passing} → Passes article table terms (at + 2) end (whole kinded (take (end - (at + 2)) (drop (at + 2) w))) p
+        → {p : Passing} → Passes article table terms at (whole kinded (take (end - (at + 2)) (drop (at + 2) w))) p
         → {new : Seen} → SeenAfter (getD slots (p .slot) unseen) p new → Walking w from article table terms (set slots (p .slot) new) end
     walk-turn h {end} stop {p} pass {new} after =
         let step = pass-record (inv .between) h stop in
@@ -210,10 +210,9 @@ module _ (w : List ℕ) (from : ℕ) (article table : List ℕ) (terms : Terms) 
           long = length-set slots (p .slot) new ∙ inv .long;
           sees = λ q a level place l m.
               sees-turn (pass .of q a) (λ r e. record {
-                low = omega arith;
-                order = omega (arith, stop .low);
-                fits = stop .fits;
-                is = e;
+                low = omega (arith, inv .between .low);
+                fits = subst (λ (k : ℕ). k ≤ length w) (stop .is) (stop .fits);
+                is = subst (λ (k : ℕ). whole kinded (take (k - (at + 2)) (drop (at + 2) w)) ≡ some (PriceRecord r)) (stop .is) e;
               }) slots (inv .long) after (recordsLeft w end) l m
               (subst (λ (rs : List Record). Sees w q level place (getD slots (level * 33 + place) unseen) (rows rs) (rows (recordsLeft w from))) step (inv .sees q a level place l m));
         }

@@ -1,5 +1,5 @@
 -- A slot's state as the code keeps it, and the rows of the definition that it stands for.
-use Prim.Native.Nat.{ℕ, _^_, _≤_, _<_}
+use Prim.Native.Nat.{ℕ, _+_, _^_, _≤_}
 use mathlib.Core.Path.{_≡_}
 use mathlib.Core.Bool.{Bool, true, _&&_, _||_, cond}
 use mathlib.Core.List.{List}
@@ -11,6 +11,7 @@ use Rattle.rules.specs.Book.{Row, PriceRecord}
 use Rattle.rules.specs.BookLayout.{kinded}
 use Rattle.rules.proofs.ChoiceLaws as Choice
 use Rattle.layout.specs.Reads.{part}
+use Rattle.layout.specs.Records.{recordStop}
 use Rattle.choice.specs.declared.hands.Hand.{Hand}
 use Rattle.choice.specs.declared.hands.Seen.{Seen}
 use Rattle.choice.specs.declared.hands.Passing.{Passing}
@@ -55,19 +56,17 @@ pub record TakenIs (s : Seen) (r : Hand) : Type 0 where
 
 -- ---- what it means
 
--- the bytes of w from `at` to `end` are the price row r
-pub record RowThere (w : List ℕ) (at end : ℕ) (r : Row) : Type 0 where
+-- the record of w that stands at `at` is the price row r
+pub record RowThere (w : List ℕ) (at : ℕ) (r : Row) : Type 0 where
   pub low : 1 ≤ at
-  pub order : at < end
-  pub fits : end ≤ length w
-  pub is : whole kinded (part w at end) ≡ some (PriceRecord r)
+  pub fits : recordStop w at ≤ length w
+  pub is : whole kinded (part w (at + 2) (recordStop w at)) ≡ some (PriceRecord r)
 
 -- the hand holds the row r, which stands in w
 pub record Holds (w : List ℕ) (h : Hand) (r : Row) : Type 0 where
-  pub there : RowThere w (h .at) (h .end) r
+  pub there : RowThere w (h .at) r
   pub upto : h .upto ≡ r .upTo
   pub from : h .from ≡ r .from
-  pub rounding : h .rounding ≡ r .rounding
 
 pub data HandIs (w : List ℕ) (h : Hand) : Option Row → Type 0 where
   NoRow : isEmpty h ≡ true → HandIs w h none

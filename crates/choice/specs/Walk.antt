@@ -35,35 +35,35 @@ unfoldable pub slotOf : Question → Row → ℕ
 slotOf q r = slotAt (levelOf (r .level)) (placeOf (q .granted) (r .condition))
 
 -- what one is that counts that day
-abbrev pub standing : Question → ℕ → ℕ → Row → Passing
-standing q at end r = record {
+abbrev pub standing : Question → ℕ → Row → Passing
+standing q at r = record {
   slot = slotOf q r;
   stands = Choice.stands (q .date) r;
   asked = Choice.isAsked (q .currency) r;
   reaches = reaches (q .quantity) r;
-  hand = record { at = at; end = end; upto = r .upTo; from = r .from; rounding = r .rounding };
+  hand = record { at = at; upto = r .upTo; from = r .from };
 }
 
 -- no row in hand
 abbrev pub noHand : Hand
-noHand = record { at = 0; end = 0; upto = 0; from = 0; rounding = 0 }
+noHand = record { at = 0; upto = 0; from = 0 }
 
 -- what any other record is
 abbrev pub uncounted : Passing
 uncounted = record { slot = noSlot; stands = false; asked = false; reaches = false; hand = noHand }
 
 -- a row of the asked article and sort on another day is like one of another article
-unfoldable pub passingOf : Question → ℕ → ℕ → Row → Passing
-passingOf q at end r = cond (Choice.stands (q .date) r) (standing q at end r) uncounted
+unfoldable pub passingOf : Question → ℕ → Row → Passing
+passingOf q at r = cond (Choice.stands (q .date) r) (standing q at r) uncounted
 
 -- the row is of the asked article and sort
 abbrev pub isOwn : Question → Row → Bool
 isOwn q r = same (r .article) (q .article) && eqb (r .sort) (q .sort)
 
 -- what any record is
-unfoldable pub passingIn : Question → ℕ → ℕ → Option Record → Passing
-passingIn q at end none = uncounted
-passingIn q at end (some x) = ifSome (asRow x) uncounted λ r. cond (isOwn q r) (passingOf q at end r) uncounted
+unfoldable pub passingIn : Question → ℕ → Option Record → Passing
+passingIn q at none = uncounted
+passingIn q at (some x) = ifSome (asRow x) uncounted λ r. cond (isOwn q r) (passingOf q at r) uncounted
 
 -- a row in this currency is in the asked one
 abbrev pub inAsked : Option (List ℕ) → List ℕ → Bool
@@ -75,15 +75,15 @@ pub record SlotIs (table : List ℕ) (terms : Terms) (r : Row) (i : ℕ) : Type 
   pub below : i < 100
   pub of : {article : List ℕ} (q : Question) → Asks q article table terms → i ≡ slotOf q r
 
--- `p` is what the row r is to it, if it asks for the row's article and sort; the row stands from `at` to `end`
-pub record RowPasses (table : List ℕ) (terms : Terms) (at end : ℕ) (r : Row) (p : Passing) : Type 0 where
+-- `p` is what the row r is to it, if it asks for the row's article and sort; the row's record stands at `at`
+pub record RowPasses (table : List ℕ) (terms : Terms) (at : ℕ) (r : Row) (p : Passing) : Type 0 where
   pub below : p .slot < 100
-  pub of : {article : List ℕ} (q : Question) → Asks q article table terms → p ≡ passingOf q at end r
+  pub of : {article : List ℕ} (q : Question) → Asks q article table terms → p ≡ passingOf q at r
 
 -- and what any record is to one that asks for this article
-pub record Passes (article table : List ℕ) (terms : Terms) (at end : ℕ) (o : Option Record) (p : Passing) : Type 0 where
+pub record Passes (article table : List ℕ) (terms : Terms) (at : ℕ) (o : Option Record) (p : Passing) : Type 0 where
   pub below : p .slot < 100
-  pub of : (q : Question) → Asks q article table terms → p ≡ passingIn q at end o
+  pub of : (q : Question) → Asks q article table terms → p ≡ passingIn q at o
 
 -- ---- the walk
 

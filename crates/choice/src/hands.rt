@@ -2,25 +2,21 @@
 ghost use Rattle.layout.specs.Ensures.{Number, Says};
 ghost use Rattle.choice.specs.Hands.{isEmpty, limitOf, betterHand, HandAfter, SeenAfter, TakenIs};
 
-// A row in hand: where its kind byte and body stand in the book, what it is compared by, and the number of its rounding.
+// A row in hand: where its record stands in the book, and what it is compared by.
 pub struct Hand {
     pub at: usize,
-    pub end: usize,
     pub upto: u32,
     pub from: u32,
-    pub rounding: u16,
 }
 
 impl Hand {
     pub const EMPTY: Hand = Hand {
         at: 0,
-        end: 0,
         upto: 0,
         from: 0,
-        rounding: 0,
     };
 
-    // A book has its length in front, so no row stands at 0.
+    // A book has its length in front, so no record stands at 0.
     pub fn is_empty(self) -> bool
         ensures { λ r. ⌜ Says (isEmpty self) r ⌝ }
     {

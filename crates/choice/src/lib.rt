@@ -25,7 +25,7 @@ pub fn slots_for(w: &[u8], from: usize, article: &[u8], table: &[u8], terms: Ter
     while at < w.len() {
         let end = record_stop(w, at);
         let start = at + 2;
-        let p = passing(&w[start..end], start, end, article, table, terms);
+        let p = passing(&w[start..end], at, article, table, terms);
         let i = p.slot;
         let old = slots[i];
         slots[i] = see(old, p);

@@ -94,18 +94,11 @@ fn is_asked(asked: Currency, currency: Currency) -> bool
     !none & (currency.0 == asked.0) & (currency.1 == asked.1) & (currency.2 == asked.2)
 }
 
-// A row of the asked article and sort, which stands from `at` to `end`. Few hold that day: only of these the condition is looked for.
-fn row_passing(
-    t: &[u8],
-    row: PriceRow,
-    at: usize,
-    end: usize,
-    table: &[u8],
-    terms: Terms,
-) -> Passing
+// A row of the asked article and sort, whose record stands at `at`. Few hold that day: only of these the condition is looked for.
+fn row_passing(t: &[u8], row: PriceRow, at: usize, table: &[u8], terms: Terms) -> Passing
     requires { ⌜ RowIs (now t) row ⌝ }
     requires { ⌜ Tabled (now table) terms ⌝ }
-    ensures { λ r. ⌜ RowPasses (now (table .entry)) terms at end (rowIn (now (t .entry)) row) r ⌝ }
+    ensures { λ r. ⌜ RowPasses (now (table .entry)) terms at (rowIn (now (t .entry)) row) r ⌝ }
 {
     let level = row.level;
     let value = row.value;
@@ -120,10 +113,8 @@ fn row_passing(
     let reaches = (row.upto == 0) | (terms.quantity <= row.upto);
     let hand = Hand {
         at,
-        end,
         upto: row.upto,
         from: row.from,
-        rounding: row.rounding,
     };
     Passing {
         slot,
@@ -134,22 +125,15 @@ fn row_passing(
     }
 }
 
-// The record t, which stands from `at` to `end`. Most are no row of the article and sort: of these the kind, the name and one byte are read.
-pub fn passing(
-    t: &[u8],
-    at: usize,
-    end: usize,
-    article: &[u8],
-    table: &[u8],
-    terms: Terms,
-) -> Passing
+// The record that stands at `at` and has the body t. Most are no row of the article and sort: of these the kind, the name and one byte are read.
+pub fn passing(t: &[u8], at: usize, article: &[u8], table: &[u8], terms: Terms) -> Passing
     requires { ⌜ Accepted (now t) ⌝ }
     requires { ⌜ Tabled (now table) terms ⌝ }
-    ensures { λ r. ⌜ Passes (now (article .entry)) (now (table .entry)) terms at end (whole kinded (now (t .entry))) r ⌝ }
+    ensures { λ r. ⌜ Passes (now (article .entry)) (now (table .entry)) terms at (whole kinded (now (t .entry))) r ⌝ }
 {
     if is_row(t, article, terms.sort) {
         let row = row_of(t);
-        row_passing(t, row, at, end, table, terms)
+        row_passing(t, row, at, table, terms)
     } else {
         Passing::UNCOUNTED
     }

@@ -1,3 +1,3 @@
-pub mod NumberLaws
+pub mod HeldLaws
 pub mod WithinLaws
 pub mod PickLaws

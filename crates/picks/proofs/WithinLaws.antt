@@ -6,16 +6,17 @@ use mathlib.Core.List.{List}
 use mathlib.Core.Option.{Option}
 use native.Mathlib.Omega.{arith}
 use lib.Dec.{eqb}
-use lib.ListN.{length, take, getD}
+use lib.ListN.{length, take, drop, getD}
 use lib.Seq.{length-take-le}
 use Rattle.rules.specs.Lists.{same, keep}
 use Rattle.rules.specs.Layout.{whole}
+use Rattle.rules.specs.Bytes.{big}
 use Rattle.rules.specs.Book.{Row, Record, rows, rowsOf}
 use Rattle.rules.specs.BookLayout.{kinded}
 use Rattle.rules.specs.Question.{Question}
 use Rattle.rules.proofs.ChoiceLaws as Choice
 use Rattle.rules.proofs.ListLaws.{keep-keep}
-use Rattle.layout.specs.Records.{recordsLeft}
+use Rattle.layout.specs.Records.{recordStop, recordsLeft}
 use Rattle.choice.specs.declared.hands.Hand.{Hand}
 use Rattle.choice.specs.declared.hands.Seen.{Seen}
 use Rattle.grants.specs.Places as Grants
@@ -29,14 +30,16 @@ use Rattle.survey.proofs.WindowLaws.{front}
 -- ---- the front of a book
 
 module _ {w : List ℕ} {n : ℕ} (fits : n ≤ length w) where
-  there-whole : {at end : ℕ} {r : Row} → RowThere (take n w) at end r → RowThere w at end r
-  there-whole {at} {end} p =
-      let k : end ≤ n = omega (arith, p .fits, length-take-le n w fits) in
+  there-whole : {at : ℕ} {r : Row} → RowThere (take n w) at r → RowThere w at r
+  there-whole {at} p =
+      let short : length (take n w) ≡ n = length-take-le n w fits in
+      let k : recordStop (take n w) at ≤ n = omega (arith, p .fits, short) in
+      let e : recordStop (take n w) at ≡ recordStop w at = ap (λ (bs : List ℕ). at + 2 + big bs) (front 2 at n w (omega arith)) in
       record {
         low = p .low;
-        order = p .order;
-        fits = omega arith;
-        is = sym (ap (whole kinded) (front (end - at) at n w (omega (arith, p .order)))) ∙ p .is;
+        fits = omega (arith, e);
+        is = sym (ap (whole kinded) (front (recordStop (take n w) at - (at + 2)) (at + 2) n w (omega arith))
+            ∙ ap (λ (j : ℕ). whole kinded (take (j - (at + 2)) (drop (at + 2) w))) e) ∙ p .is;
       }
 
   hand-whole : {h : Hand} {o : Option Row} → HandIs (take n w) h o → HandIs w h o
@@ -45,7 +48,6 @@ module _ {w : List ℕ} {n : ℕ} (fits : n ≤ length w) where
     there = there-whole (x .there);
     upto = x .upto;
     from = x .from;
-    rounding = x .rounding;
   })
 
   seen-whole : {s : Seen} {state : Choice.Seen} → SeenIs (take n w) s state → SeenIs w s state

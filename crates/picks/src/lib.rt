@@ -1,11 +1,9 @@
 // The chosen rows of a price by value, slot after slot, with their roundings, which one walk has found.
-mod numbers;
+mod held;
 
-use crate::numbers::counted;
-use crate::numbers::numbers_in;
-use choice::hands::Hand;
+use crate::held::held_in;
+use book::record_stop;
 use choice::hands::Seen;
-use choice::hands::taken;
 use choice::slots_for;
 use grants::terms::Terms;
 use lines::Pick;
@@ -14,14 +12,16 @@ use lookup::roundings::rounding_spots;
 use rules::Cents;
 use rules::Currency;
 use rules::Level;
+use rules::PriceRow;
 use rules::Rounding;
 use rules::Rule;
 use rules::Value;
 use rules::Way;
 use survey::window::Window;
+ghost use Prim.Native.Nat.{_≤_};
 ghost use Rattle.grants.specs.Asks.{Asked};
 ghost use Rattle.survey.specs.Window.{Windows};
-ghost use Rattle.picks.specs.Picks.{RoundingsIn, Held, RowFound, HandHeld, HandFound, RowPicked, HandPicked, Filled, PicksFrom, PickedFor};
+ghost use Rattle.picks.specs.Picks.{RoundingsIn, Held, AllHeld, RowAt, NumbersAre, RowFound, RowPicked, Filled, PicksFrom, PickedFor};
 
 // The first n of the rows count.
 pub struct Picks {
@@ -30,12 +30,6 @@ pub struct Picks {
 }
 
 const NONE: Pick = Pick {
-    place: 0,
-    level: Level::Base,
-    rule: Rule::OfBase,
-    text: 0,
-    value: Value::Fixed(Cents(0)),
-    currency: Currency(0, 0, 0),
     rounding: Rounding {
         number: 0,
         way: Way::Down,
@@ -43,16 +37,47 @@ const NONE: Pick = Pick {
         before: Cents(0),
         after: Cents(0),
     },
+    value: Value::Fixed(Cents(0)),
+    text: 0,
+    place: 0,
+    level: Level::Base,
+    rule: Rule::OfBase,
+    currency: Currency(0, 0, 0),
 };
 
-// The row that stands from `at` to `end`, with the rounding that was found at `found`.
-fn row_pick(b: &[u8], window: Window, at: usize, end: usize, place: u8, found: usize) -> Pick
-    requires { ⌜ RoundingsIn (now b) window ⌝ }
-    requires { ⌜ Held (now b) at end ⌝ }
-    requires { ⌜ RowFound (now b) window at end found ⌝ }
-    ensures { λ r. ⌜ RowPicked (now (b .entry)) at end place r ⌝ }
+// The price row whose record stands at `at`.
+fn row_at(b: &[u8], at: usize) -> PriceRow
+    requires { ⌜ Held (now b) at ⌝ }
+    ensures { λ r. ⌜ RowAt (now (b .entry)) at r ⌝ }
 {
-    let row = records::row_of(&b[at..end]);
+    let end = record_stop(b, at);
+    let start = at + 2;
+    records::row_of(&b[start..end])
+}
+
+// The numbers of the roundings that the first n rows name.
+fn numbers_of(b: &[u8], ats: &[usize; 99], n: usize) -> [u16; 99]
+    requires { ⌜ AllHeld (now b) (now ats) n ⌝ }
+    ensures { λ r. ⌜ NumbersAre (now (b .entry)) (now (ats .entry)) n r ⌝ }
+{
+    let mut numbers = [0; 99];
+    let mut i = 0;
+    while i < n {
+        let row = row_at(b, ats[i]);
+        numbers[i] = row.rounding;
+        i += 1;
+    }
+    numbers
+}
+
+// The row that stands at `at`, with the rounding that was found at `found`.
+fn row_pick(b: &[u8], window: Window, at: usize, place: u8, found: usize) -> Pick
+    requires { ⌜ RoundingsIn (now b) window ⌝ }
+    requires { ⌜ Held (now b) at ⌝ }
+    requires { ⌜ RowFound (now b) window at found ⌝ }
+    ensures { λ r. ⌜ RowPicked (now (b .entry)) at place r ⌝ }
+{
+    let row = row_at(b, at);
     let to = window.to;
     let rounding = rounding_at(&b[..to], found);
     let level = row.level;
@@ -60,45 +85,31 @@ fn row_pick(b: &[u8], window: Window, at: usize, end: usize, place: u8, found: u
     let value = row.value;
     let currency = row.currency;
     Pick {
+        rounding,
+        value,
+        text: row.text,
         place,
         level,
         rule,
-        text: row.text,
-        value,
         currency,
-        rounding,
     }
 }
 
-// A row in hand; with no row in hand a pick that does not count.
-fn hand_pick(b: &[u8], window: Window, hand: Hand, place: u8, found: usize) -> Pick
-    requires { ⌜ RoundingsIn (now b) window ⌝ }
-    requires { ⌜ HandHeld (now b) hand ⌝ }
-    requires { ⌜ HandFound (now b) window hand found ⌝ }
-    ensures { λ r. ⌜ HandPicked (now (b .entry)) hand place r ⌝ }
+// The rows that the filled slots hold, one after the other. With so many granted names.
+fn picks_from(b: &[u8], slots: [Seen; 100], window: Window, names: usize) -> Picks
+    requires { ⌜ Filled (now b) slots names window ⌝ }
+    ensures { λ r. ⌜ PicksFrom (now (b .entry)) slots names r ⌝ }
 {
-    if hand.is_empty() {
-        return NONE;
-    }
-    row_pick(b, window, hand.at, hand.end, place, found)
-}
-
-// The filled slots, one after the other: those that hold a row count.
-fn picks_from(b: &[u8], slots: [Seen; 100], window: Window) -> Picks
-    requires { ⌜ Filled (now b) slots window ⌝ }
-    ensures { λ r. ⌜ PicksFrom (now (b .entry)) slots r ⌝ }
-{
-    let numbers = numbers_in(slots);
+    let mut ats = [0; 99];
+    let mut places = [0; 99];
+    let n = held_in(slots, names, &mut ats, &mut places);
+    let numbers = numbers_of(b, &ats, n);
     let to = window.to;
-    let of = numbers.of;
-    let spots = rounding_spots(&b[..to], window.from, of, numbers.n);
+    let spots = rounding_spots(&b[..to], window.from, numbers, n);
     let mut rows = [NONE; 99];
-    let mut n = 0;
     let mut i = 0;
-    while i < 99 {
-        let hand = taken(slots[i]);
-        rows[n] = hand_pick(b, window, hand, (i % 33) as u8, spots[n]);
-        n = n + counted(hand);
+    while i < n {
+        rows[i] = row_pick(b, window, ats[i], places[i], spots[i]);
         i += 1;
     }
     Picks { rows, n }
@@ -112,5 +123,5 @@ pub fn picks_within(b: &[u8], window: Window, article: &[u8], table: &[u8], term
 {
     let last = window.last;
     let slots = slots_for(&b[..last], window.first, article, table, terms);
-    picks_from(b, slots, window)
+    picks_from(b, slots, window, terms.names)
 }

@@ -1,19 +1,27 @@
--- `picks::picks_from` meets its contract: the slots gone through and those that are left choose the rows, by the laws `so-far-..`;
--- a row's rounding is at the spot that was found for its number, by `slot-found`.
+-- `picks::picks_from` meets its contract: the rows that stand in the slots are picked one by one, by the laws `picks-..`; a row's rounding is at the
+-- spot that was found for its number, by `found-at`.
 use Prim.Native.Nat.{_-_}
 use Rattle.picks.specs.Picks.{PicksSoFar}
 use borrow.Author.Needs.{needs}
-use Rattle.picks.proofs.PickLaws.{filled-roundings, filled-held, filled-between, filled-long, slot-found, numbers-few, so-far-start, so-far-turn, so-far-end}
+use Rattle.picks.proofs.PickLaws.{filled-roundings, filled-few, filled-held, filled-between, filled-long, held-at, held-few, found-at, picks-start, picks-turn, picks-end}
 use Rattle.picks.proofs.picks_from.Statement.{statement}
 use Rattle.picks.proofs.picks_from.Tie as tie
 
-ruleset laws = (needs, filled-roundings, filled-held, filled-between, filled-long, slot-found, numbers-few, so-far-start, so-far-turn, so-far-end)
+ruleset laws = (needs, filled-roundings, filled-few, filled-held, filled-between, filled-long, held-at, held-few, found-at, picks-start, picks-turn, picks-end)
 
 abbrev Inv-loop : tie.InvT-loop
-Inv-loop b window slots to spots rows₀ n₀ i₀ rows n i = PicksSoFar b slots rows n i
+Inv-loop b window names ats places n to spots rows₀ i₀ rows i = PicksSoFar b ats places rows i
 
 abbrev μ-loop : tie.MeasureT-loop
-μ-loop b window slots to spots rows₀ n₀ i₀ rows n i = 99 - i
+μ-loop b window names ats places n to spots rows₀ i₀ rows i = n - i
+
+row-pick-requires : tie.Need-row-pick-requires Inv-loop μ-loop
+row-pick-requires c κs =
+    let spotted = c .before .before in
+    let numbered = spotted .before .before in
+    let held = numbered .before .before in
+    let pre = held .before .before .before .before .pre in
+    (filled-roundings pre, (held-at (filled-held pre (held .held-in .ensures)) (c .loop-test .taken), found-at (numbered .numbers-of .ensures) (spotted .rounding-spots .ensures) (c .loop-test .taken)))
 
 pub picks-from-spec : {M : Type 1} → statement M
 picks-from-spec =
@@ -21,22 +29,20 @@ picks-from-spec =
     (tie.spec
     Inv-loop
     μ-loop
-    (λ c κs. search laws)  -- numbers-in-requires
+    (λ c κs. search laws)  -- held-in-requires
+    (λ c κs. search laws)  -- numbers-of-requires
     (λ c. search laws)  -- slice-aggregate-rounding-spots
     (λ c κs. search laws)  -- rounding-spots-requires
     (λ c. search laws)  -- loop-holds
-    (λ c. search needs)  -- mul-taken
-    (λ c. search needs)  -- array-copy-out-taken
-    (λ c κs. search laws)  -- taken-requires
-    (λ c. search needs)  -- cast-hand-pick
-    (λ c. search needs)  -- mul-hand-pick
-    (λ c. search needs)  -- array-read-hand-pick
-    (λ c κs. (search laws, (search laws, slot-found (search needs) (c .before .before .before .before .before .before .before .numbers-in .ensures) (c .before .before .before .before .rounding-spots .ensures) (c .before .before .before .loop .inv) (c .before .before .loop-test .taken) (c .taken .ensures))))  -- hand-pick-requires
+    (λ c. search needs)  -- mul-row-pick
+    (λ c. search needs)  -- array-read-row-pick
+    (λ c. search needs)  -- array-read-row-pick-2
+    (λ c. search needs)  -- mul-row-pick-2
+    (λ c. search needs)  -- array-read-row-pick-3
+    row-pick-requires
     (λ c. search needs)  -- mul-rows
     (λ c. search needs)  -- array-set-from-rows
-    (λ c κs. search laws)  -- counted-requires
-    (λ c. search needs)  -- add-n
     (λ c. search needs)  -- add-i
     (λ c. search needs)  -- loop-less
-    (λ c. search laws)  -- loop-again
+    (λ c. picks-turn (c .before .before .loop .inv) (search needs) (c .row-pick .ensures))  -- loop-again
     (λ c. search laws))  -- returns

@@ -1,8 +1,8 @@
--- `picks::numbers::counted` meets its contract: by the laws `counts-..`.
+-- `picks::held::counted` meets its contract: by the laws `counts-..`.
 use borrow.Author.Needs.{needs}
-use Rattle.picks.proofs.NumberLaws.{counts-none, counts-one}
-use Rattle.picks.proofs.numbers.counted.Statement.{statement}
-use Rattle.picks.proofs.numbers.counted.Tie as tie
+use Rattle.picks.proofs.HeldLaws.{counts-none, counts-one}
+use Rattle.picks.proofs.held.counted.Statement.{statement}
+use Rattle.picks.proofs.held.counted.Tie as tie
 
 ruleset laws = (needs, counts-none, counts-one)
 

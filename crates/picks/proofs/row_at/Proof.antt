@@ -1,0 +1,19 @@
+-- `picks::row_at` meets its contract: a record stands there, and it is a price row, by the laws `held-..` and `row-read`.
+use borrow.Author.Needs.{needs}
+use Rattle.picks.proofs.PickLaws.{held-here, held-kind, row-read}
+use Rattle.picks.proofs.row_at.Statement.{statement}
+use Rattle.picks.proofs.row_at.Tie as tie
+
+ruleset laws = (needs, held-here, held-kind, row-read)
+
+pub row-at-spec : {M : Type 1} → statement M
+row-at-spec =
+    tie.close
+    (tie.spec
+    (λ c κs. search laws)  -- record-stop-requires
+    (λ c. search needs)  -- add-start
+    (λ c. search needs)  -- sub-row-of
+    (λ c. search needs)  -- part-row-of-start
+    (λ c. search needs)  -- part-row-of-end
+    (λ c κs. search laws)  -- row-of-requires
+    (λ c. search laws))  -- returns
