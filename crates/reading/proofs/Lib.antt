@@ -1,0 +1,10 @@
+pub mod LineLaws
+pub mod RecordLaws
+pub mod FillLaws
+pub mod PutLaws
+pub mod MetLaws
+pub mod RoundLaws
+pub mod MoveLaws
+pub mod CountLaws
+pub mod NumberedLaws
+pub mod CallLaws

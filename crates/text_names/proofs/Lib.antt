@@ -1,0 +1,3 @@
+pub mod HashLaws
+pub mod NamesLaws
+pub mod EnterLaws
