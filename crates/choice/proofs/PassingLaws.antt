@@ -165,7 +165,7 @@ module _ (t : List ℕ) (row : PriceRow) (at : ℕ) (table : List ℕ) (terms : 
         stands = not percent && holds;
         asked = asked;
         reaches = eqb (row .upto) 0 || leb (terms .quantity) (row .upto);
-        hand = record { at = at; upto = row .upto; from = row .from };
+        hand = record { at = at; upto = row .upto; from = row .from; rounding = row .rounding };
       })
   unfolding passingOf rowIn
   row-passes e s c = record {
@@ -179,7 +179,7 @@ module _ (t : List ℕ) (row : PriceRow) (at : ℕ) (table : List ℕ) (terms : 
           stands = sym (counts q a) i;
           asked = asked-too i;
           reaches = eqb (row .upto) 0 || leb (sym (a .quantity) i) (row .upto);
-          hand = record { at = at; upto = row .upto; from = row .from };
+          hand = record { at = at; upto = row .upto; from = row .from; rounding = row .rounding };
         })
         ∙ ap (λ (x : Bool). cond x (standing q at (rowIn t row)) uncounted) (sym (counts q a ∙ so _ e));
   }

@@ -58,8 +58,8 @@ pub seen-row : (q : Question) (at : ℕ) {w : List ℕ} {r : Row} {s : Seen} {st
     → SeenIs w (seenAfter s (standing q at r)) (Choice.see (q .date) (q .quantity) (q .currency) state r)
 unfolding seenAfter
 seen-row q at {w} {r} there p =
-    let holds : Holds w (record { at = at; upto = r .upTo; from = r .from }) r =
-    record { there = there; upto = refl; from = refl } in
+    let holds : Holds w (record { at = at; upto = r .upTo; from = r .from; rounding = r .rounding }) r =
+    record { there = there; upto = refl; from = refl; rounding = refl } in
     record {
       met = ap (λ b. b || (Choice.stands (q .date) r && Choice.isAsked (q .currency) r)) (p .met);
       asked = hand-is holds _ (p .asked);

@@ -67,6 +67,7 @@ pub record Holds (w : List ℕ) (h : Hand) (r : Row) : Type 0 where
   pub there : RowThere w (h .at) r
   pub upto : h .upto ≡ r .upTo
   pub from : h .from ≡ r .from
+  pub rounding : h .rounding ≡ r .rounding
 
 pub data HandIs (w : List ℕ) (h : Hand) : Option Row → Type 0 where
   NoRow : isEmpty h ≡ true → HandIs w h none

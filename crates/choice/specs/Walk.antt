@@ -41,12 +41,12 @@ standing q at r = record {
   stands = Choice.stands (q .date) r;
   asked = Choice.isAsked (q .currency) r;
   reaches = reaches (q .quantity) r;
-  hand = record { at = at; upto = r .upTo; from = r .from };
+  hand = record { at = at; upto = r .upTo; from = r .from; rounding = r .rounding };
 }
 
 -- no row in hand
 abbrev pub noHand : Hand
-noHand = record { at = 0; upto = 0; from = 0 }
+noHand = record { at = 0; upto = 0; from = 0; rounding = 0 }
 
 -- what any other record is
 abbrev pub uncounted : Passing

@@ -2,11 +2,12 @@
 ghost use Rattle.layout.specs.Ensures.{Number, Says};
 ghost use Rattle.choice.specs.Hands.{isEmpty, limitOf, betterHand, HandAfter, SeenAfter, TakenIs};
 
-// A row in hand: where its record stands in the book, and what it is compared by.
+// A row in hand: where its record stands in the book, what it is compared by, and the number of its rounding.
 pub struct Hand {
     pub at: usize,
     pub upto: u32,
     pub from: u32,
+    pub rounding: u16,
 }
 
 impl Hand {
@@ -14,6 +15,7 @@ impl Hand {
         at: 0,
         upto: 0,
         from: 0,
+        rounding: 0,
     };
 
     // A book has its length in front, so no record stands at 0.

@@ -115,6 +115,7 @@ fn row_passing(t: &[u8], row: PriceRow, at: usize, table: &[u8], terms: Terms) -
         at,
         upto: row.upto,
         from: row.from,
+        rounding: row.rounding,
     };
     Passing {
         slot,

@@ -15,7 +15,7 @@ use Rattle.rules.specs.Lines.{Chosen, chosen}
 use Rattle.layout.specs.Ensures.{Says}
 use Rattle.grants.specs.Table.{GrantsAre}
 use Rattle.grants.specs.Places.{upFrom}
-use Rattle.choice.specs.Hands.{isEmpty, TakenIs, RowThere}
+use Rattle.choice.specs.Hands.{isEmpty, TakenIs, RowThere, Holds}
 use Rattle.choice.specs.Slots.{slotChosen, slotsChosen}
 use Rattle.choice.specs.Walk.{SlotsHold, unseen}
 use Rattle.choice.specs.declared.hands.Hand.{Hand}
@@ -62,16 +62,22 @@ module _ (rs : List Row) (q : Question) where
 
 -- ---- one slot
 
-module _ {b : List ℕ} {rs : List Row} {q : Question} {slots : List Seen} (holds : SlotsHold b rs q slots) {ats places : List ℕ} {n i place : ℕ}
-    (so : HeldSoFar b rs q ats places n i) (l : i < 99) (few : n ≤ i) (long : length ats ≡ 99) (wide : length places ≡ 99) (p : place ≡ i % 33)
+module _ {b : List ℕ} {rs : List Row} {q : Question} {slots : List Seen} (holds : SlotsHold b rs q slots) {ats places numbers : List ℕ} {n i place : ℕ}
+    (so : HeldSoFar b rs q ats places numbers n i) (l : i < 99) (few : n ≤ i) (long : length ats ≡ 99) (wide : length places ≡ 99) (full : length numbers ≡ 99)
+    (p : place ≡ i % 33)
     {hand : Hand} (t : TakenIs (getD slots i unseen) hand) where
   -- those before n stay
-  kept : (k : ℕ) → k < n → {cs : List Chosen} → Stands b cs k (getD ats k 0) (getD places k 0) → Stands b cs k (getD (set ats n (hand .at)) k 0) (getD (set places n place) k 0)
+  kept : (k : ℕ) → k < n → {cs : List Chosen} → Stands b cs k (getD ats k 0) (getD places k 0) (getD numbers k 0)
+      → Stands b cs k (getD (set ats n (hand .at)) k 0) (getD (set places n place) k 0) (getD (set numbers n (hand .rounding)) k 0)
   kept k m {cs} s =
-      rw (getD-set-other ats n k (hand .at) 0 (λ e. omega arith), getD-set-other places n k place 0 (λ e. omega arith)) s
+      rw (
+        getD-set-other ats n k (hand .at) 0 (λ e. omega arith),
+        getD-set-other places n k place 0 (λ e. omega arith),
+        getD-set-other numbers n k (hand .rounding) 0 (λ e. omega arith),
+      ) s
 
   -- no row: the slots go on
-  passed : isEmpty hand ≡ true → HeldSoFar b rs q (set ats n (hand .at)) (set places n place) n (i + 1)
+  passed : isEmpty hand ≡ true → HeldSoFar b rs q (set ats n (hand .at)) (set places n place) (set numbers n (hand .rounding)) n (i + 1)
   passed e = record {
     these = so .these;
     are = record { count = so .are .count; each = λ k m. kept k m (so .are .each k m) };
@@ -79,61 +85,67 @@ module _ {b : List ℕ} {rs : List Row} {q : Question} {slots : List Seen} (hold
   }
 
   -- a row: it is the next
-  taken-in : isEmpty hand ≡ false → HeldSoFar b rs q (set ats n (hand .at)) (set places n place) (n + 1) (i + 1)
+  taken-in : isEmpty hand ≡ false → HeldSoFar b rs q (set ats n (hand .at)) (set places n place) (set numbers n (hand .rounding)) (n + 1) (i + 1)
   taken-in e =
       let x = slot-full holds l t e in
       let new : Chosen = record { place = i % 33; row = x .0 } in
       record {
         these = so .these ++ (new ∷ []);
-        are = record { count = length-append (so .these) (new ∷ []) ∙ ap (λ (k : ℕ). k + 1) (so .are .count); each = λ k m. go (x .0) (x .1 .there) k (decLt k n) m };
+        are = record { count = length-append (so .these) (new ∷ []) ∙ ap (λ (k : ℕ). k + 1) (so .are .count); each = λ k m. go (x .0) (x .1) k (decLt k n) m };
         goes = append-assoc (so .these) (new ∷ []) (left rs q (i + 1))
             ∙ ap (λ (cs : List Chosen). so .these ++ cs) (sym (left-step rs q i l (some new) (x .2 .is)))
             ∙ so .goes;
       }
     where
-      go : (r : Row) → RowThere b (hand .at) r → (k : ℕ) → Dec (k < n) → k < n + 1
+      go : (r : Row) → Holds b hand r → (k : ℕ) → Dec (k < n) → k < n + 1
           → Stands b (so .these ++ (record { place = i % 33; row = r } ∷ [])) k (getD (set ats n (hand .at)) k 0) (getD (set places n place) k 0)
-      go r there k (yes m) _ =
+          (getD (set numbers n (hand .rounding)) k 0)
+      go r holds k (yes m) _ =
           let old = so .are .each k m in
           kept k m (record {
             one = old .one;
             is = List·getD-append (so .these) (record { place = i % 33; row = r } ∷ []) (old .one) k (omega (arith, so .are .count)) ∙ old .is;
             there = old .there;
             place-is = old .place-is;
+            number-is = old .number-is;
           })
-      go r there k (no m) u =
+      go r holds k (no m) u =
           let new : Chosen = record { place = i % 33; row = r } in
           let e : length (so .these) ≡ k = omega (arith, so .are .count) in
           let f : n ≡ k = omega arith in
           record {
             one = new;
             is = ap (λ (j : ℕ). getD (so .these ++ (new ∷ [])) j new) (sym e) ∙ getD-append-seam (so .these) new [] new;
-            there = subst (λ (a : ℕ). RowThere b a r) (sym (ap (λ (j : ℕ). getD (set ats n (hand .at)) j 0) (sym f) ∙ getD-set-same ats n (hand .at) 0 (omega arith))) there;
+            there = subst (λ (a : ℕ). RowThere b a r) (sym (ap (λ (j : ℕ). getD (set ats n (hand .at)) j 0) (sym f) ∙ getD-set-same ats n (hand .at) 0 (omega arith))) (holds .there);
             place-is = ap (λ (j : ℕ). getD (set places n place) j 0) (sym f) ∙ getD-set-same places n place 0 (omega arith) ∙ p;
+            number-is =
+                ap (λ (j : ℕ). getD (set numbers n (hand .rounding)) j 0) (sym f) ∙ getD-set-same numbers n (hand .rounding) 0 (omega arith) ∙ holds .rounding;
           }
 
-  one-slot : {c : ℕ} → Counted hand c → HeldSoFar b rs q (set ats n (hand .at)) (set places n place) (n + c) (i + 1)
+  one-slot : {c : ℕ} → Counted hand c → HeldSoFar b rs q (set ats n (hand .at)) (set places n place) (set numbers n (hand .rounding)) (n + c) (i + 1)
   one-slot {c} d = go (isEmpty hand) refl
     where
-      go : (y : Bool) → isEmpty hand ≡ y → HeldSoFar b rs q (set ats n (hand .at)) (set places n place) (n + c) (i + 1)
+      go : (y : Bool) → isEmpty hand ≡ y → HeldSoFar b rs q (set ats n (hand .at)) (set places n place) (set numbers n (hand .rounding)) (n + c) (i + 1)
       go true e =
           let z : n ≡ n + c = omega (arith, d .is ∙ ap (λ (y : Bool). cond y 0 1) e) in
-          subst (λ (k : ℕ). HeldSoFar b rs q (set ats n (hand .at)) (set places n place) k (i + 1)) z (passed e)
+          subst (λ (k : ℕ). HeldSoFar b rs q (set ats n (hand .at)) (set places n place) (set numbers n (hand .rounding)) k (i + 1)) z (passed e)
       go false e =
           let z : n + 1 ≡ n + c = omega (arith, d .is ∙ ap (λ (y : Bool). cond y 0 1) e) in
-          subst (λ (k : ℕ). HeldSoFar b rs q (set ats n (hand .at)) (set places n place) k (i + 1)) z (taken-in e)
+          subst (λ (k : ℕ). HeldSoFar b rs q (set ats n (hand .at)) (set places n place) (set numbers n (hand .rounding)) k (i + 1)) z (taken-in e)
 
 -- ---- the loop
 
-pub hold-start : (slots : List Seen) (names : ℕ) (ats places : List ℕ) → length ats ≡ 99 → length places ≡ 99 → Holding slots names ats places 0 0 0
+pub hold-start : (slots : List Seen) (names : ℕ) (ats places numbers : List ℕ) → length ats ≡ 99 → length places ≡ 99 → length numbers ≡ 99
+    → Holding slots names ats places numbers 0 0 0
 unfolding slotsChosen
-hold-start slots names ats places l w = record {
+hold-start slots names ats places numbers l w f = record {
   few = omega arith;
   most = omega arith;
   place-is = omega arith;
   within = omega arith;
   long = l;
   wide = w;
+  full = f;
   each = λ q holds c. record {
     these = [];
     are = record { count = refl; each = λ k m. absurd (omega arith) };
@@ -141,19 +153,19 @@ hold-start slots names ats places l w = record {
   };
 }
 
-module _ {slots : List Seen} {names : ℕ} {ats places : List ℕ} {n i place : ℕ} (inv : Holding slots names ats places n i place) where
-  pub hold-end : 99 ≤ i → HeldIn slots names ats places n
+module _ {slots : List Seen} {names : ℕ} {ats places numbers : List ℕ} {n i place : ℕ} (inv : Holding slots names ats places numbers n i place) where
+  pub hold-end : 99 ≤ i → HeldIn slots names ats places numbers n
   hold-end h = record {
     few = omega (arith, inv .few, inv .most);
     each = λ {b} {rs} q holds c g.
         let so = inv .each q holds c in
         let e : i ≡ 99 = omega (arith, inv .most) in
-        subst (λ (cs : List Chosen). HeldAre b cs ats places n)
+        subst (λ (cs : List Chosen). HeldAre b cs ats places numbers n)
         (sym (append-nil (so .these)) ∙ ap (λ (j : ℕ). so .these ++ left rs q j) (sym e) ∙ so .goes ∙ slots-choose q g rs) (so .are);
   }
 
   pub hold-turn : names ≤ 32 → i < 99 → {hand : Hand} → TakenIs (getD slots i unseen) hand → {c : ℕ} → Counted hand c → {s : ℕ} → StepIs place names s
-      → {p : ℕ} → NextPlace place names p → Holding slots names (set ats n (hand .at)) (set places n place) (n + c) (i + s) p
+      → {p : ℕ} → NextPlace place names p → Holding slots names (set ats n (hand .at)) (set places n place) (set numbers n (hand .rounding)) (n + c) (i + s) p
   hold-turn top l {hand} t {c} d {s} step {p} next = go (decLt place names)
     where
       ats′ : List ℕ
@@ -162,12 +174,15 @@ module _ {slots : List Seen} {names : ℕ} {ats places : List ℕ} {n i place : 
       places′ : List ℕ
       places′ = set places n place
 
-      turned : {b : List ℕ} {rs : List Row} (q : Question) → SlotsHold b rs q slots → length (q .granted) ≡ names → HeldSoFar b rs q ats′ places′ (n + c) (i + 1)
-      turned q holds g = one-slot holds (inv .each q holds g) l (inv .few) (inv .long) (inv .wide) (inv .place-is) t d
+      numbers′ : List ℕ
+      numbers′ = set numbers n (hand .rounding)
+
+      turned : {b : List ℕ} {rs : List Row} (q : Question) → SlotsHold b rs q slots → length (q .granted) ≡ names → HeldSoFar b rs q ats′ places′ numbers′ (n + c) (i + 1)
+      turned q holds g = one-slot holds (inv .each q holds g) l (inv .few) (inv .long) (inv .wide) (inv .full) (inv .place-is) t d
 
       -- behind the last granted name the level's slots are empty
-      over : {b : List ℕ} {rs : List Row} (q : Question) → length (q .granted) ≡ names → names ≡ place → s + names ≡ 33 → HeldSoFar b rs q ats′ places′ (n + c) (i + 1)
-          → HeldSoFar b rs q ats′ places′ (n + c) (i + s)
+      over : {b : List ℕ} {rs : List Row} (q : Question) → length (q .granted) ≡ names → names ≡ place → s + names ≡ 33 → HeldSoFar b rs q ats′ places′ numbers′ (n + c) (i + 1)
+          → HeldSoFar b rs q ats′ places′ numbers′ (n + c) (i + s)
       over {b} {rs} q g h f so =
           let e : i + 1 + (32 - names) ≡ i + s = omega arith in
           let skip : left rs q (i + 1) ≡ left rs q (i + 1 + (32 - names)) =
@@ -178,7 +193,7 @@ module _ {slots : List Seen} {names : ℕ} {ats places : List ℕ} {n i place : 
             goes = ap (λ (cs : List Chosen). so .these ++ cs) (ap (left rs q) (sym e) ∙ sym skip) ∙ so .goes;
           }
 
-      go : Dec (place < names) → Holding slots names ats′ places′ (n + c) (i + s) p
+      go : Dec (place < names) → Holding slots names ats′ places′ numbers′ (n + c) (i + s) p
       go (yes h) =
           let e : i + 1 ≡ i + s = omega (arith, step .near h) in
           record {
@@ -188,7 +203,8 @@ module _ {slots : List Seen} {names : ℕ} {ats places : List ℕ} {n i place : 
             within = omega (arith, next .near h);
             long = length-set ats n (hand .at) ∙ inv .long;
             wide = length-set places n place ∙ inv .wide;
-            each = λ {b} {rs} q holds g. subst (HeldSoFar b rs q ats′ places′ (n + c)) e (turned q holds g);
+            full = length-set numbers n (hand .rounding) ∙ inv .full;
+            each = λ {b} {rs} q holds g. subst (HeldSoFar b rs q ats′ places′ numbers′ (n + c)) e (turned q holds g);
           }
       go (no h) =
           let k : names ≤ place = omega arith in
@@ -200,5 +216,6 @@ module _ {slots : List Seen} {names : ℕ} {ats places : List ℕ} {n i place : 
             within = omega (arith, next .far k);
             long = length-set ats n (hand .at) ∙ inv .long;
             wide = length-set places n place ∙ inv .wide;
+            full = length-set numbers n (hand .rounding) ∙ inv .full;
             each = λ {b} {rs} q holds g. over q g m (step .far k) (turned q holds g);
           }

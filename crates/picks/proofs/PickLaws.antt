@@ -26,14 +26,14 @@ use Rattle.survey.specs.declared.window.Window.{Window}
 use Rattle.choice.specs.Hands.{RowThere}
 use Rattle.choice.specs.Walk.{SlotsHold, SlotsFor}
 use Rattle.choice.specs.declared.hands.Seen.{Seen}
-use Rattle.choice.proofs.ChosenLaws.{there-here, there-kind, there-row}
+use Rattle.choice.proofs.ChosenLaws.{there-here, there-same, there-kind, there-row}
 use Rattle.lines.specs.declared.Pick.{Pick}
 use Rattle.lines.specs.Views.{View, viewOf, viewIn, viewsIn, noPick, baseFirst}
 use Rattle.lines.specs.Contracts.{StandFor, Sound, Listable}
 use Rattle.lines.proofs.ChosenLaws.{chosen-base-first}
 use Rattle.picks.specs.declared.Picks.{Picks}
-use Rattle.picks.specs.Held.{HeldAre, HeldIn}
-use Rattle.picks.specs.Picks.{RoundingsIn, Held, AllHeld, RowAt, NumberIs, NumbersAre, RowFound, RowPicked, PicksSoFar, Filled, PickedAre, PicksFrom, PickedFor}
+use Rattle.picks.specs.Held.{Stands, HeldAre, HeldIn}
+use Rattle.picks.specs.Picks.{RoundingsIn, Held, RowAt, RowFound, RowPicked, PicksSoFar, Filled, PickedAre, PicksFrom, PickedFor}
 use Rattle.picks.proofs.WithinLaws.{walk-within}
 
 -- ---- a row
@@ -101,44 +101,6 @@ module _ {b : List ℕ} {w : Window} {at found : ℕ} (held : Held b at) (row-fo
         sound = record { value-in = read .is .value-in; rounding-in = stands .sound };
       }
 
--- ---- the numbers of the roundings
-
-pub record Numbering (b ats : List ℕ) (n : ℕ) (numbers : List ℕ) (i : ℕ) : Type 0 where
-  pub held : AllHeld b ats n
-  pub long : length numbers ≡ 99
-  pub each : (k : ℕ) → k < i → NumberIs b ats numbers k
-
-module _ {b ats : List ℕ} {n : ℕ} where
-  pub numbering-start : AllHeld b ats n → Numbering b ats n (replicate 99 0) 0
-  numbering-start h = record { held = h; long = length-replicate {A = ℕ} 99 0; each = λ k l. absurd (omega arith) }
-
-  module _ {numbers : List ℕ} {i : ℕ} (inv : Numbering b ats n numbers i) where
-    pub numbering-held : i < n → Held b (getD ats i 0)
-    numbering-held l = inv .held .each i l
-
-    pub numbering-again : i < n → {row : PriceRow} → RowAt b (getD ats i 0) row → Numbering b ats n (set numbers i (row .rounding)) (i + 1)
-    unfolding rowIn
-    numbering-again l {row} read = record {
-      held = inv .held;
-      long = length-set numbers i (row .rounding) ∙ inv .long;
-      each = λ k m. go k m (decLt k i);
-    }
-      where
-        go : (k : ℕ) → k < i + 1 → Dec (k < i) → NumberIs b ats (set numbers i (row .rounding)) k
-        go k m (yes y) = record {
-          is = λ r there. getD-set-other numbers i k (row .rounding) 0 (λ e. omega arith) ∙ inv .each k y .is r there;
-        }
-        go k m (no y) =
-            let e : i ≡ k = omega arith in
-            subst (NumberIs b ats (set numbers i (row .rounding))) e (record {
-              is = λ r there.
-                  getD-set-same numbers i (row .rounding) 0 (omega (arith, inv .long, inv .held .few))
-                  ∙ ap (λ (x : Row). x .rounding) (there-row there (read .stop) row (read .is));
-            })
-
-    pub numbering-end : n ≤ i → NumbersAre b ats n numbers
-    numbering-end h = record { each = λ k l. inv .each k (omega arith) }
-
 -- ---- the rows, one by one
 
 module _ {b ats places : List ℕ} where
@@ -165,7 +127,7 @@ map-append f [] y = refl
 map-append f (x ∷ xs) y = ap (λ zs. f x ∷ zs) (map-append f xs y)
 
 -- rows that stand there and are picked are those of the definition
-module _ {b : List ℕ} {cs : List Chosen} {ats places : List ℕ} {n : ℕ} (are : HeldAre b cs ats places n) (few : n ≤ 99)
+module _ {b : List ℕ} {cs : List Chosen} {ats places numbers : List ℕ} {n : ℕ} (are : HeldAre b cs ats places numbers n) (few : n ≤ 99)
     {picks : List Pick} {i : ℕ} (inv : PicksSoFar b ats places picks i) (done : n ≤ i) where
   abbrev viewed : Chosen → View
   viewed = viewOf (roundings (recordsLeft b 5))
@@ -197,7 +159,7 @@ module _ {b : List ℕ} {cs : List Chosen} {ats places : List ℕ} {n : ℕ} (ar
   all-sound : All Sound (viewsIn picks n)
   all-sound = views-sound n (omega arith)
 
-pub picks-end : {b : List ℕ} {slots : List Seen} {names : ℕ} {ats places : List ℕ} {n : ℕ} → HeldIn slots names ats places n
+pub picks-end : {b : List ℕ} {slots : List Seen} {names : ℕ} {ats places numbers : List ℕ} {n : ℕ} → HeldIn slots names ats places numbers n
     → {picks : List Pick} {i : ℕ} → PicksSoFar b ats places picks i → n ≤ i → PicksFrom b slots names (record { rows = picks; n = n })
 picks-end held inv done = record {
   each = λ q holds c g.
@@ -225,25 +187,22 @@ module _ {b : List ℕ} {slots : List Seen} {names : ℕ} {w : Window} (filled :
   pub filled-few : names ≤ 32
   filled-few = filled .few
 
-  pub filled-held : {ats places : List ℕ} {n : ℕ} → HeldIn slots names ats places n → AllHeld b ats n
-  filled-held held = record {
-    few = held .few;
-    each = λ k l.
-        let s = held .each (filled .asked) (filled .holds) (filled .count) (filled .granted) .each k l in
-        record { row = s .one .row; there = s .there };
-  }
+  module _ {ats places numbers : List ℕ} {n : ℕ} (held : HeldIn slots names ats places numbers n) {i : ℕ} (l : i < n) where
+    stands : Stands b (chosen (rows (recordsLeft b 5)) (filled .asked)) i (getD ats i 0) (getD places i 0) (getD numbers i 0)
+    stands = held .each (filled .asked) (filled .holds) (filled .count) (filled .granted) .each i l
 
-pub held-at : {b ats : List ℕ} {n : ℕ} → AllHeld b ats n → {i : ℕ} → i < n → Held b (getD ats i 0)
-held-at h l = h .each _ l
+    pub held-at : Held b (getD ats i 0)
+    held-at = record { row = stands .one .row; there = stands .there }
 
--- the spot that was found for the number that a row names
-pub found-at : {b ats : List ℕ} {n : ℕ} {w : Window} {numbers spots : List ℕ} → NumbersAre b ats n numbers → SpotsFound (take (w .to) b) (w .from) numbers n spots
-    → {i : ℕ} → i < n → RowFound b w (getD ats i 0) (getD spots i 0)
-found-at {b} {w = w} {spots = spots} m f {i} l = record {
-  is = λ r there. subst (λ (j : ℕ). Found (take (w .to) b) (w .from) j (getD spots i 0)) (m .each i l .is r there) (f .each i l);
-}
+    -- the spot that was found for the number that a row names
+    pub found-at : {spots : List ℕ} → SpotsFound (take (w .to) b) (w .from) numbers n spots → RowFound b w (getD ats i 0) (getD spots i 0)
+    found-at {spots} f = record {
+      is = λ r there.
+          subst (λ (j : ℕ). Found (take (w .to) b) (w .from) j (getD spots i 0))
+          (stands .number-is ∙ ap (λ (x : Row). x .rounding) (there-same (stands .there) there)) (f .each i l);
+    }
 
-pub held-few : {slots : List Seen} {names : ℕ} {ats places : List ℕ} {n : ℕ} → HeldIn slots names ats places n → n ≤ 99
+pub held-few : {slots : List Seen} {names : ℕ} {ats places numbers : List ℕ} {n : ℕ} → HeldIn slots names ats places numbers n → n ≤ 99
 held-few h = h .few
 
 -- ---- by a walk over a window of the book

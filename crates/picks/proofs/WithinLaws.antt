@@ -48,6 +48,7 @@ module _ {w : List ℕ} {n : ℕ} (fits : n ≤ length w) where
     there = there-whole (x .there);
     upto = x .upto;
     from = x .from;
+    rounding = x .rounding;
   })
 
   seen-whole : {s : Seen} {state : Choice.Seen} → SeenIs (take n w) s state → SeenIs w s state

@@ -36,10 +36,6 @@ pub record Held (b : List ℕ) (at : ℕ) : Type 0 where
   pub row : Row
   pub there : RowThere b at row
 
-pub record AllHeld (b ats : List ℕ) (n : ℕ) : Type 0 where
-  pub few : n ≤ 99
-  pub each : (k : ℕ) → k < n → Held b (getD ats k 0)
-
 -- `r` is read from the record there
 pub record RowAt (b : List ℕ) (at : ℕ) (r : PriceRow) : Type 0 where
   pub end : ℕ
@@ -47,13 +43,6 @@ pub record RowAt (b : List ℕ) (at : ℕ) (r : PriceRow) : Type 0 where
   pub is : RowIs (part b (at + 2) end) r
 
 -- ---- roundings
-
--- the k-th number is that of the rounding that the row at the k-th of the places names
-pub record NumberIs (b ats numbers : List ℕ) (k : ℕ) : Type 0 where
-  pub is : (r : Row) → RowThere b (getD ats k 0) r → getD numbers k 0 ≡ r .rounding
-
-pub record NumbersAre (b ats : List ℕ) (n : ℕ) (numbers : List ℕ) : Type 0 where
-  pub each : (k : ℕ) → k < n → NumberIs b ats numbers k
 
 -- at `found` stands the rounding of the row at `at`, in the window of the roundings
 pub record RowFound (b : List ℕ) (w : Window) (at found : ℕ) : Type 0 where

@@ -1,4 +1,4 @@
-// Where the chosen rows stand in the book, slot after slot, and at which places of the granted names.
+// Where the chosen rows stand in the book, slot after slot, at which places of the granted names, and the numbers of their roundings.
 use choice::hands::Hand;
 use choice::hands::Seen;
 use choice::hands::taken;
@@ -35,11 +35,13 @@ pub fn held_in(
     names: usize,
     ats: &mut [usize; 99],
     places: &mut [u8; 99],
+    numbers: &mut [u16; 99],
 ) -> usize
     requires { ⌜ names ≤ 32 ⌝ }
     requires { ⌜ length (now ats) ≡ 99 ⌝ }
     requires { ⌜ length (now places) ≡ 99 ⌝ }
-    ensures { λ r. ⌜ HeldIn slots names (now (ats .exit)) (now (places .exit)) r ⌝ }
+    requires { ⌜ length (now numbers) ≡ 99 ⌝ }
+    ensures { λ r. ⌜ HeldIn slots names (now (ats .exit)) (now (places .exit)) (now (numbers .exit)) r ⌝ }
 {
     let mut n = 0;
     let mut i = 0;
@@ -48,6 +50,7 @@ pub fn held_in(
         let hand = taken(slots[i]);
         ats[n] = hand.at;
         places[n] = place as u8;
+        numbers[n] = hand.rounding;
         n = n + counted(hand);
         i = i + step(place, names);
         place = next_place(place, names);

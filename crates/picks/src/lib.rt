@@ -21,7 +21,7 @@ use survey::window::Window;
 ghost use Prim.Native.Nat.{_≤_};
 ghost use Rattle.grants.specs.Asks.{Asked};
 ghost use Rattle.survey.specs.Window.{Windows};
-ghost use Rattle.picks.specs.Picks.{RoundingsIn, Held, AllHeld, RowAt, NumbersAre, RowFound, RowPicked, Filled, PicksFrom, PickedFor};
+ghost use Rattle.picks.specs.Picks.{RoundingsIn, Held, RowAt, RowFound, RowPicked, Filled, PicksFrom, PickedFor};
 
 // The first n of the rows count.
 pub struct Picks {
@@ -53,21 +53,6 @@ fn row_at(b: &[u8], at: usize) -> PriceRow
     let end = record_stop(b, at);
     let start = at + 2;
     records::row_of(&b[start..end])
-}
-
-// The numbers of the roundings that the first n rows name.
-fn numbers_of(b: &[u8], ats: &[usize; 99], n: usize) -> [u16; 99]
-    requires { ⌜ AllHeld (now b) (now ats) n ⌝ }
-    ensures { λ r. ⌜ NumbersAre (now (b .entry)) (now (ats .entry)) n r ⌝ }
-{
-    let mut numbers = [0; 99];
-    let mut i = 0;
-    while i < n {
-        let row = row_at(b, ats[i]);
-        numbers[i] = row.rounding;
-        i += 1;
-    }
-    numbers
 }
 
 // The row that stands at `at`, with the rounding that was found at `found`.
@@ -102,8 +87,8 @@ fn picks_from(b: &[u8], slots: [Seen; 100], window: Window, names: usize) -> Pic
 {
     let mut ats = [0; 99];
     let mut places = [0; 99];
-    let n = held_in(slots, names, &mut ats, &mut places);
-    let numbers = numbers_of(b, &ats, n);
+    let mut numbers = [0; 99];
+    let n = held_in(slots, names, &mut ats, &mut places, &mut numbers);
     let to = window.to;
     let spots = rounding_spots(&b[..to], window.from, numbers, n);
     let mut rows = [NONE; 99];

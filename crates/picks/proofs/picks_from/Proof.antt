@@ -3,11 +3,11 @@
 use Prim.Native.Nat.{_-_}
 use Rattle.picks.specs.Picks.{PicksSoFar}
 use borrow.Author.Needs.{needs}
-use Rattle.picks.proofs.PickLaws.{filled-roundings, filled-few, filled-held, filled-between, filled-long, held-at, held-few, found-at, picks-start, picks-turn, picks-end}
+use Rattle.picks.proofs.PickLaws.{filled-roundings, filled-few, filled-between, filled-long, held-at, held-few, found-at, picks-start, picks-turn, picks-end}
 use Rattle.picks.proofs.picks_from.Statement.{statement}
 use Rattle.picks.proofs.picks_from.Tie as tie
 
-ruleset laws = (needs, filled-roundings, filled-few, filled-held, filled-between, filled-long, held-at, held-few, found-at, picks-start, picks-turn, picks-end)
+ruleset laws = (needs, filled-roundings, filled-few, filled-between, filled-long, held-at, held-few, found-at, picks-start, picks-turn, picks-end)
 
 abbrev Inv-loop : tie.InvT-loop
 Inv-loop b window names ats places n to spots rows₀ i₀ rows i = PicksSoFar b ats places rows i
@@ -18,10 +18,11 @@ abbrev μ-loop : tie.MeasureT-loop
 row-pick-requires : tie.Need-row-pick-requires Inv-loop μ-loop
 row-pick-requires c κs =
     let spotted = c .before .before in
-    let numbered = spotted .before .before in
-    let held = numbered .before .before in
-    let pre = held .before .before .before .before .pre in
-    (filled-roundings pre, (held-at (filled-held pre (held .held-in .ensures)) (c .loop-test .taken), found-at (numbered .numbers-of .ensures) (spotted .rounding-spots .ensures) (c .loop-test .taken)))
+    let held = spotted .before .before in
+    let pre = held .before .before .before .before .before .pre in
+    let told = held .held-in .ensures in
+    let l = c .loop-test .taken in
+    (filled-roundings pre, (held-at pre told l, found-at pre told l (spotted .rounding-spots .ensures)))
 
 pub picks-from-spec : {M : Type 1} → statement M
 picks-from-spec =
@@ -30,7 +31,6 @@ picks-from-spec =
     Inv-loop
     μ-loop
     (λ c κs. search laws)  -- held-in-requires
-    (λ c κs. search laws)  -- numbers-of-requires
     (λ c. search laws)  -- slice-aggregate-rounding-spots
     (λ c κs. search laws)  -- rounding-spots-requires
     (λ c. search laws)  -- loop-holds

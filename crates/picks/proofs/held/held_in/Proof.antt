@@ -9,10 +9,10 @@ use Rattle.picks.proofs.held.held_in.Tie as tie
 ruleset laws = (needs, hold-start, hold-turn, hold-end)
 
 abbrev Inv-loop : tie.InvT-loop
-Inv-loop names ats₀ places₀ slots n₀ i₀ place₀ ats places n i place = Holding slots names ats places n i place
+Inv-loop names ats₀ places₀ numbers₀ slots n₀ i₀ place₀ ats places numbers n i place = Holding slots names ats places numbers n i place
 
 abbrev μ-loop : tie.MeasureT-loop
-μ-loop names ats₀ places₀ slots n₀ i₀ place₀ ats places n i place = 99 - i
+μ-loop names ats₀ places₀ numbers₀ slots n₀ i₀ place₀ ats places numbers n i place = 99 - i
 
 pub held-in-spec : {M : Type 1} → statement M
 held-in-spec =
@@ -20,7 +20,7 @@ held-in-spec =
     (tie.spec
     Inv-loop
     μ-loop
-    (λ c. hold-start _ _ _ _ (search needs) (search needs))  -- loop-holds
+    (λ c. hold-start _ _ _ _ _ (search needs) (search needs) (search needs))  -- loop-holds
     (λ c. search needs)  -- mul-taken
     (λ c. search needs)  -- array-copy-out-taken
     (λ c κs. search laws)  -- taken-requires
@@ -28,6 +28,8 @@ held-in-spec =
     (λ c. search needs)  -- element-write-ats
     (λ c. search needs)  -- cast-places
     (λ c. search needs)  -- element-write-places
+    (λ c. search needs)  -- mul-numbers
+    (λ c. search needs)  -- element-write-numbers
     (λ c κs. search laws)  -- counted-requires
     (λ c. search needs)  -- add-n
     (λ c κs. search laws)  -- step-requires
