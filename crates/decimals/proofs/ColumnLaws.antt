@@ -159,25 +159,25 @@ module _ (n : ℕ) where
     plus-put {old} {new} {at} {r} p = subst (λ (s : List ℕ). PutsTo old at (ended s) new r) (sym value-plus) p
 
   module _ (h : 2147483648 ≤ n) (g : n < 4294967296) where
-    value-minus : valueText (signedOf 4 n) ≡ 45 ∷ centsText (4294967296 - n)
+    value-minus : valueText (signedOf 4 n) ≡ 45 ∷ centsText (4294967295 - n + 1)
     unfolding valueText
     value-minus =
-        let e : suc (4294967295 - n) ≡ 4294967296 - n = omega arith in
+        let e : suc (4294967295 - n) ≡ 4294967295 - n + 1 = omega arith in
         ap (λ (b : Bool). valueText (cond b (pos n) (negsuc (4294967295 - n)))) (le-ltb n 2147483648 h) ∙ ap (λ (k : ℕ). 45 ∷ centsText k) e
 
-    minus-length : length (ended (valueText (signedOf 4 n))) ≡ 1 + length (ended (centsText (4294967296 - n)))
+    minus-length : length (ended (valueText (signedOf 4 n))) ≡ 1 + length (ended (centsText (4294967295 - n + 1)))
     unfolding ended
     minus-length = ap (λ (s : List ℕ). length (ended s)) value-minus ∙ omega arith
 
-    pub minus-size : {m : ℕ} → Number (length (decimal ((4294967296 - n) / 100))) 21 m → Number (length (ended (valueText (signedOf 4 n)))) 30 (m + 5)
-    minus-size p = record { is = omega (arith, p .is, cents-length (4294967296 - n), minus-length); below = omega (arith, p .below) }
+    pub minus-size : {m : ℕ} → Number (length (decimal ((4294967295 - n + 1) / 100))) 21 m → Number (length (ended (valueText (signedOf 4 n)))) 30 (m + 5)
+    minus-size p = record { is = omega (arith, p .is, cents-length (4294967295 - n + 1), minus-length); below = omega (arith, p .below) }
 
     module _ {out : List ℕ} {at : ℕ} (p : RoomFor out at (ended (valueText (signedOf 4 n)))) where
       module _ {b : List ℕ} {m : ℕ} (d : PutsTo out at (45 ∷ []) b m) where
-        pub minus-room : RoomFor b m (ended (centsText (4294967296 - n)))
+        pub minus-room : RoomFor b m (ended (centsText (4294967295 - n + 1)))
         minus-room = record { room = omega (arith, p .room, minus-length, d .ends, d .puts .long) }
 
-        pub minus-put : {new : List ℕ} {r : ℕ} → PutsTo b m (ended (centsText (4294967296 - n))) new r
+        pub minus-put : {new : List ℕ} {r : ℕ} → PutsTo b m (ended (centsText (4294967295 - n + 1))) new r
             → PutsTo out at (ended (valueText (signedOf 4 n))) new r
         unfolding ended
         minus-put {new} {r} q = subst (λ (s : List ℕ). PutsTo out at (ended s) new r) (sym value-minus) (to-then d q)

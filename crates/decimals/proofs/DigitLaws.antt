@@ -3,8 +3,9 @@ use Prim.Native.Nat.{ℕ, zero, suc, _+_, _*_, _-_, _/_, _%_, _^_, _≤_, _<_}
 use mathlib.Core.Path.{_≡_, refl, sym, _∙_, ap, subst}
 use mathlib.Core.Bool.{Bool, true, false}
 use mathlib.Core.List.{List, [], _∷_, _++_, append-assoc, append-nil}
+use mathlib.Core.Logic.{_⊎_, inl, inr}
 use native.Mathlib.Omega.{arith}
-use native.Mathlib.Nat.{pow-succ'}
+use native.Mathlib.Nat.{pow-succ', suc-add, one-le-pow}
 use lib.Dec.{ltb}
 use lib.ListN.{length, set, length-append, length-set}
 use lib.Seq.{sets, set-comm}
@@ -29,21 +30,49 @@ module _ (k n : ℕ) where
   one-longer : 10 ≤ n → length (digits (suc k) n) ≡ length (digits k (n / 10)) + 1
   one-longer h = ap length (digits-more h) ∙ length-append (digits k (n / 10)) ((48 + n % 10) ∷ [])
 
-pub count-start : (n : ℕ) → n < 18446744073709551616 → Counting n n 1
-count-start n h = record { more = 19; is = omega arith; small = omega arith; few = refl }
+-- from 10 ^ m to 10 ^ suc m, without the latter
+length-by : (m k n : ℕ) → 10 ^ m ≤ n → n < 10 ^ suc m → length (digits (suc m + k) n) ≡ suc m
+length-by zero k n l h = ap (λ (j : ℕ). length (digits j n)) (suc-add zero k) ∙ ap length (digits-one (0 + k) n h)
+length-by (suc m) k n l h =
+    let e : 10 ^ suc m ≡ 10 * 10 ^ m = pow-succ' 10 m in
+    let f : 10 ^ suc (suc m) ≡ 10 * 10 ^ suc m = pow-succ' 10 (suc m) in
+    let one : 1 ≤ 10 ^ m = one-le-pow m 10 (omega arith) in
+    ap (λ (j : ℕ). length (digits j n)) (suc-add (suc m) k)
+    ∙ (one-longer (suc m + k) n (omega arith) ∙ omega (arith, length-by m k (n / 10) (omega arith) (omega arith)))
 
-module _ {n left k : ℕ} (p : Counting n left k) where
-  pub count-on : 10 ≤ left → Counting n (left / 10) (k + 1)
-  count-on h = by (p .more) (p .is) (p .small) (p .few)
+pub count-start : (n : ℕ) → Counting n 10 1
+count-start n = record { before = 0; is = refl; power = refl; low = inl refl; few = omega arith }
+
+module _ {n top k : ℕ} (p : Counting n top k) where
+  pub count-on : n < 4294967296 → top ≤ n → Counting n (top * 10) (k + 1)
+  count-on h g = record {
+    before = suc (p .before);
+    is = omega (arith, p .is);
+    power = omega (arith, p .power, pow-succ' 10 (suc (p .before)));
+    low = inr (omega (arith, p .power));
+    few = omega (arith, p .few, not-ten);
+  }
     where
-      by : (m : ℕ) → length (decimal n) + 1 ≡ k + length (digits (suc m) left) → left < 10 ^ suc m → k + m ≡ 20 → Counting n (left / 10) (k + 1)
-      by zero i s f = absurd (omega arith)
-      by (suc m) i s f =
-          let e : 10 ^ suc (suc m) ≡ 10 * 10 ^ suc m = pow-succ' 10 (suc m) in
-          record { more = m; is = omega (arith, i, one-longer (suc m) left h); small = omega arith; few = omega arith }
+      not-ten : k ≡ 10 → ⊥
+      not-ten e =
+          let f : 10 ^ suc (p .before) ≡ 10000000000 = let i : suc (p .before) ≡ 10 = omega (arith, p .is) in ap (λ (j : ℕ). 10 ^ j) i in
+          omega (arith, p .power)
 
-  pub count-end : left < 10 → Number (length (decimal n)) 21 k
-  count-end h = record { is = omega (arith, p .is, ap length (digits-one (p .more) left h)); below = omega (arith, p .few) }
+  pub count-end : n < top → Number (length (decimal n)) 21 k
+  count-end h = record { is = by (p .low) ∙ sym (ap length all-of); below = omega (arith, p .few) }
+    where
+      all-of : decimal n ≡ digits (suc (p .before) + (20 - k)) n
+      all-of = let e : 20 ≡ suc (p .before) + (20 - k) = omega (arith, p .is, p .few) in ap (λ (j : ℕ). digits j n) e
+
+      small : n < 10 ^ suc (p .before)
+      small = omega (arith, p .power)
+
+      by : (p .before ≡ 0) ⊎ (10 ^ p .before ≤ n) → k ≡ length (digits (suc (p .before) + (20 - k)) n)
+      by (inr l) = p .is ∙ sym (length-by (p .before) (20 - k) n l small)
+      by (inl z) =
+          let t : n < 10 = let i : 10 ^ suc (p .before) ≡ 10 = ap (λ (j : ℕ). 10 ^ suc j) z in omega (arith, small) in
+          let e : suc (p .before) + (20 - k) ≡ suc (p .before + (20 - k)) = suc-add (p .before) (20 - k) in
+          omega (arith, p .is, z, ap (λ (j : ℕ). length (digits j n)) e, ap length (digits-one (p .before + (20 - k)) n t))
 
 -- ---- all of them are the last ones, as many as they are
 
@@ -105,7 +134,7 @@ module _ {old : List ℕ} {at k n : ℕ} where
           long = length-set out (at + (i - 1)) (48 + left % 10) ∙ p .long;
         }
 
-    pub fill-end : at + k ≤ length old → i ≤ 0 → PutsTo old at (digitsOf k n) out (at + k)
+    fill-end : at + k ≤ length old → i ≤ 0 → PutsTo old at (digitsOf k n) out (at + k)
     unfolding digitsOf
     fill-end g h =
         let e : i ≡ 0 = omega arith in
@@ -117,6 +146,34 @@ module _ {old : List ℕ} {at k n : ℕ} where
               (puts-of (omega (arith, p .few)) (p .stored ∙ ap (λ (j : ℕ). sets old j (p .done)) f));
           ends = omega (arith, ap length d, p .few);
         }
+
+module _ {old : List ℕ} {at k n : ℕ} {out : List ℕ} {left i : ℕ} (p : Filling old at k n out left i) where
+  pub fill-inside : (x y : ℕ) → at + k ≤ length old → 1 < i → at + (i - 2) < length (set out x y)
+  fill-inside x y g h = omega (arith, length-set out x y, p .long, p .few)
+
+  -- two at a time
+  pub fill-two : 1 < i
+      → Filling old at k n (set (set out (at + (i - 2) + 1) (48 + left % 100 % 10)) (at + (i - 2)) (48 + left % 100 / 10)) (left / 100) (i - 2)
+  fill-two h =
+      let two = fill-on (fill-on p (omega arith)) (omega arith) in
+      let a : at + (i - 1) ≡ at + (i - 2) + 1 = omega arith in
+      let b : left % 10 ≡ left % 100 % 10 = omega arith in
+      let c : i - 1 - 1 ≡ i - 2 = omega arith in
+      let d : left / 10 % 10 ≡ left % 100 / 10 = omega arith in
+      let e : left / 10 / 10 ≡ left / 100 = omega arith in
+      subst (λ (y : ℕ). Filling old at k n (set (set out (at + (i - 2) + 1) (48 + left % 100 % 10)) (at + (i - 2)) (48 + left % 100 / 10)) y (i - 2)) e
+      (subst (λ (y : ℕ). Filling old at k n (set (set out (at + (i - 2) + 1) (48 + left % 100 % 10)) (at + (i - 2)) (48 + y)) (left / 10 / 10) (i - 2)) d
+      (subst (λ (y : ℕ). Filling old at k n (set (set out (at + (i - 2) + 1) (48 + left % 100 % 10)) (at + y) (48 + left / 10 % 10)) (left / 10 / 10) y) c
+      (subst (λ (y : ℕ). Filling old at k n (set (set out (at + (i - 2) + 1) (48 + y)) (at + (i - 1 - 1)) (48 + left / 10 % 10)) (left / 10 / 10) (i - 1 - 1)) b
+      (subst (λ (y : ℕ). Filling old at k n (set (set out y (48 + left % 10)) (at + (i - 1 - 1)) (48 + left / 10 % 10)) (left / 10 / 10) (i - 1 - 1)) a two))))
+
+  pub fill-done : at + k ≤ length old → i < 1 → PutsTo old at (digitsOf k n) out (at + k)
+  fill-done g h = fill-end p g (omega arith)
+
+  pub fill-last : at + k ≤ length old → i ≤ 1 → 1 ≤ i → PutsTo old at (digitsOf k n) (set out at (48 + left % 10)) (at + k)
+  fill-last g h l =
+      let e : at + (i - 1) ≡ at = omega arith in
+      subst (λ (y : ℕ). PutsTo old at (digitsOf k n) (set out y (48 + left % 10)) (at + k)) e (fill-end (fill-on p (omega arith)) g (omega arith))
 
 -- ---- all of them
 

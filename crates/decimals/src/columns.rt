@@ -22,13 +22,13 @@ pub fn put_byte(out: &mut [u8], at: usize, byte: u8) -> usize
 
 // ---- a quantity
 
-pub fn quantity_size(n: u64) -> usize
+pub fn quantity_size(n: u32) -> usize
     ensures { λ r. ⌜ Number (length (ended (decimal n))) 22 r ⌝ }
 {
     digit_count(n) + 1
 }
 
-pub fn put_quantity(out: &mut [u8], at: usize, n: u64) -> usize
+pub fn put_quantity(out: &mut [u8], at: usize, n: u32) -> usize
     requires { ⌜ RoomFor (now out) at (ended (decimal n)) ⌝ }
     ensures { λ r. ⌜ PutsTo (now (out .entry)) at (ended (decimal n)) (now (out .exit)) r ⌝ }
 {
@@ -38,7 +38,7 @@ pub fn put_quantity(out: &mut [u8], at: usize, n: u64) -> usize
 
 // ---- a text's number: 0 is blank
 
-pub fn text_size(n: u64) -> usize
+pub fn text_size(n: u32) -> usize
     ensures { λ r. ⌜ Number (length (ended (textText n))) 22 r ⌝ }
 {
     if n < 1 {
@@ -47,7 +47,7 @@ pub fn text_size(n: u64) -> usize
     quantity_size(n)
 }
 
-pub fn put_text(out: &mut [u8], at: usize, n: u64) -> usize
+pub fn put_text(out: &mut [u8], at: usize, n: u32) -> usize
     requires { ⌜ RoomFor (now out) at (ended (textText n)) ⌝ }
     ensures { λ r. ⌜ PutsTo (now (out .entry)) at (ended (textText n)) (now (out .exit)) r ⌝ }
 {
@@ -59,13 +59,13 @@ pub fn put_text(out: &mut [u8], at: usize, n: u64) -> usize
 
 // ---- a date of eight digits: 0 is blank
 
-pub fn date_size(n: u64) -> usize
+pub fn date_size(n: u32) -> usize
     ensures { λ r. ⌜ Number (length (ended (dateText n))) 10 r ⌝ }
 {
     if n < 1 { 1 } else { 9 }
 }
 
-pub fn put_date(out: &mut [u8], at: usize, n: u64) -> usize
+pub fn put_date(out: &mut [u8], at: usize, n: u32) -> usize
     requires { ⌜ RoomFor (now out) at (ended (dateText n)) ⌝ }
     ensures { λ r. ⌜ PutsTo (now (out .entry)) at (ended (dateText n)) (now (out .exit)) r ⌝ }
 {
@@ -78,7 +78,7 @@ pub fn put_date(out: &mut [u8], at: usize, n: u64) -> usize
 
 // ---- a value with two decimals, by the unsigned number of its four bytes
 
-fn put_cents(out: &mut [u8], at: usize, n: u64) -> usize
+fn put_cents(out: &mut [u8], at: usize, n: u32) -> usize
     requires { ⌜ RoomFor (now out) at (ended (centsText n)) ⌝ }
     ensures { λ r. ⌜ PutsTo (now (out .entry)) at (ended (centsText n)) (now (out .exit)) r ⌝ }
 {
@@ -88,18 +88,16 @@ fn put_cents(out: &mut [u8], at: usize, n: u64) -> usize
     put_byte(out, end, b';')
 }
 
-pub fn value_size(n: u64) -> usize
-    requires { ⌜ n < 4294967296 ⌝ }
+pub fn value_size(n: u32) -> usize
     ensures { λ r. ⌜ Number (length (ended (valueText (signedOf 4 n)))) 30 r ⌝ }
 {
     if n < 2147483648 {
         return digit_count(n / 100) + 4;
     }
-    digit_count((4294967296 - n) / 100) + 5
+    digit_count((4294967295 - n + 1) / 100) + 5
 }
 
-pub fn put_value(out: &mut [u8], at: usize, n: u64) -> usize
-    requires { ⌜ n < 4294967296 ⌝ }
+pub fn put_value(out: &mut [u8], at: usize, n: u32) -> usize
     requires { ⌜ RoomFor (now out) at (ended (valueText (signedOf 4 n))) ⌝ }
     ensures { λ r. ⌜ PutsTo (now (out .entry)) at (ended (valueText (signedOf 4 n))) (now (out .exit)) r ⌝ }
 {
@@ -107,5 +105,5 @@ pub fn put_value(out: &mut [u8], at: usize, n: u64) -> usize
         return put_cents(out, at, n);
     }
     let from = put_byte(out, at, b'-');
-    put_cents(out, from, 4294967296 - n)
+    put_cents(out, from, 4294967295 - n + 1)
 }

@@ -24,7 +24,7 @@ module _ {t : List ℕ} {p : ℕ} where
       → Number (numberAt 2 t (p + 27)) 65536 rounding
       → TermsAre t p (record { text = text; value = value; from = from; to = to; upto = upto; rounding = rounding })
   terms-are a b c d e f =
-      record { text = a .is; value = b .is; from = c .is; to = d .is; upto = e .is; rounding = f .is; value-below = b .below }
+      record { text = a .is; value = b .is; from = c .is; to = d .is; upto = e .is; rounding = f .is }
 
 pub flag-none : {b : ℕ} → b ≡ 0 → Number (flagDigit b) 256 48
 flag-none e = record { is = sym (ap flagDigit e); below = omega arith }

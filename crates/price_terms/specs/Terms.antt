@@ -21,7 +21,6 @@ pub record TermsAre (t : List ℕ) (p : ℕ) (r : Terms) : Type 0 where
   pub to : r .to ≡ numberAt 4 t (p + 19)
   pub upto : r .upto ≡ numberAt 4 t (p + 23)
   pub rounding : r .rounding ≡ numberAt 2 t (p + 27)
-  pub value-below : r .value < 4294967296
 
 abbrev pub fitTerms : Terms → Bool
 fitTerms r = eqb (r .rounding) 0 && (leb (r .from) 99_999_999 && leb (r .to) 99_999_999)

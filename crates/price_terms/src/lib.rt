@@ -21,19 +21,19 @@ ghost use Rattle.price_terms.specs.Terms.{fitTerms, flagDigit, kindText,
 
 // The value by the unsigned number of its four bytes.
 pub struct Terms {
-    pub text: u64,
-    pub value: u64,
-    pub from: u64,
-    pub to: u64,
-    pub upto: u64,
-    pub rounding: u64,
+    pub text: u32,
+    pub value: u32,
+    pub from: u32,
+    pub to: u32,
+    pub upto: u32,
+    pub rounding: u16,
 }
 
-fn word(t: &[u8], at: usize) -> u64
+fn word(t: &[u8], at: usize) -> u32
     requires { ⌜ at + 4 ≤ length (now t) ⌝ }
     ensures { λ r. ⌜ Number (numberAt 4 (now (t .entry)) at) 4294967296 r ⌝ }
 {
-    four_at(t, at) as u64
+    four_at(t, at) as u32
 }
 
 // Of the record t, whose names end at p.
@@ -47,7 +47,7 @@ pub fn terms_of(t: &[u8], p: usize) -> Terms
         from: word(t, p + 15),
         to: word(t, p + 19),
         upto: word(t, p + 23),
-        rounding: two_at(t, p + 27) as u64,
+        rounding: two_at(t, p + 27) as u16,
     }
 }
 
@@ -60,7 +60,6 @@ pub fn fits_line(terms: Terms) -> bool
 
 // The bytes of all columns behind the names, and of the line's end. Five columns have one byte each, the currency has three.
 pub fn terms_size(terms: Terms) -> usize
-    requires { ⌜ terms .value < 4294967296 ⌝ }
     ensures { λ r. ⌜ SizeIs terms r ⌝ }
 {
     let text = text_size(terms.text);
@@ -88,7 +87,7 @@ fn flag_digit(flag: u8) -> u8
 }
 
 // Sort, level, rule, and the text's number.
-pub fn put_kinds(out: &mut [u8], at: usize, t: &[u8], p: usize, text: u64) -> usize
+pub fn put_kinds(out: &mut [u8], at: usize, t: &[u8], p: usize, text: u32) -> usize
     requires { ⌜ p + 29 ≤ length (now t) ⌝ }
     requires { ⌜ getD (now t) (p + 2) 0 < 10 ⌝ }
     requires { ⌜ RoomFor (now out) at (kindText (now t) p text) ⌝ }
@@ -101,8 +100,7 @@ pub fn put_kinds(out: &mut [u8], at: usize, t: &[u8], p: usize, text: u64) -> us
 }
 
 // Value, flag and currency.
-fn put_worth(out: &mut [u8], at: usize, value: u64, flag: u8, currency: &[u8]) -> usize
-    requires { ⌜ value < 4294967296 ⌝ }
+fn put_worth(out: &mut [u8], at: usize, value: u32, flag: u8, currency: &[u8]) -> usize
     requires { ⌜ RoomFor (now out) at (worthBy value flag (now currency)) ⌝ }
     ensures { λ r. ⌜ PutsTo (now (out .entry)) at (worthBy value flag (now (currency .entry))) (now (out .exit)) r ⌝ }
 {
@@ -113,7 +111,7 @@ fn put_worth(out: &mut [u8], at: usize, value: u64, flag: u8, currency: &[u8]) -
 }
 
 // Both dates, the quantity, no rounding, and the line's end.
-fn put_span(out: &mut [u8], at: usize, from: u64, to: u64, upto: u64) -> usize
+fn put_span(out: &mut [u8], at: usize, from: u32, to: u32, upto: u32) -> usize
     requires { ⌜ RoomFor (now out) at (spanText from to upto) ⌝ }
     ensures { λ r. ⌜ PutsTo (now (out .entry)) at (spanText from to upto) (now (out .exit)) r ⌝ }
 {
@@ -126,7 +124,6 @@ fn put_span(out: &mut [u8], at: usize, from: u64, to: u64, upto: u64) -> usize
 // All that stands behind the text's number.
 pub fn put_tail(out: &mut [u8], at: usize, t: &[u8], p: usize, terms: Terms) -> usize
     requires { ⌜ p + 29 ≤ length (now t) ⌝ }
-    requires { ⌜ terms .value < 4294967296 ⌝ }
     requires { ⌜ RoomFor (now out) at (tailText (now t) p terms) ⌝ }
     ensures { λ r. ⌜ PutsTo (now (out .entry)) at (tailText (now (t .entry)) p terms) (now (out .exit)) r ⌝ }
 {

@@ -81,6 +81,9 @@ module _ {t : List ℕ} {a p : ℕ} (k : Priced t a p) where
   rule-small : getD t (p + 2) 0 < 10
   rule-small = two-cases (λ (n : ℕ). n < 10) 1 2 (omega arith) (omega arith) (getD t (p + 2) 0) (row-rule t a p (k .here) .is)
 
+  pub ready : Ready t p
+  ready = record { there = terms-there; digit = rule-small }
+
   pub short-article : length (part t 2 a) < 256
   short-article =
       omega (arith, length-take-le (a - 2) (drop 2 t) (omega (arith, length-drop 2 t, k .here .middle, k .here .long)), k .short, k .here .low)
@@ -104,9 +107,6 @@ names-size {t} {a} {p} k x y = record {
 -- ---- the line
 
 module _ {t : List ℕ} {a p : ℕ} (k : Priced t a p) {r : Terms} (m : TermsAre t p r) where
-  pub ready : Ready t p r
-  ready = record { there = terms-there k; digit = rule-small k; value = m .value-below }
-
   line-length : length (lineOf t) ≡ length (namesText t a p) + (length (kindText t p (r .text)) + length (tailText t p r))
   line-length =
       ap length (line-as t a p (k .here) m)

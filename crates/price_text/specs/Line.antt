@@ -35,10 +35,9 @@ pub record Priced (t : List ℕ) (a p : ℕ) : Type 0 where
   pub brief : p < a + 257
 
 -- the terms behind p are there, and can be written
-pub record Ready (t : List ℕ) (p : ℕ) (r : Terms) : Type 0 where
+pub record Ready (t : List ℕ) (p : ℕ) : Type 0 where
   pub there : p + 29 ≤ length t
   pub digit : getD t (p + 2) 0 < 10
-  pub value : r .value < 4294967296
 
 -- ---- the line's parts
 

@@ -84,7 +84,7 @@ fn put_names(out: &mut [u8], at: usize, t: &[u8], condition: usize, p: usize) ->
 }
 
 fn put_terms(out: &mut [u8], at: usize, t: &[u8], p: usize, terms: Terms) -> usize
-    requires { ⌜ Ready (now t) p terms ⌝ }
+    requires { ⌜ Ready (now t) p ⌝ }
     requires { ⌜ RoomFor (now out) at (termText (now t) p terms) ⌝ }
     ensures { λ r. ⌜ PutsTo (now (out .entry)) at (termText (now (t .entry)) p terms) (now (out .exit)) r ⌝ }
 {

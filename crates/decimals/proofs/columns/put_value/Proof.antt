@@ -15,6 +15,7 @@ put-value-spec =
     (λ c. search laws)  -- returns
     (λ c κs. search laws)  -- put-byte-requires
     (λ c. search needs)  -- sub-put-cents
+    (λ c. search needs)  -- add-put-cents
     (λ c κs. search laws)  -- put-cents-requires-2
     (λ c. search needs)  -- same-length-2
     (λ c. search laws))  -- returns-2

@@ -14,6 +14,7 @@ value-size-spec =
     (λ c. search needs)  -- add-result
     (λ c. search laws)  -- returns
     (λ c. search needs)  -- sub-digit-count
+    (λ c. search needs)  -- add-digit-count
     (λ c κs. search laws)  -- digit-count-requires-2
     (λ c. search needs)  -- add-result-2
     (λ c. search laws))  -- returns-2
