@@ -169,7 +169,8 @@ module _ (n : ℕ) where
     unfolding ended
     minus-length = ap (λ (s : List ℕ). length (ended s)) value-minus ∙ omega arith
 
-    pub minus-size : {m : ℕ} → Number (length (decimal ((4294967295 - n + 1) / 100))) 21 m → Number (length (ended (valueText (signedOf 4 n)))) 30 (m + 5)
+    pub minus-size : {m : ℕ} → Number (length (decimal ((4294967295 - n + 1) / 100))) 21 m
+        → Number (length (ended (valueText (signedOf 4 n)))) 30 (m + 5)
     minus-size p = record { is = omega (arith, p .is, cents-length (4294967295 - n + 1), minus-length); below = omega (arith, p .below) }
 
     module _ {out : List ℕ} {at : ℕ} (p : RoomFor out at (ended (valueText (signedOf 4 n)))) where

@@ -152,20 +152,23 @@ module _ {old : List ℕ} {at k n : ℕ} {out : List ℕ} {left i : ℕ} (p : Fi
   fill-inside x y g h = omega (arith, length-set out x y, p .long, p .few)
 
   -- two at a time
+  abbrev Two : ℕ → ℕ → ℕ → ℕ → ℕ → Type 0
+  Two place last front rest j = Filling old at k n (set (set out place (48 + last)) (at + j) (48 + front)) rest j
+
   pub fill-two : 1 < i
       → Filling old at k n (set (set out (at + (i - 2) + 1) (48 + left % 100 % 10)) (at + (i - 2)) (48 + left % 100 / 10)) (left / 100) (i - 2)
   fill-two h =
-      let two = fill-on (fill-on p (omega arith)) (omega arith) in
+      let two : Two (at + (i - 1)) (left % 10) (left / 10 % 10) (left / 10 / 10) (i - 1 - 1) = fill-on (fill-on p (omega arith)) (omega arith) in
       let a : at + (i - 1) ≡ at + (i - 2) + 1 = omega arith in
       let b : left % 10 ≡ left % 100 % 10 = omega arith in
-      let c : i - 1 - 1 ≡ i - 2 = omega arith in
-      let d : left / 10 % 10 ≡ left % 100 / 10 = omega arith in
-      let e : left / 10 / 10 ≡ left / 100 = omega arith in
-      subst (λ (y : ℕ). Filling old at k n (set (set out (at + (i - 2) + 1) (48 + left % 100 % 10)) (at + (i - 2)) (48 + left % 100 / 10)) y (i - 2)) e
-      (subst (λ (y : ℕ). Filling old at k n (set (set out (at + (i - 2) + 1) (48 + left % 100 % 10)) (at + (i - 2)) (48 + y)) (left / 10 / 10) (i - 2)) d
-      (subst (λ (y : ℕ). Filling old at k n (set (set out (at + (i - 2) + 1) (48 + left % 100 % 10)) (at + y) (48 + left / 10 % 10)) (left / 10 / 10) y) c
-      (subst (λ (y : ℕ). Filling old at k n (set (set out (at + (i - 2) + 1) (48 + y)) (at + (i - 1 - 1)) (48 + left / 10 % 10)) (left / 10 / 10) (i - 1 - 1)) b
-      (subst (λ (y : ℕ). Filling old at k n (set (set out y (48 + left % 10)) (at + (i - 1 - 1)) (48 + left / 10 % 10)) (left / 10 / 10) (i - 1 - 1)) a two))))
+      let c : left / 10 % 10 ≡ left % 100 / 10 = omega arith in
+      let d : left / 10 / 10 ≡ left / 100 = omega arith in
+      let e : i - 1 - 1 ≡ i - 2 = omega arith in
+      subst (λ (y : ℕ). Two (at + (i - 2) + 1) (left % 100 % 10) (left % 100 / 10) (left / 100) y) e
+      (subst (λ (y : ℕ). Two (at + (i - 2) + 1) (left % 100 % 10) (left % 100 / 10) y (i - 1 - 1)) d
+      (subst (λ (y : ℕ). Two (at + (i - 2) + 1) (left % 100 % 10) y (left / 10 / 10) (i - 1 - 1)) c
+      (subst (λ (y : ℕ). Two (at + (i - 2) + 1) y (left / 10 % 10) (left / 10 / 10) (i - 1 - 1)) b
+      (subst (λ (y : ℕ). Two y (left % 10) (left / 10 % 10) (left / 10 / 10) (i - 1 - 1)) a two))))
 
   pub fill-done : at + k ≤ length old → i < 1 → PutsTo old at (digitsOf k n) out (at + k)
   fill-done g h = fill-end p g (omega arith)

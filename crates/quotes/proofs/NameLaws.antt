@@ -15,7 +15,7 @@ use Rattle.layout.specs.Ensures.{Says, Number, PutsTo}
 use Rattle.layout.proofs.StoreLaws.{to-nothing, to-then}
 use Rattle.decimals.specs.Texts.{ended, RoomFor}
 use Rattle.decimals.proofs.ColumnLaws.{ended-length, end-behind}
-use Rattle.quotes.specs.Names.{quotesIn, inside, quoted, textIn, Finding, Doubling}
+use Rattle.quotes.specs.Names.{quotesIn, doubledByte, quoted, textIn, Finding, Doubling}
 
 next : (s : List ℕ) (i : ℕ) → i < length s → drop i s ≡ getD s i 0 ∷ drop (i + 1) s
 next s i h = drop-cons s i 0 h ∙ ap (λ (k : ℕ). getD s i 0 ∷ drop k s) (sym (add-one i))
@@ -57,17 +57,17 @@ module _ (s : List ℕ) (first : Bool) where
 
 -- ---- how long
 
-pub times-two : (b : ℕ) → b ≡ 34 → Number (length (inside b)) 3 2
-unfolding inside
+pub times-two : (b : ℕ) → b ≡ 34 → Number (length (doubledByte b)) 3 2
+unfolding doubledByte
 times-two b e = record { is = sym (ap (λ (t : Bool). length (twiceIf t b [])) (eq-eqb b 34 e)); below = omega arith }
 
-pub times-one : (b : ℕ) → (b ≡ 34 → ⊥) → Number (length (inside b)) 3 1
-unfolding inside
+pub times-one : (b : ℕ) → (b ≡ 34 → ⊥) → Number (length (doubledByte b)) 3 1
+unfolding doubledByte
 times-one b n = record { is = sym (ap (λ (t : Bool). length (twiceIf t b [])) (ne-eqb b 34 n)); below = omega arith }
 
 -- the first byte, once or twice, and the others
-doubled-on : (b : ℕ) (s : List ℕ) → doubled (b ∷ s) ≡ inside b ++ doubled s
-unfolding doubled inside
+doubled-on : (b : ℕ) (s : List ℕ) → doubled (b ∷ s) ≡ doubledByte b ++ doubled s
+unfolding doubled doubledByte
 doubled-on b s = by (eqb b quote)
   where
     by : (t : Bool) → twiceIf t b (doubled s) ≡ twiceIf t b [] ++ doubled s
@@ -75,7 +75,7 @@ doubled-on b s = by (eqb b quote)
     by false = refl
 
 doubled-next : (s : List ℕ) (i : ℕ) → i < length s
-    → doubled (drop i s) ≡ inside (getD s i 0) ++ doubled (drop (i + 1) s)
+    → doubled (drop i s) ≡ doubledByte (getD s i 0) ++ doubled (drop (i + 1) s)
 doubled-next s i h = ap doubled (next s i h) ∙ doubled-on (getD s i 0) (drop (i + 1) s)
 
 doubled-last : (s : List ℕ) (i : ℕ) → length s ≤ i → doubled (drop i s) ≡ []
@@ -87,10 +87,10 @@ module _ (s : List ℕ) where
   double-start = record { is = omega arith; few = omega arith; within = omega arith }
 
   module _ {n i : ℕ} (p : Doubling s n i) where
-    pub double-on : {m : ℕ} → i < length s → Number (length (inside (getD s i 0))) 3 m → Doubling s (n + m) (i + 1)
+    pub double-on : {m : ℕ} → i < length s → Number (length (doubledByte (getD s i 0))) 3 m → Doubling s (n + m) (i + 1)
     double-on h q = record {
       is = omega
-          (arith, p .is, q .is, ap length (doubled-next s i h), length-append (inside (getD s i 0)) (doubled (drop (i + 1) s)));
+          (arith, p .is, q .is, ap length (doubled-next s i h), length-append (doubledByte (getD s i 0)) (doubled (drop (i + 1) s)));
       few = omega (arith, p .few, q .below);
       within = omega arith;
     }
@@ -146,9 +146,9 @@ module _ (first : Bool) (s : List ℕ) {t : Bool} (p : Says (quotesIn first s) t
 
 -- ---- a byte, once or twice
 
-module _ {out : List ℕ} {at : ℕ} (b : ℕ) (r : RoomFor out at (inside b)) where
-  some-byte : 1 ≤ length (inside b)
-  unfolding inside
+module _ {out : List ℕ} {at : ℕ} (b : ℕ) (r : RoomFor out at (doubledByte b)) where
+  some-byte : 1 ≤ length (doubledByte b)
+  unfolding doubledByte
   some-byte = by (eqb b quote)
     where
       by : (t : Bool) → 1 ≤ length (twiceIf t b [])
@@ -163,12 +163,12 @@ module _ {out : List ℕ} {at : ℕ} (b : ℕ) (r : RoomFor out at (inside b)) w
     twice-room e = omega (arith, r .room, p .ends, p .puts .long, times-two b e .is)
 
 pub twice-put : {a b c : List ℕ} {at m n x : ℕ} → x ≡ 34 → PutsTo a at (x ∷ []) b m → PutsTo b m (x ∷ []) c n
-    → PutsTo a at (inside x) c n
-unfolding inside
+    → PutsTo a at (doubledByte x) c n
+unfolding doubledByte
 twice-put {a} {c = c} {at} {n = n} {x} e p q = subst (λ (t : Bool). PutsTo a at (twiceIf t x []) c n) (sym (eq-eqb x 34 e)) (to-then p q)
 
-pub once-put : {a b : List ℕ} {at m x : ℕ} → (x ≡ 34 → ⊥) → PutsTo a at (x ∷ []) b m → PutsTo a at (inside x) b m
-unfolding inside
+pub once-put : {a b : List ℕ} {at m x : ℕ} → (x ≡ 34 → ⊥) → PutsTo a at (x ∷ []) b m → PutsTo a at (doubledByte x) b m
+unfolding doubledByte
 once-put {a} {b} {at} {m} {x} n p = subst (λ (t : Bool). PutsTo a at (twiceIf t x []) b m) (sym (ne-eqb x 34 n)) p
 
 -- ---- byte by byte
@@ -187,13 +187,13 @@ module _ {old : List ℕ} {at : ℕ} {s : List ℕ} where
   module _ {out : List ℕ} {to i : ℕ} (p : Twofold old at s out to i) where
     module _ (h : i < length s) where
       abbrev here : List ℕ
-      here = inside (getD s i 0)
+      here = doubledByte (getD s i 0)
 
       one-more : doubled s ≡ (p .done ++ here) ++ doubled (drop (i + 1) s)
       one-more =
           p .whole ∙ (ap (λ (u : List ℕ). p .done ++ u) (doubled-next s i h) ∙ sym (append-assoc (p .done) here (doubled (drop (i + 1) s))))
 
-      pub fold-room : RoomFor out to (inside (getD s i 0))
+      pub fold-room : RoomFor out to (doubledByte (getD s i 0))
       fold-room = record {
         room = omega (
           arith,
@@ -206,7 +206,7 @@ module _ {old : List ℕ} {at : ℕ} {s : List ℕ} where
         );
       }
 
-      pub fold-on : {new : List ℕ} {r : ℕ} → PutsTo out to (inside (getD s i 0)) new r → Twofold old at s new r (i + 1)
+      pub fold-on : {new : List ℕ} {r : ℕ} → PutsTo out to (doubledByte (getD s i 0)) new r → Twofold old at s new r (i + 1)
       fold-on q = record { done = p .done ++ here; whole = one-more; puts = to-then (p .puts) q; room = p .room }
 
     pub fold-end : length s ≤ i → PutsTo old at (doubled s) out to

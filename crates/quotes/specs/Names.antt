@@ -13,8 +13,8 @@ abbrev pub quotesIn : Bool → List ℕ → Bool
 quotesIn first s = (first && isRemark s) || needsQuotes s
 
 -- a byte between quotes: a quote twice
-unfoldable pub inside : ℕ → List ℕ
-inside b = twiceIf (eqb b quote) b []
+unfoldable pub doubledByte : ℕ → List ℕ
+doubledByte b = twiceIf (eqb b quote) b []
 
 unfoldable pub quoted : List ℕ → List ℕ
 quoted s = inQuotes true s

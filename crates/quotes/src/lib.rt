@@ -8,7 +8,7 @@ ghost use Rattle.rules.specs.Lists.{any};
 ghost use Rattle.file_rules.specs.Fields.{semicolon, doubled};
 ghost use Rattle.layout.specs.Ensures.{Says, Number, PutsTo};
 ghost use Rattle.decimals.specs.Texts.{ended, RoomFor};
-ghost use Rattle.quotes.specs.Names.{quotesIn, inside, quoted, textIn};
+ghost use Rattle.quotes.specs.Names.{quotesIn, doubledByte, quoted, textIn};
 
 // A flag to the end, with no way out before it: many bytes are then tested at a time.
 fn has_semicolon(s: &[u8]) -> bool
@@ -36,7 +36,7 @@ fn needs_quotes(s: &[u8], first: bool) -> bool
 // ---- how many bytes
 
 fn times_of(byte: u8) -> usize
-    ensures { λ r. ⌜ Number (length (inside byte)) 3 r ⌝ }
+    ensures { λ r. ⌜ Number (length (doubledByte byte)) 3 r ⌝ }
 {
     if byte == b'"' { 2 } else { 1 }
 }
@@ -68,8 +68,8 @@ pub fn name_size(s: &[u8], first: bool) -> usize
 
 // A quote twice.
 fn put_times(out: &mut [u8], at: usize, byte: u8) -> usize
-    requires { ⌜ RoomFor (now out) at (inside byte) ⌝ }
-    ensures { λ r. ⌜ PutsTo (now (out .entry)) at (inside byte) (now (out .exit)) r ⌝ }
+    requires { ⌜ RoomFor (now out) at (doubledByte byte) ⌝ }
+    ensures { λ r. ⌜ PutsTo (now (out .entry)) at (doubledByte byte) (now (out .exit)) r ⌝ }
 {
     let next = put_byte(out, at, byte);
     if byte == b'"' {

@@ -17,7 +17,7 @@ use Rattle.file_rules.specs.PriceFile.{fitsLine, firstUnfit, fileText}
 use Rattle.layout.specs.Reads.{part}
 use Rattle.layout.specs.Records.{recordStop, RecordHere, StopIs}
 use Rattle.price_text.specs.Line.{brings, lineOf}
-use Rattle.write_prices.specs.Written.{rowsAmong, linesOf}
+use Rattle.write_prices.specs.Written.{rowsAmong, linesAmong}
 
 -- ---- the first of the records that are left
 
@@ -62,16 +62,16 @@ module _ {b : List ℕ} {at e : ℕ} {left : List (Placed Record)} (n : Next b a
   abbrev here : Placed Record
   here = record { start = at; stop = e; held = n .here }
 
-  pub lines-on : linesOf left ≡ lineOf (part b (at + 2) e) ++ linesOf (n .behind)
-  unfolding linesOf lineOf fileText
+  pub lines-on : linesAmong left ≡ lineOf (part b (at + 2) e) ++ linesAmong (n .behind)
+  unfolding linesAmong lineOf fileText
   lines-on =
-      ap linesOf (n .is) ∙ (by (asRow (n .here)) ∙ sym (ap (λ (o : Option Record). fileText (brings o) ++ linesOf (n .behind)) (n .read)))
+      ap linesAmong (n .is) ∙ (by (asRow (n .here)) ∙ sym (ap (λ (o : Option Record). fileText (brings o) ++ linesAmong (n .behind)) (n .read)))
     where
       by : (o : Option Row)
           → fileText (map (λ p. p .held) (consSome (Option·map (holding here) o) (rowsAmong (n .behind))))
-          ≡ fileText (consSome o []) ++ linesOf (n .behind)
+          ≡ fileText (consSome o []) ++ linesAmong (n .behind)
       by none = refl
-      by (some x) = ap (λ (s : List ℕ). s ++ linesOf (n .behind)) (sym (append-nil (lineText x ++ (10 ∷ []))))
+      by (some x) = ap (λ (s : List ℕ). s ++ linesAmong (n .behind)) (sym (append-nil (lineText x ++ (10 ∷ []))))
 
   abbrev fit : Bool
   fit = all fitsLine (brings (whole kinded (part b (at + 2) e)))

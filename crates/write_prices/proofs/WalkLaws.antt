@@ -22,7 +22,7 @@ use Rattle.records.specs.Asks.{Accepted}
 use Rattle.decimals.specs.Texts.{RoomFor}
 use Rattle.price_text.specs.declared.Line.{Line}
 use Rattle.price_text.specs.Line.{lineOf, LineIs}
-use Rattle.write_prices.specs.Written.{rowsAmong, rowsOf, linesOf, fileOf, JudgedIs}
+use Rattle.write_prices.specs.Written.{rowsAmong, rowsOf, linesAmong, fileOf, JudgedIs}
 use Rattle.write_prices.proofs.StepLaws.{Next, none-left, here-stands, next-is, lines-on, fit-on, unfit-here}
 
 -- ---- the start
@@ -44,8 +44,8 @@ module _ (b : List ℕ) (ok : isSome (records b) ≡ true) where
   pub these-rows : rowsOf b ≡ rowsAmong these
   these-rows = ap (λ (o : Option (List (Placed Record))). rowsAmong (ifSome o [] (λ ps. ps))) these-placed
 
-  pub these-lines : fileOf b ≡ linesOf these
-  unfolding fileOf linesOf
+  pub these-lines : fileOf b ≡ linesAmong these
+  unfolding fileOf linesAmong
   these-lines = ap (λ (rs : List (Placed Row)). fileText (map (λ p. p .held) rs)) these-rows
 
 pub stop-accepted : {b : List ℕ} {at e : ℕ} → StopIs b at e → Accepted (part b (at + 2) e)
@@ -61,7 +61,7 @@ pub record Judging (b : List ℕ) (size at : ℕ) : Type 0 where
   pub left : List (Placed Record)
   pub stand : Stand b at left
   pub unfit : firstUnfit (rowsOf b) ≡ firstUnfit (rowsAmong left)
-  pub sized : length (fileOf b) ≡ size + length (linesOf left)
+  pub sized : length (fileOf b) ≡ size + length (linesAmong left)
   pub few : size ≤ 1300 * at
   pub small : length b ≤ 4194304
 
@@ -78,13 +78,13 @@ module _ (b : List ℕ) where
 
   module _ {size at : ℕ} (p : Judging b size at) where
     pub judge-end : length b ≤ at → JudgedIs b (record { place = 0; size = size })
-    unfolding linesOf fileText
+    unfolding linesAmong fileText
     judge-end h =
         let e : p .left ≡ [] = none-left (p .left) (p .stand) h in
         record {
           bad = λ z. absurd (omega arith);
           good = λ z. p .unfit ∙ ap (λ (l : List (Placed Record)). firstUnfit (rowsAmong l)) e;
-          size = λ z. omega (arith, p .sized, ap (λ (l : List (Placed Record)). length (linesOf l)) e);
+          size = λ z. omega (arith, p .sized, ap (λ (l : List (Placed Record)). length (linesAmong l)) e);
         }
 
     module _ (h : at < length b) where
@@ -105,7 +105,7 @@ module _ (b : List ℕ) where
             stand = next .stand;
             unfit = p .unfit ∙ fit-on next (sym (i .fits) ∙ f);
             sized = omega
-                (arith, p .sized, ap length (lines-on next), length-append (lineOf (part b (at + 2) e)) (linesOf (next .behind)), i .size);
+                (arith, p .sized, ap length (lines-on next), length-append (lineOf (part b (at + 2) e)) (linesAmong (next .behind)), i .size);
             few = omega (arith, p .few, i .few, s .low);
             small = p .small;
           }
@@ -124,7 +124,7 @@ pub record Writing (old b out : List ℕ) (to at : ℕ) : Type 0 where
   pub left : List (Placed Record)
   pub stand : Stand b at left
   pub done : List ℕ
-  pub whole : fileOf b ≡ done ++ linesOf left
+  pub whole : fileOf b ≡ done ++ linesAmong left
   pub puts : PutsTo old 0 done out to
   pub room : length (fileOf b) ≤ length old
 
@@ -141,11 +141,11 @@ module _ {old b : List ℕ} where
 
   module _ {out : List ℕ} {to at : ℕ} (p : Writing old b out to at) where
     pub write-end : length b ≤ at → PutsTo old 0 (fileOf b) out to
-    unfolding linesOf fileText
+    unfolding linesAmong fileText
     write-end h =
         let e : p .left ≡ [] = none-left (p .left) (p .stand) h in
         subst (λ (s : List ℕ). PutsTo old 0 s out to)
-        (sym (p .whole ∙ (ap (λ (l : List (Placed Record)). p .done ++ linesOf l) e ∙ append-nil (p .done)))) (p .puts)
+        (sym (p .whole ∙ (ap (λ (l : List (Placed Record)). p .done ++ linesAmong l) e ∙ append-nil (p .done)))) (p .puts)
 
     module _ (h : at < length b) where
       pub write-here : RecordHere b at
@@ -158,10 +158,10 @@ module _ {old b : List ℕ} where
         abbrev line : List ℕ
         line = lineOf (part b (at + 2) e)
 
-        one-more : fileOf b ≡ (p .done ++ line) ++ linesOf (next-line .behind)
+        one-more : fileOf b ≡ (p .done ++ line) ++ linesAmong (next-line .behind)
         one-more =
             p .whole
-            ∙ (ap (λ (u : List ℕ). p .done ++ u) (lines-on next-line) ∙ sym (append-assoc (p .done) line (linesOf (next-line .behind))))
+            ∙ (ap (λ (u : List ℕ). p .done ++ u) (lines-on next-line) ∙ sym (append-assoc (p .done) line (linesAmong (next-line .behind))))
 
         pub write-room : RoomFor out to (lineOf (part b (at + 2) e))
         write-room = record {
@@ -171,7 +171,7 @@ module _ {old b : List ℕ} where
             p .puts .ends,
             p .puts .puts .long,
             ap length one-more,
-            length-append (p .done ++ line) (linesOf (next-line .behind)),
+            length-append (p .done ++ line) (linesAmong (next-line .behind)),
             length-append (p .done) line,
           );
         }

@@ -19,8 +19,8 @@ abbrev pub rowsOf : List ℕ → List (Placed Row)
 rowsOf b = rowsAmong (ifSome (placedRecords b) [] (λ ps. ps))
 
 -- the lines of these records
-unfoldable pub linesOf : List (Placed Record) → List ℕ
-linesOf ps = fileText (map (λ p. p .held) (rowsAmong ps))
+unfoldable pub linesAmong : List (Placed Record) → List ℕ
+linesAmong ps = fileText (map (λ p. p .held) (rowsAmong ps))
 
 -- the file of a book
 unfoldable pub fileOf : List ℕ → List ℕ
