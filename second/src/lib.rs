@@ -15,6 +15,7 @@ pub mod counts;
 pub mod days;
 pub mod file_cases;
 pub mod file_compare;
+pub mod file_faults;
 pub mod fraction;
 pub mod make;
 pub mod number;
