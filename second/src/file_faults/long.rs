@@ -1,4 +1,4 @@
-//! Lines of a megabyte, and bad lines far down.
+//! Lines of a megabyte, bad lines far down, and many text names.
 
 use super::{good_line, good_records, row, shown, with, Fault, ARTICLE, CONDITION, FROM, QUANTITY, SORT, TEXT, VALUE};
 use crate::make::{Price, Record};
@@ -10,6 +10,7 @@ pub fn faults() -> Vec<Fault> {
     faults.extend(good_lines());
     faults.extend(bad_lines());
     faults.extend(far_down());
+    faults.extend(many_names());
     faults
 }
 
@@ -83,4 +84,44 @@ fn far_down() -> Vec<Fault> {
         faults.push(Fault::bad_at(format!("line {line} bad behind comments"), &[&comments[..], b"bad"].concat(), line as u64));
     }
     faults
+}
+
+/// The names, then the same from the last to the first: each has the number of its place. They are spelled in turns without quotes
+/// and with them.
+fn there_and_back(what: &str, names: &[Vec<u8>]) -> Fault {
+    let numbers = 1..=names.len() as u32;
+    let order: Vec<u32> = numbers.clone().chain(numbers.rev()).collect();
+    let line = |&number: &u32| {
+        let name = &names[number as usize - 1];
+        let spelled = if number % 3 == 0 { [b"\"", &name[..], b"\" "].concat() } else { name.clone() };
+        with(TEXT, &spelled)
+    };
+    let file = order.iter().map(line).collect::<Vec<_>>().join(&b'\n');
+    let records = order.iter().flat_map(|&number| Record::from(row().text(number)).bytes()).collect();
+    Fault::of_file(what.to_string(), &file, Some(Ok(records)))
+}
+
+/// More names than two bytes can count; names of the same letters, which a sum would not tell apart; and names of which each begins
+/// the next.
+fn many_names() -> Vec<Fault> {
+    let counted: Vec<Vec<u8>> = (0..70_000).map(|number| format!("n{number}").into_bytes()).collect();
+    let beginnings: Vec<Vec<u8>> = (1..=1_000).map(|length| vec![b't'; length]).collect();
+    vec![
+        there_and_back("70,000 names of texts", &counted),
+        there_and_back("names of texts of the same letters", &orders_of(b"ABCDabc")),
+        there_and_back("names of texts that begin one another", &beginnings),
+    ]
+}
+
+/// Every order of some letters.
+fn orders_of(letters: &[u8]) -> Vec<Vec<u8>> {
+    if letters.is_empty() {
+        return vec![Vec::new()];
+    }
+    let mut orders = Vec::new();
+    for (place, &first) in letters.iter().enumerate() {
+        let others = [&letters[..place], &letters[place + 1..]].concat();
+        orders.extend(orders_of(&others).into_iter().map(|order| [&[first], &order[..]].concat()));
+    }
+    orders
 }

@@ -5,6 +5,10 @@ use super::values::{currency, date, name, one_of, quantity, rule, text_name, val
 use super::{placed, Refused};
 use crate::answers::Placed;
 use crate::book::{PriceRow, Rule, Value};
+use std::collections::HashMap;
+
+/// The text names of the lines so far, with their numbers.
+type Names = HashMap<Vec<u8>, u32>;
 
 /// Writes the records alone, without a book's head. Refusals: 13 with the number of the first bad line, then 7.
 pub fn read_prices(file: &[u8], out: &mut [u8]) -> Placed {
@@ -15,7 +19,7 @@ pub fn read_prices(file: &[u8], out: &mut [u8]) -> Placed {
 /// that say nothing.
 pub fn records(file: &[u8]) -> Result<Vec<u8>, Refused> {
     let mut bytes = Vec::new();
-    let mut names = Vec::new();
+    let mut names = Names::new();
     for (number, line) in (1..).zip(lines(file)) {
         if !says_nothing(line) {
             let row = row(line, &mut names).ok_or(Refused::Row(number))?;
@@ -25,8 +29,8 @@ pub fn records(file: &[u8]) -> Result<Vec<u8>, Refused> {
     Ok(bytes)
 }
 
-/// The row of a line, or `None` if the line is bad. `names` holds the text names of the lines before.
-fn row(line: &[u8], names: &mut Vec<Vec<u8>>) -> Option<PriceRow> {
+/// The row of a line, or `None` if the line is bad.
+fn row(line: &[u8], names: &mut Names) -> Option<PriceRow> {
     let fields: [Vec<u8>; 13] = fields(line)?.try_into().ok()?;
     let [article, condition, sort, level, calculated, text, amount, flag, money, from, to, scale, rounding] = fields;
     // There are no rounding records to give a name to.
@@ -50,15 +54,12 @@ fn row(line: &[u8], names: &mut Vec<Vec<u8>>) -> Option<PriceRow> {
 }
 
 /// Names have the numbers 1, 2, 3 and on in the order in which they first appear; a blank one is 0.
-fn text_number(name: &[u8], names: &mut Vec<Vec<u8>>) -> u32 {
+fn text_number(name: &[u8], names: &mut Names) -> u32 {
     if name.is_empty() {
         return 0;
     }
-    if !names.iter().any(|earlier| earlier == name) {
-        names.push(name.to_vec());
-    }
-    let before = names.iter().take_while(|earlier| *earlier != name).count();
-    u32::try_from(before + 1).expect("no file has so many lines")
+    let next = u32::try_from(names.len() + 1).expect("no file has so many lines");
+    *names.entry(name.to_vec()).or_insert(next)
 }
 
 /// The record with its length in front, as it stands in a book.
