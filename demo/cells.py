@@ -51,6 +51,12 @@ def name_of(least: int, most: int) -> Reader:
     return read
 
 
+def file_of(cell: str) -> str:
+    if not cell:
+        raise Unfit("the name of a file beside this sheet, as ocd_price.csv")
+    return cell
+
+
 def currency_of(cell: str) -> str:
     if not re.fullmatch("[A-Z]{3}", cell):
         raise Unfit("three capitals, as EUR")

@@ -1,13 +1,15 @@
 """The rows of a sheet, checked by the table of sections, and made into what they stand for. All faults are told, in file order."""
 from __future__ import annotations
 
+import os
 import re
 import warnings
 from typing import Any, Iterable, Mapping, NamedTuple, Optional
 
 import rafttwine
 from cells import Unfit
-from rows import Fault, Row, Section, Sheet, Wrong
+from makers import PriceFile
+from rows import Fault, Row, Section, Sheet, Unreadable, Wrong, content_of
 from sections import SECTIONS, Kind
 
 ANY_ARTICLE = "*"
@@ -29,8 +31,13 @@ class Checked:
         read = {name: self._section(sheet, name, kind) for name, kind in SECTIONS.items()}
         self._references(read)
         self.made = {name: [self._made(name, one) for one in rows] for name, rows in read.items()}
-        if self._faults:
-            raise Wrong(told(sheet.file, self._faults))
+        self.price_files = [file for one in read["file"] if (file := self._price_file(sheet, one))]
+        wrong = told(sheet.file, self._faults)
+        articles = None if "article" in faulty(self._faults) else {one.values["number"] for one in read["article"]}
+        for file in self.price_files:
+            wrong += told(file.path, file.faults(articles))
+        if wrong:
+            raise Wrong(wrong)
         self.warnings = told(sheet.file, self._warnings)
 
     def _fault(self, section: str, row: Row, column: str, sentence: str) -> None:
@@ -108,6 +115,15 @@ class Checked:
                     wildcard = name == "packaging" and values[column] == ANY_ARTICLE
                     if values[column] and not wildcard and values[column] not in there:
                         self._fault(name, row, column, f"not in [{target}]")
+
+    def _price_file(self, sheet: Sheet, read: Read) -> Optional[PriceFile]:
+        """The file that a row names, from the folder of the sheet; None if it cannot be read."""
+        path = os.path.join(os.path.dirname(sheet.file), read.values["name"])
+        try:
+            return PriceFile(path, content_of(path), read.values["first text"])
+        except Unreadable as unreadable:
+            self._fault("file", read.row, "name", str(unreadable))
+            return None
 
     def _made(self, name: str, read: Read) -> Any:
         """What the row stands for; None if its builder finds a fault that no cell has by itself."""

@@ -19,12 +19,23 @@ class Desk:
         checked = Checked(sheet)
         made, self.warnings, self.file = checked.made, checked.warnings, sheet.file
         others = other_languages(sheet, language)
+        self._price_files, self._records = checked.price_files, [record for section in RECORDS for record in made[section]]
         try:
-            self.book = rafttwine.book(*(record for section in RECORDS for record in made[section]))
+            self.book = rafttwine.book(*self._records)
             self.texts = text_book(made["text"], [language]), text_book(made["text"], others)
         except ValueError as error:
             raise Wrong([f"{sheet.file}: {error}"]) from None
         self.asked, self.properties, self.offer = made["question"][0], made["property"], made["offer"]
+
+    def read_price_files(self) -> None:
+        """Puts the rows of the maker's price file into the book. The library reads them, so that this comes after the checks."""
+        for file in self._price_files:
+            rows, told = file.read()
+            self.warnings += told
+            try:
+                self.book = rafttwine.book(*self._records, *rows)
+            except ValueError as error:
+                raise Wrong([f"{file.path}: {error}"]) from None
 
     def question(self, day: date) -> bytes:
         asked = self.asked

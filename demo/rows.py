@@ -104,19 +104,28 @@ def printable(cell: str) -> str:
     return "".join(letter if letter.isprintable() else f"\\x{ord(letter):02x}" for letter in cell)
 
 
+class Unreadable(Exception):
+    """There is no file to read, and why."""
+
+
+def content_of(file: str) -> bytes:
+    try:
+        with open(file, "rb") as opened:
+            return opened.read()
+    except FileNotFoundError:
+        raise Unreadable("there is no such file") from None
+    except IsADirectoryError:
+        raise Unreadable("a folder, and a file is wanted") from None
+    except (OSError, ValueError) as error:
+        raise Unreadable(f"can't be read: {getattr(error, 'strerror', None) or error}") from None
+
+
 def _lines(file: str) -> list[str]:
     """The lines of a file in UTF-8, with or without a byte order mark, as an editor counts them."""
     try:
-        with open(file, "rb") as opened:
-            content = opened.read()
-    except FileNotFoundError:
-        raise Wrong([f"{file}: there is no such file"], status=2) from None
-    except IsADirectoryError:
-        raise Wrong([f"{file}: a folder, and a file is wanted"], status=2) from None
-    except (OSError, ValueError) as error:
-        raise Wrong([f"{file}: can't be read: {getattr(error, 'strerror', None) or error}"], status=2) from None
-    try:
-        text = content.decode("utf-8-sig")
+        text = content_of(file).decode("utf-8-sig")
+    except Unreadable as unreadable:
+        raise Wrong([f"{file}: {unreadable}"], status=2) from None
     except UnicodeDecodeError as error:
         line = error.object.count(b"\n", 0, error.start) + 1
         raise Wrong([f"{file}:{line}: byte {error.object[error.start]:02x}: the file is not in UTF-8; save it as such"]) from None

@@ -6,7 +6,9 @@ from dataclasses import dataclass, field
 from datetime import date
 from typing import Any, Callable, Iterator, Mapping, Optional
 
-from cells import (Reader, currency_of, day_of, if_given, name_of, parts_of, several, value_of, whole_of, word_of, yes_or_no)
+from cells import (Reader, currency_of, day_of, file_of, if_given, name_of, parts_of, several, value_of, whole_of, word_of,
+                   yes_or_no)
+from makers import MakersFile
 from rafttwine import Article, Level, PackagingRow, Percent, PriceRow, Property, Rounding, Rule, Scheme, Way
 
 Values = Mapping[str, Any]
@@ -15,6 +17,7 @@ MOST_DAYS = 1096
 MOST_LISTED = 32
 MOST_OFFERED = 200
 LONGEST_TEXT = 65_535
+MOST_FIRST_TEXT = 1_000_000
 
 
 @dataclass(frozen=True)
@@ -158,4 +161,8 @@ SECTIONS: Mapping[str, Kind] = {
         **ASKED_FOR,
         "day": Column("day", day_of),
     }, most=MOST_OFFERED, refers={"article": "article"}),
+    "file": Kind(MakersFile, {
+        "name": Column("name", file_of),
+        "first text": Column("first_text", whole_of(1, MOST_FIRST_TEXT, empty=0)),
+    }, most=1),
 }

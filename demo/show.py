@@ -38,6 +38,7 @@ def main(arguments: list[str]) -> int:
     try:
         desk = Desk(Sheet(file), language)
         if not checking:
+            desk.read_price_files()
             print(*desk.warnings, sep="\n", end="\n" if desk.warnings else "", file=sys.stderr)
             show(desk)
         return 0

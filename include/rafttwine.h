@@ -1,26 +1,28 @@
 /*
  * Rafttwine for C and C++: prices of an article or of a whole basket, price calendars, final article numbers, packaging data and line
- * texts for planning tools.
+ * texts for planning tools; and a maker's own price file, read to price records and written from them.
  *
  * A maker's price rows stand in a price book, a string of bytes that was packed beforehand; what the lines of a price are called stands
  * in text books. A tool lends a book together with a question: which article, on which day, how many, and which conditions the planned
  * piece grants. The calls work on lent bytes alone and are proved to answer by the rules, on every input.
  *
  * Three files go with this header, in share/doc/rafttwine where it is installed: FORMAT.md has the bytes of price books, questions
- * and text books in tables, for whoever packs them; CALLS.md has each call with an example, and with the smallest input for each of
- * its refusals; price.c is a whole program. In the source they are docs/FORMAT.md, docs/CALLS.md and examples/c/price.c.
+ * and text books in tables, for whoever packs them, and the lines of price files; CALLS.md has each call with an example, and with the
+ * smallest input for each of its refusals; price.c is a whole program. In the source they are docs/FORMAT.md, docs/CALLS.md and
+ * examples/c/price.c.
  *
  * WHAT YOU MAY COUNT ON
  *
  * - Lend any bytes of any length. What is no book, or no question, or has no answer gets a refusal number, in a fixed order. Beside a
- *   refusal every other field is 0, and no lent byte is written.
+ *   refusal every other field is 0, but for the place of a bad line or record beside 13; and no lent byte is written.
  * - A call that is not refused writes the front of the lent output, and leaves what stands behind that as it was.
  * - Every call returns. None keeps or shares anything: no heap, no globals, no locks, no files, no clock, no locale, no errno. So any
  *   number of threads may call at once, over the same book too, and the same bytes always give the same answer.
  * - Of the C library only memcpy and memset are called.
- * - A calendar takes at most RAFTTWINE_CALENDAR_STACK_BYTES of stack, a basket at most RAFTTWINE_BASKET_STACK_BYTES, any other call at
- *   most RAFTTWINE_STACK_BYTES. This is measured and not proved: a test makes each call on a painted stack and fails if more of it was
- *   touched. What a program's loader takes to find memcpy and memset at the first call is in it.
+ * - A calendar takes at most RAFTTWINE_CALENDAR_STACK_BYTES of stack, a basket at most RAFTTWINE_BASKET_STACK_BYTES, the reader of price
+ *   files at most RAFTTWINE_READER_STACK_BYTES, any other call at most RAFTTWINE_STACK_BYTES. This is measured and not proved: a test
+ *   makes each call on a painted stack and fails if more of it was touched. What a program's loader takes to find memcpy and memset at
+ *   the first call is in it.
  *
  * WHAT YOU OWE
  *
@@ -68,7 +70,7 @@ extern "C" {
 
 /* This header's version. The first number changes when a program has to be compiled anew, the second when something is added. */
 #define RAFTTWINE_VERSION_MAJOR 1
-#define RAFTTWINE_VERSION_MINOR 2
+#define RAFTTWINE_VERSION_MINOR 3
 #define RAFTTWINE_VERSION_PATCH 0
 /* As one number that grows from version to version, and as text with dots between. */
 #define RAFTTWINE_VERSION_NUMBER (RAFTTWINE_VERSION_MAJOR * 10000 + RAFTTWINE_VERSION_MINOR * 100 + RAFTTWINE_VERSION_PATCH)
@@ -86,6 +88,7 @@ uint32_t rafttwine_version(void);
 #define RAFTTWINE_STACK_BYTES 65536
 #define RAFTTWINE_BASKET_STACK_BYTES 262144
 #define RAFTTWINE_CALENDAR_STACK_BYTES 262144
+#define RAFTTWINE_READER_STACK_BYTES 1048576
 
 /* What stands in the field `number` of every answer, in `refusal` of a stretch, and in front of each answer of a basket. */
 enum rafttwine_refusal {
@@ -101,7 +104,8 @@ enum rafttwine_refusal {
     RAFTTWINE_BAD_PERIOD = 9,         /* the period's end is not in the calendar, or before its start, or over 1096 days are asked for */
     RAFTTWINE_MANY_STRETCHES = 10,    /* over 1200 stretches; a period is too short for that, so nobody meets this number */
     RAFTTWINE_UNFIT_PACKAGING = 11,   /* packaging data in different units, or a sum of them below zero */
-    RAFTTWINE_NO_TEXT = 12            /* neither text book has the number */
+    RAFTTWINE_NO_TEXT = 12,           /* neither text book has the number */
+    RAFTTWINE_BAD_ROW = 13            /* a line of a price file makes no price record, or a price record no line; a place says which */
 };
 
 /* A refusal in English, for a message or a log. A later library may have further numbers. */
@@ -120,6 +124,7 @@ static inline const char *rafttwine_refusal_text(unsigned number) {
     case RAFTTWINE_MANY_STRETCHES: return "there are over 1200 stretches";
     case RAFTTWINE_UNFIT_PACKAGING: return "packaging data are in different units, or sum up to less than zero";
     case RAFTTWINE_NO_TEXT: return "neither text book has the number";
+    case RAFTTWINE_BAD_ROW: return "a line of the price file makes no price record, or a price record of the book makes no line";
     default: return "unknown refusal";
     }
 }
@@ -257,6 +262,40 @@ typedef struct rafttwine_packaging_answer {
 
 rafttwine_packaging_answer rafttwine_packaging(const uint8_t *book, size_t book_length, const uint8_t *question,
                                                size_t question_length);
+
+/* ---- The maker's own price file, ocd_price.csv: to price records, and back ---- */
+
+/* A line of the file is a price record in thirteen fields, with a semicolon between two of them: article, condition, sort, level, rule,
+ * name of the text, value, 1 if it is an amount and 0 if it is a percentage, currency, first day, last day, quantity, rounding. FORMAT.md
+ * says which bytes each field may hold. Blank lines and lines that begin with # say nothing. Nothing bounds the length of a file, of a
+ * line or of an output. */
+typedef struct rafttwine_placed {
+    uint64_t length; /* how many bytes were written */
+    uint64_t place;  /* beside 13, which line or which byte it is about, from 1; otherwise 0 */
+    uint8_t number;  /* 0, or the refusal */
+} rafttwine_placed;
+
+/* Reads a price file. Writes a price record for each of its lines that says something, in their order and one behind the other, as they
+ * stand in a book; a book they become behind a head (the book's length in 4 bytes, and 1 for the version), with article records beside
+ * them. A name of a text becomes a number: the first name in the file 1, the next other one 2, and so on; a blank one is 0. The quantity is
+ * copied as it stands: in a book it is the most pieces that the record counts for, and 0 is for any number.
+ *
+ * The refusal is 13 or 7, the first that applies: 13 with the number of the first bad line. Every line counts, from 1, also those that
+ * say nothing. Room for RAFTTWINE_MOST_RECORD_BYTES of the file's length is always enough. */
+#define RAFTTWINE_MOST_RECORD_BYTES(file_length) (2 * (file_length))
+
+rafttwine_placed rafttwine_read_prices(const uint8_t *file, size_t file_length, uint8_t *out, size_t out_length);
+
+/* Writes a price file: a line for each price record of the book, in their order; its other records are left out. Reading the file gives
+ * these records again, to the byte, if their text numbers but for 0 are 1, 2, 3 and on in the order in which they first appear; else it
+ * gives them with the text numbers counted anew.
+ *
+ * The refusal is 1, 13 or 7, the first that applies: 13 for the first price record with a rounding number or with a date above 99999999,
+ * which no line can say; the place is that of its first byte in the book, from 1. Room for RAFTTWINE_MOST_FILE_BYTES of the book's length
+ * is always enough. */
+#define RAFTTWINE_MOST_FILE_BYTES(book_length) (3 * (book_length))
+
+rafttwine_placed rafttwine_write_prices(const uint8_t *book, size_t book_length, uint8_t *out, size_t out_length);
 
 #ifdef __cplusplus
 }

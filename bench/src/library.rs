@@ -5,7 +5,7 @@
 #[path = "../../tests/runners/calls/src/archive.rs"]
 mod archive;
 
-pub use archive::{basket, calendar, price};
+pub use archive::{basket, calendar, price, read_prices, write_prices};
 
 #[link(name = "measured", kind = "static")]
 extern "C" {

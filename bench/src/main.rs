@@ -9,7 +9,9 @@ mod catalog;
 mod cut;
 mod dice;
 mod library;
+mod plain_file;
 mod price;
+mod price_file;
 mod reference;
 mod timing;
 
@@ -22,5 +24,6 @@ fn main() {
     rows.extend(calendar::measure(&mut dice));
     rows.extend(cut::measure(&mut dice));
     rows.extend(basket::measure(&mut dice));
+    rows.extend(price_file::measure(&mut dice));
     timing::print_table(&rows);
 }

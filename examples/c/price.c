@@ -1,4 +1,5 @@
-/* A price as a salesperson reads it, a basket of prices, a price calendar, and refusals, from a price book that is made here by hand.
+/* A price as a salesperson reads it, a basket of prices, a price calendar, and refusals, from a price book that is made here by hand;
+ * and prices from a maker's own price file.
  *
  *   cc price.c $(pkg-config --cflags --libs rafttwine) -o price
  *
@@ -249,6 +250,26 @@ static void print_calendar(const packed *book, const packed *asked, uint32_t end
     }
 }
 
+/* A book of a maker's own price file, which has no article records: they stand in front. Reports a bad line, and then returns false. */
+static int read_file(packed *book, const char *article, const char *file) {
+    *book = start();
+    add_article(book, article);
+    rafttwine_placed read = rafttwine_read_prices((const uint8_t *)file, strlen(file), book->bytes + book->length,
+                                                  sizeof book->bytes - book->length);
+    if (read.number == RAFTTWINE_BAD_ROW) printf("  Line %lu is bad\n", (unsigned long)read.place);
+    else if (read.number != RAFTTWINE_DONE) fail(rafttwine_refusal_text(read.number));
+    book->length += (size_t)read.length;
+    finish(book);
+    return read.number == RAFTTWINE_DONE;
+}
+
+static void print_file(const packed *book) {
+    static uint8_t file[RAFTTWINE_MOST_FILE_BYTES(sizeof book->bytes)];
+    rafttwine_placed written = rafttwine_write_prices(book->bytes, book->length, file, sizeof file);
+    if (written.number != RAFTTWINE_DONE) fail(rafttwine_refusal_text(written.number));
+    fwrite(file, 1, (size_t)written.length, stdout);
+}
+
 /* The library that was loaded may be another than the one whose header this was compiled with. */
 static void check_version(void) {
     uint32_t loaded = rafttwine_version();
@@ -277,5 +298,13 @@ int main(void) {
     print_calendar(&book, &june, 20250102);
     puts("Calendar to a day before the first");
     print_calendar(&book, &june, 20240629);
+    puts("The book as a price file");
+    print_file(&book);
+    packed other, asked = question("T7", 20240630, 2);
+    puts("Two pieces of a table from another maker's price file");
+    const char *file = "# prices of 2024\nT7;;S;B;1;table;249;1;EUR;20240101;20241231;0;\nT7;OAK;S;X;1;oak;8;0;EUR;20240101;20241231;0;\n";
+    if (read_file(&other, "T7", file)) print_price(&other, &texts, &asked);
+    puts("A price file with a comma in a value");
+    if (read_file(&other, "T7", "# prices of 2024\nT7;;S;B;1;table;249,00;1;EUR;20240101;20241231;0;\n")) print_file(&other);
     return 0;
 }

@@ -67,7 +67,7 @@ pub struct Archive;
 
 #[cfg(feature = "archive")]
 mod linked {
-    use super::{CalendarAnswer, PackagingAnswer, PriceAnswer, Stretch, TextAnswer, Written};
+    use super::{CalendarAnswer, PackagingAnswer, Placed, PriceAnswer, Stretch, TextAnswer, Written};
 
     extern "C" {
         pub fn rafttwine_price(
@@ -120,6 +120,8 @@ mod linked {
             out: *mut u8,
             out_len: usize,
         ) -> Written;
+        pub fn rafttwine_read_prices(file: *const u8, file_len: usize, out: *mut u8, out_len: usize) -> Placed;
+        pub fn rafttwine_write_prices(book: *const u8, book_len: usize, out: *mut u8, out_len: usize) -> Placed;
     }
 }
 
@@ -186,5 +188,16 @@ impl Calls for Archive {
         unsafe {
             linked::rafttwine_basket(book.as_ptr(), book.len(), questions.as_ptr(), questions.len(), out.as_mut_ptr(), out.len())
         }
+    }
+}
+
+#[cfg(feature = "archive")]
+impl FileCalls for Archive {
+    fn read_prices(&self, file: &[u8], out: &mut [u8]) -> Placed {
+        unsafe { linked::rafttwine_read_prices(file.as_ptr(), file.len(), out.as_mut_ptr(), out.len()) }
+    }
+
+    fn write_prices(&self, book: &[u8], out: &mut [u8]) -> Placed {
+        unsafe { linked::rafttwine_write_prices(book.as_ptr(), book.len(), out.as_mut_ptr(), out.len()) }
     }
 }

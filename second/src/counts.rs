@@ -1,9 +1,16 @@
 //! How often each number came up in a comparison.
 
 use crate::compare::{Call, ALL_CALLS, PROGRAM_NUMBERS, QUESTION_NUMBERS, STRETCH_NUMBERS};
+use crate::file_compare::{FileCall, FILE_CALLS};
 
 /// Refusal numbers, and 0 for done.
-const NUMBERS: usize = 13;
+const NUMBERS: usize = 14;
+
+// Places of the rows behind those of the calls.
+const FILES: usize = ALL_CALLS.len();
+const PROGRAM: usize = FILES + FILE_CALLS.len();
+const STRETCHES: usize = PROGRAM + 1;
+const QUESTIONS: usize = STRETCHES + 1;
 
 struct Row {
     name: &'static str,
@@ -11,7 +18,8 @@ struct Row {
     counts: [u64; NUMBERS],
 }
 
-/// A row for each call, for the program, for the stretches and for the questions of baskets, in this order.
+/// A row for each call, those of the price file behind the others, for the program, for the stretches and for the questions of
+/// baskets, in this order.
 pub struct Counts {
     rows: Vec<Row>,
 }
@@ -21,6 +29,9 @@ impl Default for Counts {
         let row = |name, possible| Row { name, possible, counts: [0; NUMBERS] };
         let mut rows = Vec::new();
         for call in ALL_CALLS {
+            rows.push(row(call.name(), call.possible()));
+        }
+        for call in FILE_CALLS {
             rows.push(row(call.name(), call.possible()));
         }
         rows.push(row("program", &PROGRAM_NUMBERS));
@@ -35,16 +46,20 @@ impl Counts {
         self.rows[call as usize].counts[usize::from(number)] += 1;
     }
 
+    pub fn file_call(&mut self, call: FileCall, number: u8) {
+        self.rows[FILES + call as usize].counts[usize::from(number)] += 1;
+    }
+
     pub fn program(&mut self, number: u8) {
-        self.rows[ALL_CALLS.len()].counts[usize::from(number)] += 1;
+        self.rows[PROGRAM].counts[usize::from(number)] += 1;
     }
 
     pub fn stretch(&mut self, number: u8) {
-        self.rows[ALL_CALLS.len() + 1].counts[usize::from(number)] += 1;
+        self.rows[STRETCHES].counts[usize::from(number)] += 1;
     }
 
     pub fn question(&mut self, number: u8) {
-        self.rows[ALL_CALLS.len() + 2].counts[usize::from(number)] += 1;
+        self.rows[QUESTIONS].counts[usize::from(number)] += 1;
     }
 
     pub fn add(&mut self, other: &Counts) {

@@ -1,5 +1,5 @@
 """Prices of furniture by the Rafttwine library: itemised prices, baskets of them, price calendars, order numbers, packaging data,
-line texts.
+line texts; and makers' own price files.
 
 A price in five lines, over a book made on the spot:
 
@@ -26,6 +26,16 @@ L7  1 piece   the book does not have the article
 Together             268.50 EUR
 Without a price: 2 of 3
 
+A maker's own price file, `ocd_price.csv`, as a book, with the article records that the maker's file does not have; and back:
+
+>>> from rafttwine import read_prices, write_prices
+>>> rows = read_prices(b"# prices of 2024\\nC1;;S;B;1;chair;249;1;EUR;20240101;20241231;0;\\n")
+>>> chairs = book(Article("C1"), *rows)
+>>> price(chairs, question("C1", june, quantity=4)).total
+99600
+>>> write_prices(chairs)
+b'C1;;S;B;1;1;249.00;1;EUR;20240101;20241231;0;\\n'
+
 Books, questions and text books are bytes; `book`, `question` and `text_book` make them of readable values, and `read_book`,
 `read_question` and `read_text_book` make readable values of them. A call takes `bytes`, or any contiguous buffer of bytes such as a
 mapped file, where it lies. Amounts are whole cents. `python3 -m rafttwine BOOK` lists the records of a book.
@@ -36,9 +46,14 @@ Some rows are right by the layout and do what hardly anybody wants, so making on
 - a discount with a positive value raises the price: values are added with their sign;
 - a base price in percent never counts, and a row that ends before it begins never holds.
 
-Errors: a call that has no answer raises `Refused`, with the reason in `refusal`. A value of a wrong type is a TypeError, and one
-that the layout does not allow a ValueError; a message reads like `PriceRow.article: 41 bytes, and at most 40 are allowed`. Bytes
-that cannot be read are `BrokenBytes`, a ValueError with record and byte. A library that is not there or does not fit is an OSError.
+Reading a price file warns of the same, of days that are none, and of quantities: makers mean from how many pieces on a row counts,
+and a book means up to how many, so that 1 is for one piece alone and 0 for any number.
+
+Errors: a call that has no answer raises `Refused`, with the reason in `refusal`. A bad price file is `BadLine`, a `Refused` too,
+whose message reads like `ocd_price.csv, line 7, Currency: 'Eur' is no currency: three capitals, as EUR`. A value of a wrong type is
+a TypeError, and one that the layout does not allow a ValueError; a message reads like `PriceRow.article: 41 bytes, and at most 40
+are allowed`. Bytes that cannot be read are `BrokenBytes`, a ValueError with record and byte. A library that is not there or does
+not fit is an OSError.
 
 The library is looked for when it is first needed: the file that the environment variable RAFTTWINE_LIBRARY names; else
 librafttwine.so.1 in the package's folder, or beside that; else in target/lib of the tree that the package stands in, where
@@ -49,6 +64,7 @@ from .books import book, read_book
 from .calls import basket, calendar, calendar_list, final_number, packaging, price, text, version
 from .cartons import PackagingRow
 from .packing import BrokenBytes
+from .price_files import BadLine, BadRecord, read_prices, text_names, write_prices
 from .properties import Property
 from .questions import Question, question, read_question
 from .records import Article, PriceRow, Rounding, Scheme
@@ -58,9 +74,9 @@ from .texts import TextRow, read_text_book, text_book
 from .words import Cents, Level, NoDay, Percent, RowWarning, Rule, Sort, Way
 
 __all__ = [
-    "Article", "Asked", "Basket", "BrokenBytes", "Cents", "DayPrice", "Level", "Line", "NoDay", "Packaging", "PackagingRow",
-    "Percent", "Price", "PriceRow", "Property", "Question", "Refusal", "Refused", "Rounding", "RowWarning", "Rule", "Scheme",
-    "Sort", "Source", "Stretch", "Text", "TextRow", "Way", "__version__", "basket", "book", "calendar", "calendar_list",
-    "final_number", "packaging", "price", "question", "read_book", "read_question", "read_text_book", "text", "text_book",
-    "version",
+    "Article", "Asked", "BadLine", "BadRecord", "Basket", "BrokenBytes", "Cents", "DayPrice", "Level", "Line", "NoDay",
+    "Packaging", "PackagingRow", "Percent", "Price", "PriceRow", "Property", "Question", "Refusal", "Refused", "Rounding",
+    "RowWarning", "Rule", "Scheme", "Sort", "Source", "Stretch", "Text", "TextRow", "Way", "__version__", "basket", "book",
+    "calendar", "calendar_list", "final_number", "packaging", "price", "question", "read_book", "read_prices", "read_question",
+    "read_text_book", "text", "text_book", "text_names", "version", "write_prices",
 ]

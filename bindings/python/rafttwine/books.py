@@ -7,7 +7,7 @@ from .cartons import PackagingRow
 from .checks import listed, unfit
 from .fields import Number
 from .lending import Lent, whole_bytes
-from .packing import unsigned
+from .packing import Cursor, unsigned
 from .records import Article, PriceRow, Rounding, Scheme
 from .wholes import opened, whole
 
@@ -37,7 +37,11 @@ def read_book(data: Lent) -> tuple[Record, ...]:
 
 def read_records(where: str, data: Lent) -> Iterator[tuple[int, Record]]:
     """Each record of a price book, with the byte at which it starts."""
-    cursor = opened("book", whole_bytes(where, data))
+    return records_of(opened("book", whole_bytes(where, data)))
+
+
+def records_of(cursor: Cursor) -> Iterator[tuple[int, Record]]:
+    """Each record from a place on, up to the end of the bytes."""
     place = 0
     while cursor.at < len(cursor.data):
         start, place = cursor.at, place + 1

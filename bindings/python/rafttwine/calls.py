@@ -101,7 +101,7 @@ def text(asked: Lent, fallback: Lent, number: int) -> Text:
 
 
 def version() -> str:
-    """The version of the library that is loaded, as 1.2.0. That of the package is `__version__`."""
+    """The version of the library that is loaded, as 1.3.0. That of the package is `__version__`."""
     return version_of(library())
 
 

@@ -31,7 +31,7 @@ class Laid:
         if clash:
             raise ValueError(f"{self.called()}.{clash[0]}: {clash[1]}")
         for name, sentence in self.doubts():
-            _warn(f"{self.called()}.{name}: {sentence}")
+            warn(f"{self.called()}.{name}: {sentence}")
 
     @classmethod
     def called(cls) -> str:
@@ -74,7 +74,7 @@ class Laid:
         return None
 
 
-def _warn(sentence: str) -> None:
+def warn(sentence: str) -> None:
     """Warns at the line of the program that made the row."""
     level, frame = 1, sys._getframe()
     while frame.f_back and _is_ours(frame.f_globals.get("__name__", "")):

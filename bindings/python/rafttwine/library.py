@@ -22,6 +22,10 @@ class Written(Structure):
     _fields_ = [("length", c_uint64), ("number", c_uint8)]
 
 
+class Placed(Structure):
+    _fields_ = [("length", c_uint64), ("place", c_uint64), ("number", c_uint8)]
+
+
 class StretchRecord(Structure):
     _fields_ = [("first", c_uint32), ("last", c_uint32), ("unit", c_int64), ("refusal", c_uint8), ("currency", c_uint8 * 3)]
 
@@ -49,6 +53,8 @@ CALLS: dict[str, tuple[Any, dict[str, list[Any]]]] = {
     "final_number": (Written, {"book": READ, "question": READ, "out": BYTES}),
     "packaging": (PackagingAnswer, {"book": READ, "question": READ}),
     "text": (TextAnswer, {"asked": READ, "fallback": READ, "number": NUMBER}),
+    "read_prices": (Placed, {"file": READ, "out": BYTES}),
+    "write_prices": (Placed, {"book": READ, "out": BYTES}),
     "version": (c_uint32, {}),
 }
 

@@ -8,7 +8,7 @@ MOST_NUMBER = 255
 
 
 class Refusal(IntEnum):
-    """The numbers that a call refuses with. A later library may have more of them: `Refusal(13)` is then a refusal too, with 13 as
+    """The numbers that a call refuses with. A later library may have more of them: `Refusal(14)` is then a refusal too, with 14 as
     its value, though it is not listed here and its reason is not known."""
 
     BROKEN_BOOK = 1
@@ -23,6 +23,7 @@ class Refusal(IntEnum):
     MANY_STRETCHES = 10
     UNFIT_PACKAGING = 11
     NO_TEXT = 12
+    BAD_ROW = 13
 
     @classmethod
     def _missing_(cls, value: object) -> Optional[Refusal]:
@@ -67,6 +68,7 @@ _REASONS = {
     Refusal.MANY_STRETCHES: "there are over 1200 stretches",
     Refusal.UNFIT_PACKAGING: "packaging data are in different units, or sum up to less than zero",
     Refusal.NO_TEXT: "neither text book has the number",
+    Refusal.BAD_ROW: "a line of the price file makes no price record, or a price record of the book makes no line",
 }
 
 

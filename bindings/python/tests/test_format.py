@@ -4,12 +4,14 @@ from __future__ import annotations
 import pathlib
 import re
 import unittest
+import warnings
 from ctypes import c_uint8
 from datetime import date
 
-from rafttwine import (Article, Cents, Level, PackagingRow, PriceRow, Property, Rounding, Scheme, Way, book, packaging, question,
-                       text, text_book)
+from rafttwine import (Article, BadLine, Cents, Level, PackagingRow, PriceRow, Property, Rounding, RowWarning, Scheme, Way, book,
+                       packaging, question, read_prices, text, text_book, write_prices)
 from rafttwine.library import call
+from rafttwine.price_lines import FIELDS
 
 DOCUMENT = pathlib.Path("docs/FORMAT.md")
 RECORDS = ("Article, kind 1", "Price row, kind 2", "Rounding, kind 3", "Packaging, kind 4", "Scheme, kind 5")
@@ -93,3 +95,41 @@ class FormatTest(unittest.TestCase):
     def test_the_library_accepts_the_cartons_and_the_text(self) -> None:
         self.assertEqual(packaging(BOOK, QUESTION).gross, 500 + 2 * 2000)
         self.assertEqual(bytes(text(TEXTS, TEXTS, 7).part), b"Table")
+
+
+def price_file() -> list[list[str]]:
+    """The rows of the tables that say what a price file holds, and the lines of the file shown below them, a cell each."""
+    section = DOCUMENT.read_text().split("\n## Price file\n")[1].split("\n## ")[0].splitlines()
+    cells = [[cell.strip() for cell in line.strip("|").split(" | ")] for line in section if line.startswith("| ")]
+    return [*cells, *([line[4:]] for line in section if line.startswith("    "))]
+
+
+def makes(line: str) -> str:
+    try:
+        return "a row" if read_prices(line.encode("latin-1")) else "nothing"
+    except BadLine:
+        return "bad"
+
+
+class PriceFileTest(unittest.TestCase):
+    def setUp(self) -> None:
+        holder = warnings.catch_warnings()
+        holder.__enter__()
+        self.addCleanup(holder.__exit__, None, None, None)
+        warnings.simplefilter("ignore", RowWarning)
+
+    def test_the_fields(self) -> None:
+        self.assertEqual([row[0] for row in price_file()[1:1 + len(FIELDS)]], list(FIELDS))
+
+    def test_each_line_makes_what_the_page_says(self) -> None:
+        lines = [row for row in price_file() if row[0].startswith("`")]
+        self.assertGreater(len(lines), 10)
+        for line, made, _ in lines:
+            with self.subTest(line):
+                self.assertEqual(makes(line.strip("`")), made)
+
+    def test_the_file_that_is_written(self) -> None:
+        rows = price_file()
+        read = "\n".join([row[0].strip("`") for row in rows if row[0].startswith("`")][:4]).encode("latin-1")
+        shown = "".join(f"{row[0]}\n" for row in rows if len(row) == 1).encode("latin-1")
+        self.assertEqual(write_prices(book(*read_prices(read))), shown)

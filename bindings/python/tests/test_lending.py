@@ -14,9 +14,10 @@ from unittest import mock
 
 from samples import ASKED, BOOK, FALLBACK, QUESTIONS, TABLE, YEAR_END
 from rafttwine import (Article, Refused, basket, book, calendar, calendar_list, final_number, library, packaging, price, read_book,
-                       read_question, read_text_book, text)
+                       read_prices, read_question, read_text_book, text, text_names, write_prices)
 
 LARGE = book(*[Article("N" * 40)] * 90_000)
+PRICES = b"A1;;S;B;1;table;1;1;EUR;20240101;20241231;0;"
 ANYTHING = "bytes are wanted, or another contiguous buffer of bytes"
 
 
@@ -58,7 +59,8 @@ class LendingTest(unittest.TestCase):
                 self.assertEqual(basket(one, [buffer for _, buffer in asked]), due)
 
     def test_each_reader_takes_each_buffer(self) -> None:
-        for read, content in ((read_book, BOOK), (read_question, QUESTIONS["june_oak"]), (read_text_book, ASKED)):
+        for read, content in ((read_book, BOOK), (read_question, QUESTIONS["june_oak"]), (read_text_book, ASKED),
+                              (read_prices, PRICES), (text_names, PRICES), (write_prices, LARGE)):
             for kind, one in lent(content):
                 with self.subTest(read.__name__, kind=kind):
                     self.assertEqual(read(one), read(content))

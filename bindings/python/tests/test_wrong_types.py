@@ -11,7 +11,7 @@ from typing import Any, Callable
 import rafttwine
 from rafttwine import (Article, Cents, Level, NoDay, PackagingRow, Percent, PriceRow, Property, Rounding, Rule, Scheme, Sort,
                        TextRow, Way, basket, book, calendar, calendar_list, final_number, packaging, price, question, read_book,
-                       read_question, read_text_book, text, text_book)
+                       read_prices, read_question, read_text_book, text, text_book, text_names, write_prices)
 from samples import ASKED, BOOK, FALLBACK, QUESTIONS, TABLE, YEAR_END
 
 # One value of each type that somebody could come with.
@@ -57,12 +57,14 @@ TABLE_OF_TYPES: list[tuple[Callable[..., object], dict[str, Any], dict[str, tupl
       for call in (calendar, calendar_list)),
     (basket, {"book": BOOK, "questions": [QUESTIONS["june"]]}, {"book": BUFFER, "questions": SEVERAL}),
     (text, {"asked": ASKED, "fallback": FALLBACK, "number": TABLE}, {"asked": BUFFER, "fallback": BUFFER, "number": NUMBER}),
+    *((read, {"file": b""}, {"file": BUFFER, "name": TEXT}) for read in (read_prices, text_names)),
+    (write_prices, {"book": book()}, {"book": BUFFER}),
     *((read, {"data": data}, {"data": BUFFER})
       for read, data in ((read_book, BOOK), (read_question, QUESTIONS["june"]), (read_text_book, ASKED))),
 ]
 # What has no argument of its own to be wrong, or is answered and not made by the caller.
-LEFT_OUT = {"Asked", "Basket", "BrokenBytes", "DayPrice", "Level", "Line", "Packaging", "Price", "Question", "Refusal", "Refused",
-            "RowWarning", "Rule", "Sort", "Source", "Stretch", "Text", "Way", "__version__", "version"}
+LEFT_OUT = {"Asked", "BadLine", "BadRecord", "Basket", "BrokenBytes", "DayPrice", "Level", "Line", "Packaging", "Price", "Question",
+            "Refusal", "Refused", "RowWarning", "Rule", "Sort", "Source", "Stretch", "Text", "Way", "__version__", "version"}
 
 
 class WrongTypesTest(unittest.TestCase):

@@ -1,8 +1,8 @@
 //! The calls that write, with a room of their own: their answers can be kept.
 
 use crate::{
-    basket, basket_room, calendar, final_number, latin_1, price, Currency, Day, Line, Price, PriceTable, Refusal, Stretch,
-    CALENDAR_ROOM, NUMBER_ROOM, PRICE_ROOM,
+    basket, basket_room, calendar, file_room, final_number, latin_1, price, read_prices, record_room, write_prices, Currency, Day,
+    Line, Price, PriceTable, Refusal, RefusedAt, Stretch, CALENDAR_ROOM, NUMBER_ROOM, PRICE_ROOM,
 };
 
 /// The price of an article. All amounts are in cents. It is shown as a table; [`table`](OwnedPrice::table) has one with texts and
@@ -83,4 +83,14 @@ pub fn calendar_of(book: &[u8], question: &[u8], end: Day) -> Result<Vec<Stretch
 /// The final article number, to be kept.
 pub fn final_number_of(book: &[u8], question: &[u8]) -> Result<String, Refusal> {
     final_number(book, question, &mut [0; NUMBER_ROOM]).map(|number| latin_1::letters(number).collect())
+}
+
+/// The price records of a maker's price file, to be kept: those that [`read_prices`] writes.
+pub fn records_of(file: &[u8]) -> Result<Vec<u8>, RefusedAt> {
+    read_prices(file, &mut vec![0; record_room(file.len())]).map(<[u8]>::to_vec)
+}
+
+/// The price file of a book's price records, to be kept: the one that [`write_prices`] writes. It is in Latin-1.
+pub fn price_file_of(book: &[u8]) -> Result<Vec<u8>, RefusedAt> {
+    write_prices(book, &mut vec![0; file_room(book.len())]).map(<[u8]>::to_vec)
 }

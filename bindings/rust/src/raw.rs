@@ -33,6 +33,16 @@ pub struct Written {
     pub number: u8,
 }
 
+/// The answer of [`rafttwine_read_prices`] and [`rafttwine_write_prices`].
+#[repr(C)]
+#[derive(Clone, Copy, Debug)]
+#[allow(missing_docs)]
+pub struct Placed {
+    pub length: u64,
+    pub place: u64,
+    pub number: u8,
+}
+
 /// A record of the list that [`rafttwine_calendar_list`] fills.
 #[repr(C)]
 #[derive(Clone, Copy, Debug, Default)]
@@ -121,5 +131,7 @@ extern "C" {
         fallback_length: usize,
         number: u32,
     ) -> TextAnswer;
+    pub fn rafttwine_read_prices(file: *const u8, file_length: usize, out: *mut u8, out_length: usize) -> Placed;
+    pub fn rafttwine_write_prices(book: *const u8, book_length: usize, out: *mut u8, out_length: usize) -> Placed;
     pub fn rafttwine_version() -> u32;
 }

@@ -30,6 +30,8 @@ pub enum Refusal {
     UnfitPackaging,
     /// Neither text book has the number.
     NoText,
+    /// A line of a price file makes no price record, or a price record of a book makes no line.
+    BadRow,
     /// A number that this version of the crate has no word for, from a later library.
     Other(u8),
 }
@@ -37,7 +39,7 @@ pub enum Refusal {
 use Refusal::*;
 
 /// Number 1 and on, as the library gives them.
-const NUMBERED: [Refusal; 12] = [
+const NUMBERED: [Refusal; 13] = [
     BrokenBook,
     BrokenQuestion,
     NoArticle,
@@ -50,6 +52,7 @@ const NUMBERED: [Refusal; 12] = [
     ManyStretches,
     UnfitPackaging,
     NoText,
+    BadRow,
 ];
 
 impl Refusal {
@@ -88,6 +91,7 @@ impl fmt::Display for Refusal {
             ManyStretches => "there are over 1200 stretches",
             UnfitPackaging => "packaging data are in different units, or sum up to less than zero",
             NoText => "neither text book has the number",
+            BadRow => "a line of the price file makes no price record, or a price record of the book makes no line",
             Other(number) => {
                 return write!(to, "the library gives refusal {number}, for which this version of the crate has no word")
             }
@@ -112,8 +116,8 @@ mod tests {
     #[test]
     fn a_number_of_a_later_library_is_told() {
         assert_eq!(accepted(0), Ok(()));
-        assert_eq!(accepted(12), Err(NoText));
-        assert_eq!(accepted(13), Err(Other(13)));
-        assert_eq!(Other(13).to_string(), "the library gives refusal 13, for which this version of the crate has no word");
+        assert_eq!(accepted(13), Err(BadRow));
+        assert_eq!(accepted(14), Err(Other(14)));
+        assert_eq!(Other(14).to_string(), "the library gives refusal 14, for which this version of the crate has no word");
     }
 }

@@ -3,8 +3,8 @@
 mod samples;
 
 use rafttwine::{
-    basket, calendar, calendar_list, final_number, packaging, price, text, version, Refusal, StretchRecord, BASKET_ROOM,
-    CALENDAR_ROOM, MOST_STRETCHES, NUMBER_ROOM, PRICE_ROOM,
+    basket, calendar, calendar_list, final_number, packaging, price, read_prices, text, version, write_prices, Refusal,
+    StretchRecord, BASKET_ROOM, CALENDAR_ROOM, MOST_STRETCHES, NUMBER_ROOM, PRICE_ROOM,
 };
 use samples::{day, sample};
 use std::alloc::{GlobalAlloc, Layout, System};
@@ -53,6 +53,9 @@ fn the_calls_take_nothing() {
         assert_eq!(final_number(&book, &numbered, &mut [0; NUMBER_ROOM]).unwrap().len(), 16);
         assert!(packaging(&book, &packed).unwrap().gross.is_some());
         assert_eq!(text(&asked, &fallback, 300).unwrap().part.len(), 8);
+        let mut records = [0; 64];
+        assert_eq!(read_prices(b"A1;;S;B;1;;1;1;EUR;;;0;", &mut records).unwrap().len(), 36);
+        assert_eq!(write_prices(&records, &mut []).unwrap_err().refusal, Refusal::BrokenBook);
         assert!(price(&[], &[], &mut []).is_err());
         assert_eq!(version().major, 1);
     });

@@ -5,6 +5,7 @@ use calendar::list::stretch_at;
 use calendar::listing::listing_of;
 use rules::CalendarAnswer;
 use rules::PackagingAnswer;
+use rules::PlacedAnswer;
 use rules::PriceAnswer;
 use rules::TextAnswer;
 use rules::Written;
@@ -16,6 +17,7 @@ ghost use Rattle.price.specs.Call.{PriceIs};
 ghost use Rattle.basket.specs.Basket.{BasketIs};
 ghost use Rattle.calendar.specs.Calls.{CalendarIs, CalendarListIs};
 ghost use Rattle.final_number.specs.Ensures.{NumberCall};
+ghost use Rattle.file_rules.specs.Calls.{ReadIs, WriteIs};
 
 #[no_mangle]
 pub extern "C" fn rafttwine_price(book: &[u8], question: &[u8], lines: &mut [u8]) -> PriceAnswer
@@ -84,10 +86,24 @@ pub extern "C" fn rafttwine_text(asked: &[u8], fallback: &[u8], number: u32) -> 
     texts::text_answer(asked, fallback, number)
 }
 
+#[no_mangle]
+pub extern "C" fn rafttwine_read_prices(file: &[u8], out: &mut [u8]) -> PlacedAnswer
+    ensures { λ r. ⌜ ReadIs (now (file .entry)) (now (out .entry)) r (now (out .exit)) ⌝ }
+{
+    reading::read_prices(file, out)
+}
+
+#[no_mangle]
+pub extern "C" fn rafttwine_write_prices(book: &[u8], out: &mut [u8]) -> PlacedAnswer
+    ensures { λ r. ⌜ WriteIs (now (book .entry)) (now (out .entry)) r (now (out .exit)) ⌝ }
+{
+    write_prices::write_prices(book, out)
+}
+
 // The library's version: major times 10,000, minor times 100, patch. A program that loads the library can hold it against its header.
 #[no_mangle]
 pub extern "C" fn rafttwine_version() -> u32
-    ensures { λ r. ⌜ r ≡ 10200 ⌝ }
+    ensures { λ r. ⌜ r ≡ 10300 ⌝ }
 {
-    10_200
+    10_300
 }

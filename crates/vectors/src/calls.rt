@@ -4,6 +4,7 @@ use crate::fields::number;
 use crate::fields::signed;
 use crate::fields::three;
 use layout::names::same_bytes;
+use rules::PlacedAnswer;
 use rules::PriceAnswer;
 use rules::TextAnswer;
 ghost use Prim.Native.Nat.{_≤_};
@@ -26,6 +27,8 @@ pub fn run<'a>(call: u8, n: u32, room: usize, a: &'a [u8], b: &'a [u8]) {
         3 => final_number(a, b, lent),
         4 => packaging(a, b),
         6 => basket(a, b, lent),
+        7 => read_prices(a, lent),
+        8 => write_prices(a, lent),
         _ => text(a, b, n),
     }
     io::write_all(1, b"\n");
@@ -80,6 +83,32 @@ fn basket(book: &[u8], questions: &[u8], room: usize)
     io::write_all(1, b"basket");
     written(answer.number, answer.length);
     bytes(&out, room + 8);
+}
+
+fn read_prices(file: &[u8], room: usize)
+    requires { ⌜ room ≤ 2000 ⌝ }
+{
+    let mut out = [FILL; 2048];
+    let answer = plugin::rafttwine_read_prices(file, &mut out[..room]);
+    io::write_all(1, b"read_prices");
+    placed(answer);
+    bytes(&out, room + 8);
+}
+
+fn write_prices(book: &[u8], room: usize)
+    requires { ⌜ room ≤ 2000 ⌝ }
+{
+    let mut out = [FILL; 2048];
+    let answer = plugin::rafttwine_write_prices(book, &mut out[..room]);
+    io::write_all(1, b"write_prices");
+    placed(answer);
+    bytes(&out, room + 8);
+}
+
+// The same as for other calls that write, and the place of what is refused.
+fn placed(answer: PlacedAnswer) {
+    written(answer.number, answer.length);
+    number(answer.place);
 }
 
 // The number that a call gave, and the length that it wrote.

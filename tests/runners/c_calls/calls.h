@@ -36,6 +36,7 @@ sample read_sample(const char *name);
 void expect(const char *what, long long found, long long expected);
 void expect_bytes(const char *what, const void *found, const void *expected, size_t length);
 void expect_all(const char *what, int byte, const void *found, size_t length);
+void expect_placed(rafttwine_placed found, enum rafttwine_refusal number, long long place, size_t length);
 
 /* Each call's file has these four: how much stack the header gives the call; a function that reads the samples all its questions need;
  * one that holds the call's answers to the expected ones; and one that makes one call. */

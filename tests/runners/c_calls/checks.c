@@ -33,3 +33,9 @@ void expect_all(const char *what, int byte, const void *found, size_t length) {
     while (at < length && bytes[at] == byte) at++;
     expect(what, (long long)at, (long long)length);
 }
+
+void expect_placed(rafttwine_placed found, enum rafttwine_refusal number, long long place, size_t length) {
+    expect("number", found.number, number);
+    expect("place", (long long)found.place, place);
+    expect("length", (long long)found.length, (long long)length);
+}

@@ -9,7 +9,7 @@
 
 #define PAINT 0x5A
 
-static unsigned char stack[1 << 20];
+static unsigned char stack[2 << 20];
 static unsigned char *top;
 static ucontext_t outside, inside;
 

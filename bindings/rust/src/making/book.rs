@@ -3,6 +3,7 @@
 use super::packer::{append, empty_whole, Packed, Packer};
 use super::warning::Remark;
 use super::{Article, FieldError, PackagingRow, PriceRow, Rounding, Scheme, Warning};
+use crate::records_of;
 use std::ops::Deref;
 
 /// A record of a price book.
@@ -100,6 +101,34 @@ impl Book {
         Ok(self)
     }
 
+    /// Reads a maker's price file, `ocd_price.csv`, and packs its price records behind those that are there. If a line is bad, or the
+    /// book has no room for all of them, the book stays as it is.
+    ///
+    /// No [`warnings`](Book::warnings) tell of these records. Of makers' files two things are to be known: their quantity is the most
+    /// pieces that a record counts for, 0 for any number, so that 1 is for one piece alone; and a blank date is no day, so that the
+    /// record never counts.
+    ///
+    /// ```
+    /// # use rafttwine::{price_of, Article, Book, Day, Question};
+    /// let mut book = Book::new();
+    /// book.add(Article::new("A1"))?.add_price_file(b"A1;;S;B;1;table;100.00;1;EUR;20240101;20241231;0;\n")?;
+    /// let question = Question::new("A1", Day::new(2024, 6, 30)?).quantity(4).bytes()?;
+    /// assert_eq!(price_of(&book, &question)?.total, 40_000);
+    ///
+    /// let error = book.add_price_file(b"# empty\n\nA1;;S\n").unwrap_err();
+    /// assert!(error.to_string().starts_with("Book.price_file: line 3: a line of the price file makes no price record"));
+    /// # Ok::<(), Box<dyn std::error::Error>>(())
+    /// ```
+    pub fn add_price_file(&mut self, file: &[u8]) -> Result<&mut Book, FieldError> {
+        let records = records_of(file).map_err(|refused| FieldError::new("Book.price_file", refused.to_string()))?;
+        append(&mut self.bytes, "Book", |bytes| {
+            bytes.extend_from_slice(&records);
+            Ok(())
+        })?;
+        self.records += count(&records);
+        Ok(self)
+    }
+
     /// What is hardly meant, in the order of records.
     pub fn warnings(&self) -> &[Warning] {
         &self.warnings
@@ -123,4 +152,14 @@ impl Deref for Book {
     fn deref(&self) -> &[u8] {
         &self.bytes
     }
+}
+
+/// How many records stand one behind the other, each behind the two bytes of its length.
+fn count(mut records: &[u8]) -> usize {
+    let mut number = 0;
+    while let [high, low, behind @ ..] = records {
+        records = &behind[usize::from(u16::from_be_bytes([*high, *low]))..];
+        number += 1;
+    }
+    number
 }

@@ -3,8 +3,10 @@
 use second::calls::Second;
 use second::cases::{Case, Inputs};
 use second::compare::{run, Call, Plan, Sizes};
+use second::file_cases::FileCase;
+use second::file_compare::{run_file, FileCall, FILE_CALLS};
 
-use crate::vector::{Vector, CALLS, MOST_ROOM};
+use crate::vector::{Asked, Vector, CALLS, MOST_ROOM};
 
 /// Any will do, as long as it stays the same.
 const SEED: u64 = 2024;
@@ -28,23 +30,23 @@ fn longest(number: usize) -> usize {
 }
 
 pub fn vectors() -> Vec<Vector> {
-    CALLS.into_iter().flat_map(of_call).collect()
+    let of_calls = CALLS.into_iter().flat_map(|call| drawn(call.possible(), |index| of_case(call, index)));
+    let of_files = FILE_CALLS.into_iter().flat_map(|call| drawn(call.possible(), |index| of_file_case(call, index)));
+    of_calls.chain(of_files).collect()
 }
 
-fn of_call(call: Call) -> Vec<Vector> {
-    let mut missing = [0; 13];
-    for number in call.possible() {
+/// Of the cases one after the other, those that are wanted: `draw` gives the number that comes of a case, and its vector.
+fn drawn(possible: &[u8], draw: impl Fn(u64) -> (u8, Vector)) -> Vec<Vector> {
+    let mut missing = [0; 14];
+    for number in possible {
         missing[usize::from(*number)] = wanted(*number);
     }
     let mut vectors = Vec::new();
     let mut index = 0;
     while missing.iter().any(|count| *count > 0) {
-        let case = Case::generate_small(SEED, index);
+        let (number, vector) = draw(index);
+        let number = usize::from(number);
         index += 1;
-        let inputs = case.inputs();
-        let sizes = Plan::of(&case, &inputs).sizes;
-        let number = usize::from(run(call, &Second, &inputs, sizes).answer.number());
-        let vector = vector(call, inputs, sizes);
         let length = vector.first.len() + vector.second.len();
         if missing[number] > 0 && length <= longest(number) && vector.room <= MOST_ROOM {
             missing[number] -= 1;
@@ -52,6 +54,22 @@ fn of_call(call: Call) -> Vec<Vector> {
         }
     }
     vectors
+}
+
+fn of_case(call: Call, index: u64) -> (u8, Vector) {
+    let case = Case::generate_small(SEED, index);
+    let inputs = case.inputs();
+    let sizes = Plan::of(&case, &inputs).sizes;
+    (run(call, &Second, &inputs, sizes).answer.number(), vector(call, inputs, sizes))
+}
+
+fn of_file_case(call: FileCall, index: u64) -> (u8, Vector) {
+    let case = FileCase::generate_small(SEED, index);
+    let inputs = case.inputs();
+    let room = call.size(&case, &inputs);
+    let first = call.input(&inputs).to_vec();
+    let number = run_file(call, &Second, &inputs, room).answer.number();
+    (number, Vector { call: Asked::File(call), number: 0, room, first, second: Vec::new() })
 }
 
 fn vector(call: Call, inputs: Inputs, sizes: Sizes) -> Vector {
@@ -69,5 +87,5 @@ fn vector(call: Call, inputs: Inputs, sizes: Sizes) -> Vector {
         Call::Basket => (inputs.book, inputs.basket),
         _ => (inputs.book, inputs.question),
     };
-    Vector { call, number, room, first, second }
+    Vector { call: Asked::Call(call), number, room, first, second }
 }

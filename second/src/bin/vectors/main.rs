@@ -5,11 +5,11 @@
 //!
 //! | Bytes | What |
 //! |---|---|
-//! | 1 | the call: 1 price, 2 calendar, 3 final number, 4 packaging, 5 text, 6 basket |
+//! | 1 | the call: 1 price, 2 calendar, 3 final number, 4 packaging, 5 text, 6 basket, 7 read prices, 8 write prices |
 //! | 4 | the calendar's end or the text's number, otherwise 0 |
 //! | 4 | how many bytes are lent for the output |
 //! | 4 and 4 | the sizes of the two parts |
-//! | the rest | book and question, asked and fallback text book, or book and questions |
+//! | the rest | book and question, asked and fallback text book, book and questions, or a price file or a book alone |
 //!
 //! with big-endian numbers. A line has the call's name, the fields of its answer in decimal
 //! (currency and units in hexadecimal), and what stands afterwards in the lent bytes and in some

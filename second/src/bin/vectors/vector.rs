@@ -1,7 +1,8 @@
 //! One vector: its bytes, and the line that it has to give.
 
 use second::compare::{hex, Call};
-use second::{basket, calendar, final_number, packaging, price, text};
+use second::file_compare::FileCall;
+use second::{basket, calendar, final_number, packaging, price, read_prices, text, write_prices, Placed};
 
 /// What is lent is filled with this byte, and so are some bytes behind it.
 const FILL: u8 = 165;
@@ -10,12 +11,19 @@ const BYTES_BEHIND: usize = 8;
 /// The program lends no more bytes.
 pub const MOST_ROOM: usize = 2_000;
 
-/// The calls that the program makes; a vector names one by its place here, from 1. It lends no list of records: `tests/held` and
-/// the tests in C do.
+/// The calls that the program makes of those on books, questions and texts; a vector names one by its place here, from 1. It lends
+/// no list of records: `tests/held` and the tests in C do.
 pub const CALLS: [Call; 6] = [Call::Price, Call::Calendar, Call::FinalNumber, Call::Packaging, Call::Text, Call::Basket];
 
+/// Either sort of call; the byte of the price file's calls goes on behind those above.
+#[derive(Clone, Copy)]
+pub enum Asked {
+    Call(Call),
+    File(FileCall),
+}
+
 pub struct Vector {
-    pub call: Call,
+    pub call: Asked,
     /// The end of a calendar, or a text's number.
     pub number: u32,
     pub room: usize,
@@ -23,16 +31,21 @@ pub struct Vector {
     pub second: Vec<u8>,
 }
 
-/// The byte that stands for a call.
-fn byte_of(call: Call) -> u8 {
-    let place = CALLS.iter().position(|one| *one == call).expect("a call that the program makes");
-    place as u8 + 1
+impl Asked {
+    /// The byte that stands for a call.
+    fn byte(self) -> u8 {
+        let place = match self {
+            Asked::Call(call) => CALLS.iter().position(|one| *one == call).expect("a call that the program makes"),
+            Asked::File(call) => CALLS.len() + call as usize,
+        };
+        place as u8 + 1
+    }
 }
 
 impl Vector {
     pub fn bytes(&self) -> Vec<u8> {
         let numbers = [self.number, self.room as u32, self.first.len() as u32, self.second.len() as u32];
-        let mut bytes = vec![byte_of(self.call)];
+        let mut bytes = vec![self.call.byte()];
         bytes.extend(numbers.iter().flat_map(|number| number.to_be_bytes()));
         bytes.extend(&self.first);
         bytes.extend(&self.second);
@@ -40,28 +53,47 @@ impl Vector {
     }
 
     pub fn line(&self) -> String {
-        let (first, second) = (&self.first, &self.second);
+        match self.call {
+            Asked::Call(Call::Packaging) => format!("packaging {}", packed(&self.first, &self.second)),
+            Asked::Call(Call::Text) => format!("text {}", found(&self.first, &self.second, self.number)),
+            Asked::Call(call) => self.line_with_room(call.name(), |lent| self.answer(call, lent)),
+            Asked::File(call) => self.line_with_room(call.name(), |lent| placed(self.placed(call, lent))),
+        }
+    }
+
+    /// The line of a call that writes.
+    fn line_with_room(&self, name: &str, answer: impl Fn(&mut [u8]) -> String) -> String {
         let mut out = vec![FILL; self.room + BYTES_BEHIND];
-        let lent = &mut out[..self.room];
-        let answer = match self.call {
+        let answer = answer(&mut out[..self.room]);
+        format!("{name} {answer} {}", hex(&out))
+    }
+
+    fn answer(&self, call: Call, lent: &mut [u8]) -> String {
+        let (first, second) = (&self.first, &self.second);
+        match call {
             Call::Price => priced(first, second, lent),
             Call::Calendar => {
                 let answer = calendar(first, second, self.number, lent);
                 written(answer.number, answer.length)
             }
-            Call::CalendarList => unreachable!("the program lends no list"),
             Call::FinalNumber => {
                 let answer = final_number(first, second, lent);
                 written(answer.number, answer.length)
             }
-            Call::Packaging => return format!("packaging {}", packed(first, second)),
-            Call::Text => return format!("text {}", found(first, second, self.number)),
             Call::Basket => {
                 let answer = basket(first, second, lent);
                 written(answer.number, answer.length)
             }
-        };
-        format!("{} {answer} {}", self.call.name(), hex(&out))
+            Call::CalendarList => unreachable!("the program lends no list"),
+            Call::Packaging | Call::Text => unreachable!("they write nothing"),
+        }
+    }
+
+    fn placed(&self, call: FileCall, lent: &mut [u8]) -> Placed {
+        match call {
+            FileCall::Read => read_prices(&self.first, lent),
+            FileCall::Write => write_prices(&self.first, lent),
+        }
     }
 }
 
@@ -81,6 +113,10 @@ fn priced(book: &[u8], question: &[u8], lent: &mut [u8]) -> String {
 
 fn written(number: u8, length: u64) -> String {
     format!("{number} {length}")
+}
+
+fn placed(answer: Placed) -> String {
+    format!("{} {}", written(answer.number, answer.length), answer.place)
 }
 
 fn packed(book: &[u8], question: &[u8]) -> String {

@@ -1,9 +1,10 @@
 //! The sums worked by hand, and the traps.
 
 use second::compare::Call;
+use second::file_compare::FileCall;
 use second::make::{self, Article, Packaging, Price, Question, Record, Rounding, Scheme, TextRecord};
 
-use crate::vector::Vector;
+use crate::vector::{Asked, Vector};
 
 pub fn vectors() -> Vec<Vector> {
     let mut vectors = sums_of_k();
@@ -12,6 +13,9 @@ pub fn vectors() -> Vec<Vector> {
     vectors.extend(order_and_cartons());
     vectors.extend(texts());
     vectors.extend(baskets());
+    vectors.extend(read_files());
+    vectors.extend(bad_files());
+    vectors.extend(written_files());
     vectors
 }
 
@@ -20,15 +24,15 @@ fn book(records: &[Record]) -> Vec<u8> {
 }
 
 fn price(book: &[u8], question: Question) -> Vector {
-    Vector { call: Call::Price, number: 0, room: 50, first: book.to_vec(), second: question.bytes() }
+    Vector { call: Asked::Call(Call::Price), number: 0, room: 50, first: book.to_vec(), second: question.bytes() }
 }
 
 fn calendar(book: &[u8], question: Question, end: u32) -> Vector {
-    Vector { call: Call::Calendar, number: end, room: 70, ..price(book, question) }
+    Vector { call: Asked::Call(Call::Calendar), number: end, room: 70, ..price(book, question) }
 }
 
 fn other(call: Call, book: &[u8], question: Question) -> Vector {
-    Vector { call, ..price(book, question) }
+    Vector { call: Asked::Call(call), ..price(book, question) }
 }
 
 fn base(cents: i32) -> Price {
@@ -128,12 +132,12 @@ fn order_and_cartons() -> Vec<Vector> {
 fn texts() -> Vec<Vector> {
     let asked = make::text_book(&[TextRecord::new(7, b"Eiche"), TextRecord::new(7, b"oak")]);
     let fallback = make::text_book(&[TextRecord::new(8, b""), TextRecord::new(9, b"ash")]);
-    let text = |number| Vector { call: Call::Text, number, room: 0, first: asked.clone(), second: fallback.clone() };
+    let text = |number| Vector { call: Asked::Call(Call::Text), number, room: 0, first: asked.clone(), second: fallback.clone() };
     (6..10).map(text).collect()
 }
 
 fn basket(book: &[u8], questions: &[Question], room: usize) -> Vector {
-    Vector { call: Call::Basket, number: 0, room, first: book.to_vec(), second: make::basket(questions) }
+    Vector { call: Asked::Call(Call::Basket), number: 0, room, first: book.to_vec(), second: make::basket(questions) }
 }
 
 /// None, P1, P1 to P4 with a missing article among them, too little room and a broken question, then as many as may be and one
@@ -160,5 +164,93 @@ fn baskets() -> Vec<Vector> {
         // Longer answers than the program lends room for: the room is missed only after the questions were counted.
         basket(&k, &many(200), 0),
         basket(&k, &many(201), 0),
+    ]
+}
+
+fn read(file: &str, room: usize) -> Vector {
+    Vector { call: Asked::File(FileCall::Read), number: 0, room, first: make::latin1(file), second: Vec::new() }
+}
+
+/// Book K as its manufacturer has it; three records of 36 bytes and one of 39.
+const FILE_K: &str = "# Prices of 2024\n\
+    A1;;S;B;1;base;100.00;1;EUR;20240101;20240630;0;\n\
+    A1;;S;B;1;base;105.00;1;EUR;20240701;20241231;0;\n\
+    \n\
+    A1;OAK;S;X;1;oak;12.50;0;EUR;20240101;20241231;0;\n\
+    A1;;S;D;2;;-3.33;0;EUR;20240101;20241231;0;\n";
+const RECORDS_K: usize = 3 * 36 + 39;
+
+/// Files without a row, K with room that is exact and one byte short, quotes and spaces, forms of numbers, blank dates, and a last
+/// line without an end.
+fn read_files() -> Vec<Vector> {
+    let quoted = "\"#1\" ;\"O;K\";\"S\";\"B\"  ;\"1\";\"t\"\"\";\".5\";\"1\";\"EUR\";\"\";\"\"   ;\"007\";\"\"\n\
+        A\"1;\u{c4};P;D;2;t\";-0.00;0;USD;;00000000;4294967295;";
+    let numbers = "A;;S;B;1;;5.;1;EUR;;;0;\nA;;S;B;1;;12.3400;1;EUR;;;0;\nA;;S;B;1;;-1000000.00;1;EUR;99999999;20230229;1;\n";
+    vec![
+        read("", 0),
+        read("#\r\n \t\n\n#\"", 4),
+        read(FILE_K, RECORDS_K + 5),
+        read(FILE_K, RECORDS_K),
+        read(FILE_K, RECORDS_K - 1),
+        read(quoted, 90),
+        read(numbers, 120),
+    ]
+}
+
+/// K with a row in line 6 spoilt, each in another way; then what is bad comes before too little room, and the first bad line counts.
+fn bad_files() -> Vec<Vector> {
+    let last = "A1;;S;D;2;;-3.33;0;EUR;20240101;20241231;0;";
+    let spoilt = |from: &str, to: &str| read(&FILE_K.replace(last, &last.replace(from, to)), RECORDS_K);
+    vec![
+        spoilt("-3.33", "-3.331"),
+        spoilt("-3.33", "+3.33"),
+        spoilt("-3.33", "-3,33"),
+        spoilt("-3.33", "-1000.01"),
+        spoilt("20241231", "2024123"),
+        spoilt(";0;", ";0;;"),
+        spoilt(";0;", ";0;R"),
+        spoilt(";0;", ";0;\r"),
+        spoilt("A1;;", "A1;\";"),
+        spoilt("A1;;", "A1;\"\"x;"),
+        spoilt("EUR", "eur"),
+        spoilt("EUR", "E\0R"),
+        spoilt("EUR", ""),
+        spoilt(last, "A1"),
+        read(&FILE_K.replace('\n', "\r\n"), RECORDS_K),
+        read(&format!("{FILE_K}bad\nbad"), 0),
+    ]
+}
+
+fn write(records: &[Record], room: usize) -> Vector {
+    Vector { call: Asked::File(FileCall::Write), number: 0, room, first: make::book(records), second: Vec::new() }
+}
+
+/// K with room that is enough, exact and one byte short, no price record at all, quotes, the ends of numbers, records that make no
+/// line, and a broken book.
+fn written_files() -> Vec<Vector> {
+    let k = Vector { call: Asked::File(FileCall::Write), number: 0, room: 200, first: book_k(), second: Vec::new() };
+    let needed = 2 * 45 + 47 + 44;
+    let with_room = |room| Vector { room, first: k.first.clone(), second: Vec::new(), ..k };
+    let named =
+        |article: &str, condition: &str| Record::from(Price { article: make::latin1(article), ..base(5).condition(condition) });
+    let quotes = [named("#", "#"), named("\"", ";"), named("A\"1", " \""), named("#;\"", "\"\"")];
+    let ends = [
+        base(-100_000_000).text(u32::MAX).dates(0, 0).up_to(u32::MAX).into(),
+        Price::percent("A1", b'D', 2, -5).text(7).dates(1, 99_999_999).sort(b'P').currency(b"USD").into(),
+        base(0).dates(10_101, 20_230_229).into(),
+    ];
+    let article = || Record::from(Article::new("A1", ""));
+    let mut cut = with_room(needed);
+    cut.first.pop();
+    vec![
+        with_room(needed),
+        with_room(needed - 1),
+        cut,
+        write(&[article()], 0),
+        write(&quotes, 300),
+        write(&ends, 300),
+        write(&[article(), base(5).into(), base(5).rounding(1).into(), base(5).dates(100_000_000, 0).into()], 100),
+        write(&[base(5).into(), Rounding::new(1, 2, 5).into(), base(5).dates(0, 100_000_000).into()], 0),
+        k,
     ]
 }

@@ -2,7 +2,7 @@
 //! takes them from here too.
 
 use rafttwine::raw;
-use second::{CalendarAnswer, PackagingAnswer, PriceAnswer, Stretch, TextAnswer, Written};
+use second::{CalendarAnswer, PackagingAnswer, Placed, PriceAnswer, Stretch, TextAnswer, Written};
 
 // Sound, all of them: each pointer and length are those of one slice, borrowed for the whole call; any bytes make an answer.
 
@@ -48,6 +48,19 @@ pub fn text(asked: &[u8], fallback: &[u8], number: u32) -> TextAnswer {
     let answer = unsafe { raw::rafttwine_text(asked.as_ptr(), asked.len(), fallback.as_ptr(), fallback.len(), number) };
     let raw::TextAnswer { place, length, number, book } = answer;
     TextAnswer { place, length, number, book }
+}
+
+pub fn read_prices(file: &[u8], out: &mut [u8]) -> Placed {
+    placed(unsafe { raw::rafttwine_read_prices(file.as_ptr(), file.len(), out.as_mut_ptr(), out.len()) })
+}
+
+pub fn write_prices(book: &[u8], out: &mut [u8]) -> Placed {
+    placed(unsafe { raw::rafttwine_write_prices(book.as_ptr(), book.len(), out.as_mut_ptr(), out.len()) })
+}
+
+fn placed(answer: raw::Placed) -> Placed {
+    let raw::Placed { length, place, number } = answer;
+    Placed { length, place, number }
 }
 
 fn written(answer: raw::Written) -> Written {

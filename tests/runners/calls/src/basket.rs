@@ -87,7 +87,7 @@ pub fn call() -> Call<Written, u8> {
             ("the archive", |book, questions, _, out| archive::basket(book, questions, out)),
         ],
         fill: pattern,
-        names: Names { first: "Book", second: "Questions", extra: None, room: Some("Room") },
+        names: Names { first: "Book", second: Some("Questions"), extra: None, room: Some("Room") },
         example,
         vectors: [answers::vectors(), many::vectors(), refusals::vectors()].concat(),
     }

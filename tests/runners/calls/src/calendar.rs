@@ -87,7 +87,7 @@ pub fn call() -> Call<CalendarAnswer, u8> {
         refusals: REFUSALS,
         implementations: &[("second", second::calendar), ("the archive", archive::calendar)],
         fill: pattern,
-        names: Names { first: "Book", second: "Question", extra: Some("End"), room: Some("Room") },
+        names: Names { first: "Book", second: Some("Question"), extra: Some("End"), room: Some("Room") },
         example,
         vectors: vectors().into_iter().map(|vector| vector.bytes).collect(),
     }
@@ -99,7 +99,7 @@ pub fn list_call() -> Call<CalendarAnswer, Stretch> {
         refusals: REFUSALS,
         implementations: &[("second", second::calendar_list), ("the archive", archive::calendar_list)],
         fill: list_pattern,
-        names: Names { first: "Book", second: "Question", extra: Some("End"), room: Some("Room in records") },
+        names: Names { first: "Book", second: Some("Question"), extra: Some("End"), room: Some("Room in records") },
         example: list_example,
         vectors: vectors().into_iter().map(|vector| vector.list).collect(),
     }

@@ -6,10 +6,10 @@ use crate::shorter::shorter;
 use crate::vector::{Answer, Run, Vector};
 use std::fmt::Debug;
 
-/// The names under which the document has what is handed to a call; a call without extra or room has none.
+/// The names under which the document has what is handed to a call; a call that takes no second string, no extra or no room has none.
 pub struct Names {
     pub first: &'static str,
-    pub second: &'static str,
+    pub second: Option<&'static str>,
     pub extra: Option<&'static str>,
     pub room: Option<&'static str>,
 }
@@ -62,9 +62,9 @@ impl<A: Answer, T: Copy + PartialEq + Debug> Call<A, T> {
 
     /// A row of the document has its refusal with nothing lent, and as many bytes as it says; no shorter input has that refusal.
     fn wrong_row(&self, row: &Cells) -> usize {
-        let (first, second) = (row.bytes(self.names.first), row.bytes(self.names.second));
+        let (first, second) = (row.bytes(self.names.first), self.second(row));
         let (number, extra) = (row.number("Number"), self.names.extra.map_or(0, |name| row.number(name)));
-        let vector = Vector::refused(row.text("When"), &first, &second, number).extra(extra).room(0);
+        let vector = Vector::refused(row.text("When"), &first, &second, number).at(row.place()).extra(extra).room(0);
         let mut wrong = self.wrong(&vector);
         if first.len() + second.len() != row.number::<usize>("Bytes") {
             wrong += 1;
@@ -87,12 +87,16 @@ impl<A: Answer, T: Copy + PartialEq + Debug> Call<A, T> {
         wrong
     }
 
+    fn second(&self, cells: &Cells) -> Vec<u8> {
+        self.names.second.map_or(Vec::new(), |name| cells.bytes(name))
+    }
+
     fn example_vector(&self, cells: &Cells) -> Vector<A, T> {
         let (answer, written) = (self.example)(cells);
         Vector {
             shows: "the example of the document".to_string(),
             first: cells.bytes(self.names.first),
-            second: cells.bytes(self.names.second),
+            second: self.second(cells),
             extra: self.names.extra.map_or(0, |name| cells.number(name)),
             room: self.names.room.map_or(0, |name| cells.number(name)),
             answer,

@@ -16,6 +16,11 @@ impl Cells {
         text.parse().unwrap_or_else(|_| panic!("the document's `{name}` is no such number: {text}"))
     }
 
+    /// What stands beside a refusal of a call that tells places; 0 for any other call.
+    pub fn place(&self) -> u64 {
+        self.0.get("Place").map_or(0, |_| self.number("Place"))
+    }
+
     /// Bytes in hex, or `none`.
     pub fn bytes(&self, name: &str) -> Vec<u8> {
         let text = self.text(name);

@@ -11,6 +11,7 @@ mod number;
 mod packaging;
 mod parts;
 mod price;
+mod price_file;
 mod shorter;
 mod structs;
 mod text;
@@ -34,6 +35,8 @@ fn main() -> ExitCode {
         number::call().good(&document),
         packaging::call().good(&document),
         text::call().good(&document),
+        price_file::reader().good(&document),
+        price_file::writer().good(&document),
     ];
     if good.into_iter().all(|good| good) {
         ExitCode::SUCCESS

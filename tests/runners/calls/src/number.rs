@@ -37,7 +37,7 @@ pub fn call() -> Call<Written, u8> {
             ("the archive", |book, question, _, out| archive::final_number(book, question, out)),
         ],
         fill: pattern,
-        names: Names { first: "Book", second: "Question", extra: None, room: Some("Room") },
+        names: Names { first: "Book", second: Some("Question"), extra: None, room: Some("Room") },
         example,
         vectors: [values::vectors(), schemes::vectors(), refusals::vectors()].concat(),
     }

@@ -48,7 +48,7 @@ pub fn call() -> Call<PackagingAnswer, u8> {
             ("the archive", |book, question, _, _| archive::packaging(book, question)),
         ],
         fill: pattern,
-        names: Names { first: "Book", second: "Question", extra: None, room: None },
+        names: Names { first: "Book", second: Some("Question"), extra: None, room: None },
         example,
         vectors: [values::vectors(), records::vectors(), refusals::vectors()].concat(),
     }

@@ -98,7 +98,7 @@ pub fn call() -> Call<PriceAnswer, u8> {
             ("the archive", |book, question, _, lines| archive::price(book, question, lines)),
         ],
         fill: pattern,
-        names: Names { first: "Book", second: "Question", extra: None, room: Some("Room") },
+        names: Names { first: "Book", second: Some("Question"), extra: None, room: Some("Room") },
         example,
         vectors: vectors.concat(),
     }

@@ -1,4 +1,4 @@
-//! Shorter inputs made of an input: every run of bytes taken out, with the lengths and counts around it put right.
+//! Shorter inputs made of an input: every run of bytes taken out, as it is and with the lengths and counts around it put right.
 
 /// A head: the length of the whole, and the version.
 const HEAD: usize = 5;
@@ -62,11 +62,13 @@ fn cut_records(book: &[u8], records: &[&[u8]]) -> Vec<Vec<u8>> {
     shorter
 }
 
-/// Shorter books or questions: cut anywhere, and a price book also within its records.
+/// Shorter books, questions or files: cut anywhere, and a price book also within its records.
 pub fn shorter(bytes: &[u8]) -> Vec<Vec<u8>> {
     let within = match records(bytes) {
         Some(records) => cut_records(bytes, &records),
         None => mended_cuts(bytes),
     };
-    cuts(bytes).into_iter().map(|(_, left)| left).chain(within).map(with_length).collect()
+    let anywhere: Vec<Vec<u8>> = cuts(bytes).into_iter().map(|(_, left)| left).collect();
+    let mended: Vec<Vec<u8>> = anywhere.iter().cloned().chain(within).map(with_length).collect();
+    [anywhere, mended].concat()
 }

@@ -23,6 +23,7 @@ pub fn good(document: &Document) -> bool {
         ),
         ("rafttwine_calendar_answer", offsets!(second::CalendarAnswer, raw::CalendarAnswer: length number)),
         ("rafttwine_written", offsets!(second::Written, raw::Written: length number)),
+        ("rafttwine_placed", offsets!(second::Placed, raw::Placed: length place number)),
         ("rafttwine_stretch", offsets!(second::Stretch, raw::StretchRecord: first last unit refusal currency)),
         ("rafttwine_packaging_answer", offsets!(second::PackagingAnswer, raw::PackagingAnswer: gross values number present units)),
         ("rafttwine_text_answer", offsets!(second::TextAnswer, raw::TextAnswer: place length number book)),

@@ -37,7 +37,7 @@ pub fn call() -> Call<TextAnswer, u8> {
             ("the archive", |asked, fallback, number, _| archive::text(asked, fallback, number)),
         ],
         fill: pattern,
-        names: Names { first: "Asked", second: "Fallback", extra: Some("Text number"), room: None },
+        names: Names { first: "Asked", second: Some("Fallback"), extra: Some("Text number"), room: None },
         example,
         vectors: [texts(), odd_texts(), broken(), longest()].concat(),
     }

@@ -1,13 +1,17 @@
 //! A vector: what is handed to a call, and what was worked out by hand that it does.
 
 use crate::lent::{due, lend, Fill, Outcome};
-use second::{CalendarAnswer, PackagingAnswer, PriceAnswer, TextAnswer, Written};
+use second::{CalendarAnswer, PackagingAnswer, Placed, PriceAnswer, TextAnswer, Written};
 use std::fmt::Debug;
 
-/// What every answer has: its number, and zeros beside a refusal.
+/// What every answer has: its number, and zeros beside a refusal, but for the place that some answers tell.
 pub trait Answer: Copy + PartialEq + Debug {
     fn refused(number: u8) -> Self;
     fn number(&self) -> u8;
+    fn at(self, place: u64) -> Self {
+        assert_eq!(place, 0, "this answer has no place");
+        self
+    }
 }
 
 macro_rules! answers {
@@ -25,6 +29,20 @@ macro_rules! answers {
 }
 
 answers!(PriceAnswer CalendarAnswer Written PackagingAnswer TextAnswer);
+
+impl Answer for Placed {
+    fn refused(number: u8) -> Self {
+        Placed { number, ..Placed::default() }
+    }
+
+    fn number(&self) -> u8 {
+        self.number
+    }
+
+    fn at(self, place: u64) -> Self {
+        Placed { place, ..self }
+    }
+}
 
 /// A call as all calls can be called: two byte strings to read, a number where the call takes one, lent memory where it writes.
 pub type Run<A, T> = fn(&[u8], &[u8], u32, &mut [T]) -> A;
@@ -49,6 +67,12 @@ impl<A: Answer, T: Copy + PartialEq + Debug> Vector<A, T> {
 
     pub fn room(mut self, room: usize) -> Self {
         self.room = room;
+        self
+    }
+
+    /// With a place beside the refusal.
+    pub fn at(mut self, place: u64) -> Self {
+        self.answer = self.answer.at(place);
         self
     }
 
