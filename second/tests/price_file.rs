@@ -1,6 +1,7 @@
 //! The manufacturer's price file: what each line becomes, which lines are bad, and what is written from a book. What a field may say
 //! and what not is in `src/file_faults`, and held to in `price_file_faults.rs`.
 
+use second::file_faults::columns::*;
 use second::make::{self, latin1, Article, Packaging, Price, Record, Rounding, Scheme};
 use second::{book_ok, read_prices, write_prices, Placed};
 
@@ -67,21 +68,6 @@ fn row() -> Price {
 const FIELDS: [&str; 13] = ["A1", "", "S", "B", "1", "", "100.00", "1", "EUR", "20240101", "20241231", "0", ""];
 
 const LINE: &str = "A1;;S;B;1;;100.00;1;EUR;20240101;20241231;0;";
-
-// Places of the fields, from 0.
-const ARTICLE: usize = 0;
-const CONDITION: usize = 1;
-const SORT: usize = 2;
-const LEVEL: usize = 3;
-const RULE: usize = 4;
-const TEXT: usize = 5;
-const VALUE: usize = 6;
-const FLAG: usize = 7;
-const CURRENCY: usize = 8;
-const FROM: usize = 9;
-const TO: usize = 10;
-const QUANTITY: usize = 11;
-const ROUNDING: usize = 12;
 
 /// The line with one field as given, in Latin-1.
 fn with(place: usize, field: &str) -> Vec<u8> {

@@ -4,6 +4,7 @@
 
 mod books;
 mod bytes;
+pub mod columns;
 mod fields;
 mod long;
 mod quotes;
@@ -13,6 +14,7 @@ use crate::file_cases::FileCase;
 use crate::file_compare::FileCall;
 use crate::make::{Price, Record};
 use crate::price_file::Refused;
+use columns::*;
 
 /// A file to read or a book to write from, and what is known of it beforehand.
 pub struct Fault {
@@ -54,21 +56,6 @@ fn empty_case() -> FileCase {
 
 /// The fields of a good line.
 const FIELDS: [&[u8]; 13] = [b"A1", b"", b"S", b"B", b"1", b"", b"100.00", b"1", b"EUR", b"20240101", b"20241231", b"0", b""];
-
-// Places of the fields, from 0.
-const ARTICLE: usize = 0;
-const CONDITION: usize = 1;
-const SORT: usize = 2;
-const LEVEL: usize = 3;
-const RULE: usize = 4;
-const TEXT: usize = 5;
-const VALUE: usize = 6;
-const FLAG: usize = 7;
-const CURRENCY: usize = 8;
-const FROM: usize = 9;
-const TO: usize = 10;
-const QUANTITY: usize = 11;
-const ROUNDING: usize = 12;
 
 /// What the good line says.
 fn row() -> Price {
