@@ -29,7 +29,7 @@ use Rattle.wanted.specs.Last.{PartOf, RecordAt, LastIs, LastNamed, LastA
 -- ---- a name
 
 pub first-is : {b names starts ends : List ℕ} {n r : ℕ} → FoundAt names starts ends n (take (0 - 0) (drop 0 b)) r
-    → LastIs b names starts ends n (record { from = 0; to = 0; place = r })
+    → LastIs b names starts ends n (record { from = 0; to = 0; rank = r })
 first-is f = record { low = omega arith; fits = omega arith; found = f }
 
 module _ {b names starts ends : List ℕ} {n from to : ℕ} where
@@ -39,7 +39,7 @@ module _ {b names starts ends : List ℕ} {n from to : ℕ} where
   named-same {last} is s t = record { is = is; name = same-eq (part b (last .from) (last .to)) (part b from to) (s .is ∙ t) }
 
   pub named-new : PartOf b from to → {r : ℕ} → FoundAt names starts ends n (take (to - from) (drop from b)) r
-      → LastNamed b names starts ends n from to (record { from = from; to = to; place = r })
+      → LastNamed b names starts ends n from to (record { from = from; to = to; rank = r })
   named-new p f = record { is = record { low = p .low; fits = p .fits; found = f }; name = refl }
 
 -- ---- a record by itself
@@ -101,7 +101,7 @@ module _ {b : List ℕ} {start end : ℕ} (p : RecordAt b start end) where
   pub last-none : {names starts ends : List ℕ} {n : ℕ} {last : Last} → LastIs b names starts ends n last
       → (eqb (getD (take (end - start) (drop start b)) 0 0) 1 || eqb (getD (take (end - start) (drop start b)) 0 0) 2) ≡ false
       → LastAfter b names starts ends n (whole kinded (part b start end)) last
-  last-none is f = record { place = is .found .fits; is = is; own = λ x e. absurd (of-none (p .accepted) f x e) }
+  last-none is f = record { rank = is .found .fits; is = is; own = λ x e. absurd (of-none (p .accepted) f x e) }
 
   module _ (h : (eqb (getD (take (end - start) (drop start b)) 0 0) 1 || eqb (getD (take (end - start) (drop start b)) 0 0) 2) ≡ true) where
     pub last-long : 1 < length (take (end - start) (drop start b))
@@ -126,4 +126,4 @@ module _ {b : List ℕ} {start end : ℕ} (p : RecordAt b start end) where
 
       pub last-named : {names starts ends : List ℕ} {k : ℕ} {r : Last} → LastNamed b names starts ends k (start + 2) (start + 2 + x) r
           → LastAfter b names starts ends k (whole kinded (part b start end)) r
-      last-named r = record { place = r .is .found .fits; is = r .is; own = λ y e. r .name ∙ its y e }
+      last-named r = record { rank = r .is .found .fits; is = r .is; own = λ y e. r .name ∙ its y e }

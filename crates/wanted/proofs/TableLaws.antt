@@ -13,7 +13,7 @@ use Rattle.layout.specs.Reads.{part}
 use Rattle.layout.specs.Names.{nameAt, Listed}
 use Rattle.layout.specs.Ensures.{Says, Number}
 use Rattle.wanted.specs.Marks.{markOf}
-use Rattle.wanted.specs.Table.{Leads, Filled, FoundAt, PlacesFound}
+use Rattle.wanted.specs.Table.{Leads, Filled, FoundAt, RanksFound}
 
 -- ---- the table is filled
 
@@ -147,7 +147,7 @@ module _ (names starts ends : List ℕ) where
 
 -- ---- a name is found
 
--- places from c on have another name
+-- ranks from c on have another name
 pub record Finding (names starts ends : List ℕ) (n : ℕ) (name : List ℕ) (c : ℕ) : Type 0 where
   pub leads : Leads names starts ends n (markOf name) c
   pub before : (j : ℕ) → j < n → nameAt names starts ends j ≡ name → j < c
@@ -208,28 +208,28 @@ module _ {names starts ends : List ℕ} {n : ℕ} {heads links : List ℕ} (fill
 -- ---- each name is found
 
 -- those before j
-pub record Placing (names starts ends : List ℕ) (n : ℕ) (places : List ℕ) (j : ℕ) : Type 0 where
+pub record Ranking (names starts ends : List ℕ) (n : ℕ) (ranks : List ℕ) (j : ℕ) : Type 0 where
   pub few : n ≤ 500
-  pub long : length places ≡ 500
-  pub done : (i : ℕ) → i < j → FoundAt names starts ends n (nameAt names starts ends i) (getD places i 0)
+  pub long : length ranks ≡ 500
+  pub done : (i : ℕ) → i < j → FoundAt names starts ends n (nameAt names starts ends i) (getD ranks i 0)
 
 module _ (names starts ends : List ℕ) (n : ℕ) where
-  pub placing-start : Listed names starts ends n → Placing names starts ends n (replicate 500 0) 0
-  placing-start list = record { few = list .few; long = length-replicate {A = ℕ} 500 0; done = λ i l. absurd (omega arith) }
+  pub ranking-start : Listed names starts ends n → Ranking names starts ends n (replicate 500 0) 0
+  ranking-start list = record { few = list .few; long = length-replicate {A = ℕ} 500 0; done = λ i l. absurd (omega arith) }
 
-  module _ {places : List ℕ} {j : ℕ} (inv : Placing names starts ends n places j) where
-    pub placing-end : n ≤ j → PlacesFound names starts ends n places
-    placing-end h = record { each = λ i l. inv .done i (omega arith) }
+  module _ {ranks : List ℕ} {j : ℕ} (inv : Ranking names starts ends n ranks j) where
+    pub ranking-end : n ≤ j → RanksFound names starts ends n ranks
+    ranking-end h = record { each = λ i l. inv .done i (omega arith) }
 
-    pub placing-again : j < n → {r : ℕ} → FoundAt names starts ends n (part names (getD starts j 0) (getD ends j 0)) r
-        → Placing names starts ends n (set places j r) (j + 1)
-    placing-again h {r} found = record { few = inv .few; long = length-set places j r ∙ inv .long; done = λ i k. go i (decLt i j) k }
+    pub ranking-again : j < n → {r : ℕ} → FoundAt names starts ends n (part names (getD starts j 0) (getD ends j 0)) r
+        → Ranking names starts ends n (set ranks j r) (j + 1)
+    ranking-again h {r} found = record { few = inv .few; long = length-set ranks j r ∙ inv .long; done = λ i k. go i (decLt i j) k }
       where
-        go : (i : ℕ) → Dec (i < j) → i < j + 1 → FoundAt names starts ends n (nameAt names starts ends i) (getD (set places j r) i 0)
+        go : (i : ℕ) → Dec (i < j) → i < j + 1 → FoundAt names starts ends n (nameAt names starts ends i) (getD (set ranks j r) i 0)
         go i (yes k) m =
-            subst (FoundAt names starts ends n (nameAt names starts ends i)) (sym (getD-set-other places j i r 0 (λ e. omega arith))) (inv .done i k)
+            subst (FoundAt names starts ends n (nameAt names starts ends i)) (sym (getD-set-other ranks j i r 0 (λ e. omega arith))) (inv .done i k)
         go i (no k) m =
             let e : j ≡ i = omega arith in
-            let g : j < length places = omega (arith, inv .long, inv .few) in
-            subst (λ (x : ℕ). FoundAt names starts ends n (nameAt names starts ends x) (getD (set places j r) x 0)) e
-            (subst (FoundAt names starts ends n (nameAt names starts ends j)) (sym (getD-set-same places j r 0 g)) found)
+            let g : j < length ranks = omega (arith, inv .long, inv .few) in
+            subst (λ (x : ℕ). FoundAt names starts ends n (nameAt names starts ends x) (getD (set ranks j r) x 0)) e
+            (subst (FoundAt names starts ends n (nameAt names starts ends j)) (sym (getD-set-same ranks j r 0 g)) found)

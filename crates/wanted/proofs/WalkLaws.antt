@@ -1,4 +1,4 @@
--- The walk: the entry at an article's place holds what was seen of the article so far; and in the end each name on the list has its entry.
+-- The walk: the entry at an article's rank holds what was seen of the article so far; and in the end each name on the list has its entry.
 use Prim.Native.Nat.{ℕ, _+_, _-_, _*_, _^_, _≤_, _<_}
 use mathlib.Core.Path.{_≡_, refl, sym, _∙_, ap, subst}
 use mathlib.Core.Bool.{Bool, true, false, _&&_, _||_, not, cond, false≢true}
@@ -32,9 +32,9 @@ use Rattle.survey.specs.Window.{SpanAfter}
 use Rattle.survey.specs.Survey.{FoundIs, nothing}
 use Rattle.survey.proofs.WindowLaws.{Spanning, span-kept, rows-gather, roundings-gather, roundings-outside, span-start, span-turn, span-end, windows}
 use Rattle.wanted.specs.declared.entries.Entry.{Entry}
-use Rattle.wanted.specs.Table.{FoundAt, PlacesFound}
+use Rattle.wanted.specs.Table.{FoundAt, RanksFound}
 use Rattle.wanted.specs.Entries.{ofArticle, isArticle, isRow, EntryAfter, SeenIs, rowsFor, foundIn, ToldIs, noEntry, noFound}
-use Rattle.wanted.specs.Entries.{SeenAll, PlacesIn, ToldAll, FoundAll}
+use Rattle.wanted.specs.Entries.{SeenAll, RanksIn, ToldAll, FoundAll}
 use Rattle.wanted.specs.declared.last.Last.{Last}
 use Rattle.wanted.specs.Last.{RecordAt, LastIs, LastAfter}
 
@@ -167,10 +167,10 @@ module _ {b : List ℕ} (article : List ℕ) (sort : ℕ) where
 
 -- ---- the walk
 
--- an article has one place
-one-place : {names starts ends : List ℕ} {n : ℕ} {x : List ℕ} {i r : ℕ} → FoundAt names starts ends n x i → FoundAt names starts ends n x r
+-- an article has one rank
+one-rank : {names starts ends : List ℕ} {n : ℕ} {x : List ℕ} {i r : ℕ} → FoundAt names starts ends n x i → FoundAt names starts ends n x r
     → r < n → r ≡ i
-one-place {i = i} {r} f g h =
+one-rank {i = i} {r} f g h =
     let a = g .alike h in
     let l : i < _ = f .some r h a in
     omega (arith, f .last r h a, g .last i l (f .alike l))
@@ -231,22 +231,22 @@ module _ (b names starts ends : List ℕ) (n : ℕ) where
 
         pub walking-turn : {next : Last} {new : Entry} {span : Span}
             → LastAfter b names starts ends n (whole kinded (part b (at + 2) end)) next
-            → SeenIs (ltb (next .place) n) (getD entries (next .place) noEntry) (whole kinded (take (end - (at + 2)) (drop (at + 2) b))) at end new
+            → SeenIs (ltb (next .rank) n) (getD entries (next .rank) noEntry) (whole kinded (take (end - (at + 2)) (drop (at + 2) b))) at end new
             → SpanAfter rounded (Tests.isRounding (whole kinded (take (end - (at + 2)) (drop (at + 2) b)))) at end span
-            → Walking b names starts ends n (set entries (next .place) new) span next end
+            → Walking b names starts ends n (set entries (next .rank) new) span next end
         walking-turn {next} {new} name after noted = record {
           name = name .is;
           few = inv .few;
           between = pass-next (inv .between) h stop;
-          long = length-set entries (next .place) new ∙ inv .long;
+          long = length-set entries (next .rank) new ∙ inv .long;
           rounding =
               span-turn roundings-gather (inv .rounding) (inv .between) stop (pass-record (inv .between) h stop)
               (roundings-outside (whole kinded (part b (at + 2) end))) noted;
-          each = λ article sort r f l. go article sort r f l (ℕ-discrete r (next .place));
+          each = λ article sort r f l. go article sort r f l (ℕ-discrete r (next .rank));
         }
           where
             i : ℕ
-            i = next .place
+            i = next .rank
 
             here : Option Record
             here = whole kinded (part b (at + 2) end)
@@ -254,7 +254,7 @@ module _ (b names starts ends : List ℕ) (n : ℕ) where
             placed : (x : List ℕ) → ofArticle here ≡ some x → FoundAt names starts ends n x i
             placed x e = subst (λ (y : List ℕ). FoundAt names starts ends n y i) (name .own x e) (name .is .found)
 
-            -- at its place: the record is of that article, or of none
+            -- at its rank: the record is of that article, or of none
             own : (article : List ℕ) (sort : ℕ) → FoundAt names starts ends n article i → i < n → (x : Option (List ℕ)) → ofArticle here ≡ x
                 → Tests.articleOf article here ≡ isArticle here
             own article sort f l none e = no-article article sort here e
@@ -271,56 +271,56 @@ module _ (b names starts ends : List ℕ) (n : ℕ) where
                 (own article sort g m (ofArticle here) refl) (after .after (lt-ltb i n m))))
             go article sort r f l (no d) =
                 rw (getD-set-other entries i r new noEntry d)
-                (kept-other article sort (inv .each article sort r f l) (inv .between) h stop (λ e. d (one-place (placed article e) f l)))
+                (kept-other article sort (inv .each article sort r f l) (inv .between) h stop (λ e. d (one-rank (placed article e) f l)))
 
 -- ---- what is told of each name
 
-pub places-in : {names starts ends : List ℕ} {n : ℕ} {places : List ℕ} → Listed names starts ends n → PlacesFound names starts ends n places
-    → PlacesIn n places
-places-in list found = record { few = list .few; each = λ j h. found .each j h .fits }
+pub ranks-in : {names starts ends : List ℕ} {n : ℕ} {ranks : List ℕ} → Listed names starts ends n → RanksFound names starts ends n ranks
+    → RanksIn n ranks
+ranks-in list found = record { few = list .few; each = λ j h. found .each j h .fits }
 
 -- of those before j
-pub record Telling (places sorts : List ℕ) (n : ℕ) (entries : List Entry) (rounded : Span) (all : List Found) (j : ℕ) : Type 0 where
+pub record Telling (ranks sorts : List ℕ) (n : ℕ) (entries : List Entry) (rounded : Span) (all : List Found) (j : ℕ) : Type 0 where
   pub few : n ≤ 500
   pub long : length all ≡ 500
-  pub done : (i : ℕ) → i < j → getD all i noFound ≡ foundIn (getD entries (getD places i 0) noEntry) (getD sorts i 0) rounded
+  pub done : (i : ℕ) → i < j → getD all i noFound ≡ foundIn (getD entries (getD ranks i 0) noEntry) (getD sorts i 0) rounded
 
-module _ (places sorts : List ℕ) (n : ℕ) (entries : List Entry) (rounded : Span) where
-  pub telling-place : {j : ℕ} → PlacesIn n places → j < n → getD places j 0 < 501
-  telling-place {j} p h = omega (arith, p .few, p .each j h)
+module _ (ranks sorts : List ℕ) (n : ℕ) (entries : List Entry) (rounded : Span) where
+  pub telling-rank : {j : ℕ} → RanksIn n ranks → j < n → getD ranks j 0 < 501
+  telling-rank {j} p h = omega (arith, p .few, p .each j h)
 
-  -- an element's place in bytes is a number that the machine has
-  pub telling-fits : {j : ℕ} → PlacesIn n places → j < n → (k : ℕ) → 501 * k < 2 ^ 63 → Fits w64 (getD places j 0 * k)
-  telling-fits {j} p h k l = scaled-fits (getD places j 0) 501 k (telling-place p h) l
+  -- an element's rank in bytes is a number that the machine has
+  pub telling-fits : {j : ℕ} → RanksIn n ranks → j < n → (k : ℕ) → 501 * k < 2 ^ 63 → Fits w64 (getD ranks j 0 * k)
+  telling-fits {j} p h k l = scaled-fits (getD ranks j 0) 501 k (telling-rank p h) l
 
-  pub telling-start : PlacesIn n places → Telling places sorts n entries rounded (replicate 500 nothing) 0
+  pub telling-start : RanksIn n ranks → Telling ranks sorts n entries rounded (replicate 500 nothing) 0
   telling-start p = record { few = p .few; long = length-replicate 500 nothing; done = λ i l. absurd (omega arith) }
 
-  module _ {all : List Found} {j : ℕ} (inv : Telling places sorts n entries rounded all j) where
-    pub telling-end : n ≤ j → ToldAll places sorts n entries rounded all
+  module _ {all : List Found} {j : ℕ} (inv : Telling ranks sorts n entries rounded all j) where
+    pub telling-end : n ≤ j → ToldAll ranks sorts n entries rounded all
     telling-end h = record { each = λ i l. inv .done i (omega arith) }
 
-    pub telling-again : j < n → {l : Found} → ToldIs (getD entries (getD places j 0) noEntry) (getD sorts j 0) rounded l
-        → Telling places sorts n entries rounded (set all j l) (j + 1)
+    pub telling-again : j < n → {l : Found} → ToldIs (getD entries (getD ranks j 0) noEntry) (getD sorts j 0) rounded l
+        → Telling ranks sorts n entries rounded (set all j l) (j + 1)
     telling-again h {l} told = record { few = inv .few; long = length-set all j l ∙ inv .long; done = λ i k. go i (decLt i j) k }
       where
         go : (i : ℕ) → Dec (i < j) → i < j + 1
-            → getD (set all j l) i noFound ≡ foundIn (getD entries (getD places i 0) noEntry) (getD sorts i 0) rounded
+            → getD (set all j l) i noFound ≡ foundIn (getD entries (getD ranks i 0) noEntry) (getD sorts i 0) rounded
         go i (yes k) m = getD-set-other all j i l noFound (λ e. omega arith) ∙ inv .done i k
         go i (no k) m =
             let e : j ≡ i = omega arith in
             let g : j < length all = omega (arith, inv .long, inv .few) in
-            subst (λ (x : ℕ). getD (set all j l) x noFound ≡ foundIn (getD entries (getD places x 0) noEntry) (getD sorts x 0) rounded) e
+            subst (λ (x : ℕ). getD (set all j l) x noFound ≡ foundIn (getD entries (getD ranks x 0) noEntry) (getD sorts x 0) rounded) e
             (getD-set-same all j l noFound g ∙ told .is)
 
 -- what was seen and told is what is found of each
-pub found-all : {b names starts ends sorts : List ℕ} {n : ℕ} {places : List ℕ} → PlacesFound names starts ends n places
+pub found-all : {b names starts ends sorts : List ℕ} {n : ℕ} {ranks : List ℕ} → RanksFound names starts ends n ranks
     → {entries : List Entry} {rounded : Span} → SeenAll b names starts ends n entries rounded
-    → {all : List Found} → ToldAll places sorts n entries rounded all → FoundAll b names starts ends sorts n all
-found-all {b} {names} {starts} {ends} {sorts} {n} {places} place {entries} {rounded} seen {all} told = record {
+    → {all : List Found} → ToldAll ranks sorts n entries rounded all → FoundAll b names starts ends sorts n all
+found-all {b} {names} {starts} {ends} {sorts} {n} {ranks} rank {entries} {rounded} seen {all} told = record {
   each = λ j h.
-      let r = getD places j 0 in
-      let m : r < n = place .each j h .some j h refl in
+      let r = getD ranks j 0 in
+      let m : r < n = rank .each j h .some j h refl in
       subst (FoundIs b (nameAt names starts ends j) (getD sorts j 0)) (sym (told .each j h))
-      (seen .each (nameAt names starts ends j) (getD sorts j 0) r (place .each j h) m);
+      (seen .each (nameAt names starts ends j) (getD sorts j 0) r (rank .each j h) m);
 }

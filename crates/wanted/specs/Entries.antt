@@ -65,19 +65,19 @@ noEntry = record { found = false; sale = record { first = 0; last = 0 }; purchas
 abbrev pub noFound : Found
 noFound = record { article = false; window = record { first = 0; last = 0; from = 0; to = 0 } }
 
--- the entry at the place of an article has what is found of it, for rows of any sort
+-- the entry at the rank of an article has what is found of it, for rows of any sort
 pub record SeenAll (b names starts ends : List ℕ) (n : ℕ) (entries : List Entry) (roundings : Span) : Type 0 where
   pub each : (article : List ℕ) (sort r : ℕ) → FoundAt names starts ends n article r → r < n
       → FoundIs b article sort (foundIn (getD entries r noEntry) sort roundings)
 
--- these are places on the list
-pub record PlacesIn (n : ℕ) (places : List ℕ) : Type 0 where
+-- these are ranks on the list
+pub record RanksIn (n : ℕ) (ranks : List ℕ) : Type 0 where
   pub few : n ≤ 500
-  pub each : (j : ℕ) → j < n → getD places j 0 ≤ n
+  pub each : (j : ℕ) → j < n → getD ranks j 0 ≤ n
 
 -- what the entries there tell, for the sorts beside them
-pub record ToldAll (places sorts : List ℕ) (n : ℕ) (entries : List Entry) (roundings : Span) (all : List Found) : Type 0 where
-  pub each : (j : ℕ) → j < n → getD all j noFound ≡ foundIn (getD entries (getD places j 0) noEntry) (getD sorts j 0) roundings
+pub record ToldAll (ranks sorts : List ℕ) (n : ℕ) (entries : List Entry) (roundings : Span) (all : List Found) : Type 0 where
+  pub each : (j : ℕ) → j < n → getD all j noFound ≡ foundIn (getD entries (getD ranks j 0) noEntry) (getD sorts j 0) roundings
 
 -- of each of the first n names: what a search of the book for this article and sort alone finds
 pub record FoundAll (b names starts ends sorts : List ℕ) (n : ℕ) (all : List Found) : Type 0 where

@@ -1,4 +1,4 @@
--- The article whose record or row went by last, and its place on the list.
+-- The article whose record or row went by last, and its rank on the list.
 use Prim.Native.Nat.{ℕ, _≤_}
 use mathlib.Core.Path.{_≡_}
 use mathlib.Core.List.{List}
@@ -22,11 +22,11 @@ pub record RecordAt (b : List ℕ) (start end : ℕ) : Type 0 where
   pub fits : end ≤ length b
   pub accepted : Accepted (part b start end)
 
--- in the book stands a name there, and that is its place on the list
+-- in the book stands a name there, and that is its rank on the list
 pub record LastIs (b names starts ends : List ℕ) (n : ℕ) (r : Last) : Type 0 where
   pub low : r .from ≤ r .to
   pub fits : r .to ≤ length b
-  pub found : FoundAt names starts ends n (part b (r .from) (r .to)) (r .place)
+  pub found : FoundAt names starts ends n (part b (r .from) (r .to)) (r .rank)
 
 -- and it is the name from `from` to `to`
 pub record LastNamed (b names starts ends : List ℕ) (n from to : ℕ) (r : Last) : Type 0 where
@@ -35,6 +35,6 @@ pub record LastNamed (b names starts ends : List ℕ) (n from to : ℕ) (r : Las
 
 -- and if the record that went by is of an article, it is that one's name
 pub record LastAfter (b names starts ends : List ℕ) (n : ℕ) (o : Option Record) (r : Last) : Type 0 where
-  pub place : r .place ≤ n
+  pub rank : r .rank ≤ n
   pub is : LastIs b names starts ends n r
   pub own : (x : List ℕ) → ofArticle o ≡ some x → part b (r .from) (r .to) ≡ x

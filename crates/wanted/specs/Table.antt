@@ -6,7 +6,7 @@ use lib.ListN.{getD}
 use Rattle.layout.specs.Names.{nameAt}
 use Rattle.wanted.specs.Marks.{markOf}
 
--- c is 0, or one more than the place of a name with the mark m
+-- c is 0, or one more than the rank of a name with the mark m
 pub record Leads (names starts ends : List ℕ) (n m c : ℕ) : Type 0 where
   pub fits : c ≤ n
   pub mark : (j : ℕ) → c ≡ j + 1 → markOf (nameAt names starts ends j) ≡ m
@@ -19,13 +19,13 @@ pub record Filled (names starts ends : List ℕ) (n : ℕ) (heads links : List �
   pub down : (k : ℕ) → k < n → getD links k 0 ≤ k
   pub before : (j k : ℕ) → j < k → k < n → markOf (nameAt names starts ends j) ≡ markOf (nameAt names starts ends k) → j < getD links k 0
 
--- `r` is the last place on the list with this name, or n
+-- `r` is the last rank on the list with this name, or n
 pub record FoundAt (names starts ends : List ℕ) (n : ℕ) (name : List ℕ) (r : ℕ) : Type 0 where
   pub fits : r ≤ n
   pub alike : r < n → nameAt names starts ends r ≡ name
   pub some : (j : ℕ) → j < n → nameAt names starts ends j ≡ name → r < n
   pub last : (j : ℕ) → j < n → nameAt names starts ends j ≡ name → j ≤ r
 
--- the last place of each name
-pub record PlacesFound (names starts ends : List ℕ) (n : ℕ) (places : List ℕ) : Type 0 where
-  pub each : (j : ℕ) → j < n → FoundAt names starts ends n (nameAt names starts ends j) (getD places j 0)
+-- the last rank of each name
+pub record RanksFound (names starts ends : List ℕ) (n : ℕ) (ranks : List ℕ) : Type 0 where
+  pub each : (j : ℕ) → j < n → FoundAt names starts ends n (nameAt names starts ends j) (getD ranks j 0)

@@ -1,4 +1,4 @@
-// The article whose record or row went by last, and its place on the list. Rows of an article mostly stand together: so the next one is compared
+// The article whose record or row went by last, and its rank on the list. Rows of an article mostly stand together: so the next one is compared
 // with it before the list is asked.
 use crate::table::find;
 use layout::names::same_bytes;
@@ -10,11 +10,11 @@ ghost use Rattle.layout.specs.Names.{Listed};
 ghost use Rattle.wanted.specs.Table.{Filled};
 ghost use Rattle.wanted.specs.Last.{PartOf, RecordAt, LastIs, LastNamed, LastAfter};
 
-// Its number stands in the book from `from` to `to`. The place is n if the article is not on the list.
+// Its number stands in the book from `from` to `to`. The rank is n if the article is not on the list.
 pub struct Last {
     pub from: usize,
     pub to: usize,
-    pub place: usize,
+    pub rank: usize,
 }
 
 // Before any record: a name of no bytes, at the front of the book.
@@ -31,11 +31,11 @@ pub fn last_first(
     requires { ⌜ Filled (now names) (now starts) (now ends) n (now heads) (now links) ⌝ }
     ensures { λ r. ⌜ LastIs (now (b .entry)) (now (names .entry)) (now (starts .entry)) (now (ends .entry)) n r ⌝ }
 {
-    let place = find(&b[0..0], names, starts, ends, n, heads, links);
+    let rank = find(&b[0..0], names, starts, ends, n, heads, links);
     Last {
         from: 0,
         to: 0,
-        place,
+        rank,
     }
 }
 
@@ -63,8 +63,8 @@ fn named(
     if same_bytes(&b[first..stop], &b[from..to]) {
         return last;
     }
-    let place = find(&b[from..to], names, starts, ends, n, heads, links);
-    Last { from, to, place }
+    let rank = find(&b[from..to], names, starts, ends, n, heads, links);
+    Last { from, to, rank }
 }
 
 // Once the record from `start` to `end` has gone by: any but an article or a row leaves the last one.

@@ -10,7 +10,7 @@ use crate::entries::seen;
 use crate::entries::told;
 use crate::last::last_after;
 use crate::last::last_first;
-use crate::table::places_of;
+use crate::table::ranks_of;
 use crate::table::table_of;
 use book::record_stop;
 use survey::Found;
@@ -21,9 +21,9 @@ ghost use Rattle.rules.specs.Lists.{isSome};
 ghost use Rattle.rules.specs.BookLayout.{records};
 ghost use Rattle.layout.specs.Names.{Listed};
 ghost use Rattle.wanted.specs.Table.{Filled};
-ghost use Rattle.wanted.specs.Entries.{SeenAll, PlacesIn, ToldAll, FoundAll};
+ghost use Rattle.wanted.specs.Entries.{SeenAll, RanksIn, ToldAll, FoundAll};
 
-// Of each place on the list what was seen of its article, and where the roundings stand. What is at place n nobody reads.
+// Of each rank on the list what was seen of its article, and where the roundings stand. What is at rank n nobody reads.
 struct Sightings {
     entries: [Entry; 501],
     roundings: Span,
@@ -61,7 +61,7 @@ fn walk(
         let end = record_stop(b, at);
         let start = at + 2;
         last = last_after(b, start, end, last, names, starts, ends, n, heads, links);
-        let i = last.place;
+        let i = last.rank;
         let t = &b[start..end];
         let old = entries[i];
         entries[i] = seen(old, i < n, t, at, end);
@@ -71,17 +71,17 @@ fn walk(
     Sightings { entries, roundings }
 }
 
-// What was seen at these places on the list, for rows of the sorts beside them.
-fn tell(places: [usize; 500], sorts: &[u8; 500], n: usize, sightings: Sightings) -> [Found; 500]
-    requires { ⌜ PlacesIn n places ⌝ }
-    ensures { λ r. ⌜ ToldAll places (now (sorts .entry)) n (sightings .entries) (sightings .roundings) r ⌝ }
+// What was seen at these ranks on the list, for rows of the sorts beside them.
+fn tell(ranks: [usize; 500], sorts: &[u8; 500], n: usize, sightings: Sightings) -> [Found; 500]
+    requires { ⌜ RanksIn n ranks ⌝ }
+    ensures { λ r. ⌜ ToldAll ranks (now (sorts .entry)) n (sightings .entries) (sightings .roundings) r ⌝ }
 {
     let entries = sightings.entries;
     let roundings = sightings.roundings;
     let mut all = [Found::NOTHING; 500];
     let mut j = 0;
     while j < n {
-        let i = places[j];
+        let i = ranks[j];
         let entry = entries[i];
         all[j] = told(entry, sorts[j], roundings);
         j += 1;
@@ -105,7 +105,7 @@ pub fn find_all(
     let table = table_of(names, starts, ends, n);
     let heads = table.heads;
     let links = table.links;
-    let places = places_of(names, starts, ends, n, &heads, &links);
+    let ranks = ranks_of(names, starts, ends, n, &heads, &links);
     let sightings = walk(b, names, starts, ends, n, &heads, &links);
-    tell(places, sorts, n, sightings)
+    tell(ranks, sorts, n, sightings)
 }

@@ -1,10 +1,10 @@
 // The wanted names by their marks. Name j stands in `names`, from starts[j] to ends[j]; the first n count.
-// A head, or a link, is one more than a place on the list, or 0: the head of a mark leads to the last name that has it, and each
+// A head, or a link, is one more than a rank on the list, or 0: the head of a mark leads to the last name that has it, and each
 // name's link to the one before it that has the same mark.
 use crate::marks::mark;
 use layout::names::same_bytes;
 ghost use Rattle.layout.specs.Names.{Listed};
-ghost use Rattle.wanted.specs.Table.{Filled, FoundAt, PlacesFound};
+ghost use Rattle.wanted.specs.Table.{Filled, FoundAt, RanksFound};
 
 pub struct Table {
     pub heads: [usize; 1024],
@@ -29,7 +29,7 @@ pub fn table_of(names: &[u8], starts: &[usize; 500], ends: &[usize; 500], n: usi
     Table { heads, links }
 }
 
-// The last place on the list that has this name; n if none has.
+// The last rank on the list that has this name; n if none has.
 pub fn find(
     name: &[u8],
     names: &[u8],
@@ -56,8 +56,8 @@ pub fn find(
     n
 }
 
-// The last place on the list of each name: that of names alike is the same.
-pub fn places_of(
+// The last rank on the list of each name: that of names alike is the same.
+pub fn ranks_of(
     names: &[u8],
     starts: &[usize; 500],
     ends: &[usize; 500],
@@ -67,15 +67,15 @@ pub fn places_of(
 ) -> [usize; 500]
     requires { ⌜ Listed (now names) (now starts) (now ends) n ⌝ }
     requires { ⌜ Filled (now names) (now starts) (now ends) n (now heads) (now links) ⌝ }
-    ensures { λ r. ⌜ PlacesFound (now (names .entry)) (now (starts .entry)) (now (ends .entry)) n r ⌝ }
+    ensures { λ r. ⌜ RanksFound (now (names .entry)) (now (starts .entry)) (now (ends .entry)) n r ⌝ }
 {
-    let mut places = [0; 500];
+    let mut ranks = [0; 500];
     let mut j = 0;
     while j < n {
         let from = starts[j];
         let to = ends[j];
-        places[j] = find(&names[from..to], names, starts, ends, n, heads, links);
+        ranks[j] = find(&names[from..to], names, starts, ends, n, heads, links);
         j += 1;
     }
-    places
+    ranks
 }
