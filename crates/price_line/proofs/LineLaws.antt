@@ -1,5 +1,5 @@
 -- The thirteen fields are the row: one chain along the layout of a line.
-use Prim.Native.Nat.{ℕ, zero, suc, _-_, _≤_, _<_}
+use Prim.Native.Nat.{ℕ, zero, suc, _+_, _-_, _≤_, _<_}
 use mathlib.Core.Path.{_≡_, refl, sym, _∙_, ap, ap₂, subst}
 use mathlib.Core.Bool.{Bool, true, false, _&&_, and-assoc, and-true, false≢true}
 use mathlib.Core.List.{List, [], _∷_}
@@ -7,14 +7,14 @@ use mathlib.Core.Option.{Option, some, none, Option·none-ne-some}
 use native.Mathlib.Omega.{arith}
 use lib.Dec.{eqb}
 use lib.IntN.{ℤ, pos, negsuc}
-use lib.ListN.{length, drop, drop-of-length-le}
-use lib.Seq.{drop-cons}
+use lib.ListN.{length, drop, drop-of-length-le, length-drop}
+use lib.Seq.{drop-cons, drop-drop}
 use borrow.Author.Tests.{eqb-true, eqb-false, leb-false, ltb-false, lt-leb, le-ltb}
 use Rattle.rules.specs.Lists.{all, between}
 use Rattle.rules.specs.Layout.{Layout, _>>=_, give, _such_, must, back, whole, wholly}
 use Rattle.rules.specs.Bytes.{nameByte, eitherSide}
 use Rattle.rules.specs.BookLayout.{valueOf, inBounds}
-use Rattle.file_rules.specs.Fields.{field, nextField}
+use Rattle.file_rules.specs.Fields.{semicolon, field, nextField}
 use Rattle.file_rules.specs.Decimals.{dateIn, quantityIn, valueIn}
 use Rattle.file_rules.specs.PriceLine.{NamedRow, _meaning_, isName, letterIn, isCurrency, isEmpty, priceLine}
 use Rattle.rules.specs.declared.Value.{Value}
@@ -23,6 +23,7 @@ use Rattle.rules.proofs.TestLaws.{and-left, and-right, between-high}
 use Rattle.layout.specs.Ensures.{Says}
 use Rattle.layout.proofs.LayoutLaws.{then-reads, then-broken, then-when, such-reads, if-reads, give-reads, reads-as}
 use Rattle.fields.specs.declared.field.Field.{Field}
+use Rattle.fields.proofs.EndLaws.{next-behind}
 use Rattle.figures.specs.declared.Capitals.{Capitals}
 use Rattle.fields.specs.Field.{textOf, TextIs, NextIs}
 use Rattle.figures.specs.Figures.{mostCents, near, signedBy, lettersOf, CapitalsAre}
@@ -30,7 +31,7 @@ use Rattle.price_line.specs.declared.Kinds.{Kinds}
 use Rattle.price_line.specs.declared.Priced.{Priced}
 use Rattle.price_line.specs.declared.Span.{Span}
 use Rattle.price_line.specs.declared.PriceLine.{PriceLine}
-use Rattle.price_line.specs.Line.{nth, FieldsAre, namesFit, Kinded, Worth, ValueAre, Spanned, rowOn, LineIs}
+use Rattle.price_line.specs.Line.{nth, FieldsAre, namesFit, Kinded, Worth, ValueAre, Spanned, rowOn, NameStarts, LineIs}
 use Rattle.price_line.proofs.FieldsLaws.{field-text}
 
 -- ---- what a field's text stands for
@@ -139,6 +140,24 @@ currency-reads {s} {at} {f} {c} p q = by (c .good) (q .good) (q .is)
         no true = refl
         no false = refl
 
+-- ---- where a name starts
+
+module _ {line : List ℕ} {at : ℕ} {f g : Field} (p : NextIs line at f) (q : NextIs line (f .next) g) (a : f .good ≡ true) (b : g .good ≡ true) where
+  behind : (u : List ℕ) × (drop at line ≡ semicolon ∷ u) × (field u ≡ some (textOf line f, drop (f .next) line))
+  behind = next-behind (drop at line) (p .reads .is ∙ ap (λ (x : Bool). only x (textOf line f, drop (f .next) line)) a)
+
+  after : (u : List ℕ) × (drop (f .next) line ≡ semicolon ∷ u) × (field u ≡ some (textOf line g, drop (g .next) line))
+  after = next-behind (drop (f .next) line) (q .reads .is ∙ ap (λ (x : Bool). only x (textOf line g, drop (g .next) line)) b)
+
+  rest-at : drop (at + 1) line ≡ behind .0
+  rest-at = sym (drop-drop 1 at line) ∙ ap (drop 1) (behind .1)
+
+  starts-at : at + 1 ≤ length line
+  starts-at = omega (arith, length-drop at line, ap length (behind .1))
+
+  starts-reads : field (drop (at + 1) line) ≡ some (textOf line f, semicolon ∷ after .0)
+  starts-reads = ap field rest-at ∙ (behind .2 ∙ ap (λ (u : List ℕ). some (textOf line f, u)) (after .1))
+
 -- ---- the whole line
 
 regroup : (a b k₁ k₂ k₃ n v₁ v₂ v₃ c d₁ d₂ d₃ e z : Bool)
@@ -183,7 +202,7 @@ module _ {line : List ℕ} {fs : List Field} (p : FieldsAre line fs) where
         (nth fs 12 .good && eqb (nth fs 12 .count) 0) && eqb (nth fs 12 .next) (length line)
 
     abbrev read : PriceLine
-    read = record { article = nth fs 0; condition = nth fs 1; name = nth fs 5; kinds = k; priced = v; currency = c .currency; span = s; good = good }
+    read = record { article = nth fs 0; condition = nth fs 1; name = nth fs 5; start = nth fs 4 .next + 1; kinds = k; priced = v; currency = c .currency; span = s; good = good }
 
     text : (j : ℕ) → j < 13 → TextIs line (nth fs j)
     text j h = field-text p j h
@@ -240,17 +259,33 @@ module _ {line : List ℕ} {fs : List Field} (p : FieldsAre line fs) where
       article = text 0 (omega arith);
       condition = text 1 (omega arith);
       name = text 5 (omega arith);
-      short =
-          λ g. fit (nth fs 0 .good) (nth fs 1 .good) (names .is
-          ∙ and-left t _ (and-left (t && k .good) _
-          (and-left (t && k .good && (nth fs 5 .good && nth fs 5 .named)) _
-          (and-left (t && k .good && (nth fs 5 .good && nth fs 5 .named) && v .good) _
-          (and-left (t && k .good && (nth fs 5 .good && nth fs 5 .named) && v .good && (nth fs 8 .good && c .good)) _
-          (and-left (t && k .good && (nth fs 5 .good && nth fs 5 .named) && v .good && (nth fs 8 .good && c .good) && s .good) _
-          (and-left (t && k .good && (nth fs 5 .good && nth fs 5 .named) && v .good && (nth fs 8 .good && c .good) && s .good &&
-          (nth fs 12 .good && eqb (nth fs 12 .count) 0)) _ g)))))));
+      starts = λ g. name-starts g;
+      short = λ g. fit (nth fs 0 .good) (nth fs 1 .good) (names .is ∙ and-left t _ (and-left (t && k .good) _ (to-name g)));
     }
       where
+        -- what is good up to the value, and up to the name before it
+        to-value : good ≡ true → (t && k .good && (nth fs 5 .good && nth fs 5 .named) && v .good) ≡ true
+        to-value g =
+            and-left (t && k .good && (nth fs 5 .good && nth fs 5 .named) && v .good) _
+            (and-left (t && k .good && (nth fs 5 .good && nth fs 5 .named) && v .good && (nth fs 8 .good && c .good)) _
+            (and-left (t && k .good && (nth fs 5 .good && nth fs 5 .named) && v .good && (nth fs 8 .good && c .good) && s .good) _
+            (and-left (t && k .good && (nth fs 5 .good && nth fs 5 .named) && v .good && (nth fs 8 .good && c .good) && s .good &&
+            (nth fs 12 .good && eqb (nth fs 12 .count) 0)) _ g)))
+
+        to-name : good ≡ true → (t && k .good && (nth fs 5 .good && nth fs 5 .named)) ≡ true
+        to-name g = and-left (t && k .good && (nth fs 5 .good && nth fs 5 .named)) _ (to-value g)
+
+        name-starts : good ≡ true → NameStarts line read
+        name-starts g =
+            let a : nth fs 5 .good ≡ true = and-left (nth fs 5 .good) _ (and-right (t && k .good) _ (to-name g)) in
+            let d : v .good ≡ true = and-right (t && k .good && (nth fs 5 .good && nth fs 5 .named)) _ (to-value g) in
+            let b : nth fs 6 .good ≡ true = and-left (nth fs 6 .good) _ (and-left (nth fs 6 .good && v .amount .good) _ (value .good ∙ d)) in
+            record {
+              fits = starts-at (p .each 4 (omega arith)) (p .each 5 (omega arith)) a b;
+              rest = after (p .each 4 (omega arith)) (p .each 5 (omega arith)) a b .0;
+              reads = starts-reads (p .each 4 (omega arith)) (p .each 5 (omega arith)) a b;
+            }
+
         fit : (x y : Bool)
             → ((x && (between 1 40 (nth fs 0 .count) && nth fs 0 .named)) && (y && (between 0 20 (nth fs 1 .count) && nth fs 1 .named))) ≡ true
             → (nth fs 0 .count ≤ 40) × (nth fs 1 .count ≤ 20)

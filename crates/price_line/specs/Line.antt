@@ -3,10 +3,12 @@ use Prim.Native.Nat.{ℕ, _+_, _-_, _≤_, _<_}
 use mathlib.Core.Path.{_≡_}
 use mathlib.Core.List.{List, [], _∷_}
 use mathlib.Core.Bool.{Bool, true, false, _&&_}
-use lib.ListN.{length, getD}
+use mathlib.Core.Option.{some}
+use lib.ListN.{length, drop, getD}
 use Rattle.rules.specs.Lists.{between}
 use Rattle.rules.specs.Layout.{whole}
 use Rattle.rules.specs.BookLayout.{valueOf, inBounds}
+use Rattle.file_rules.specs.Fields.{semicolon, field}
 use Rattle.file_rules.specs.PriceLine.{NamedRow, letterIn, priceLine}
 use Rattle.file_rules.specs.Decimals.{dateIn, quantityIn}
 use Rattle.rules.specs.declared.Value.{Value}
@@ -98,9 +100,16 @@ rowOn line r =
       };
     }
 
+-- where the field of the text's name starts: a semicolon stands behind it
+pub record NameStarts (line : List ℕ) (r : PriceLine) : Type 0 where
+  pub fits : r .start ≤ length line
+  pub rest : List ℕ
+  pub reads : field (drop (r .start) line) ≡ some (textOf line (r .name), semicolon ∷ rest)
+
 pub record LineIs (line : List ℕ) (r : PriceLine) : Type 0 where
   pub is : whole priceLine line ≡ only (r .good) (rowOn line r)
   pub article : TextIs line (r .article)
   pub condition : TextIs line (r .condition)
   pub name : TextIs line (r .name)
+  pub starts : r .good ≡ true → NameStarts line r
   pub short : r .good ≡ true → (r .article .count ≤ 40) × (r .condition .count ≤ 20)

@@ -41,10 +41,12 @@ pub struct Span {
     pub good: bool,
 }
 
+// `start` is where the field of the text's name starts.
 pub struct PriceLine {
     pub article: Field,
     pub condition: Field,
     pub name: Field,
+    pub start: usize,
     pub kinds: Kinds,
     pub priced: Priced,
     pub currency: Currency,
@@ -154,7 +156,9 @@ fn line_from(line: &[u8], fields: [Field; 13]) -> PriceLine
     let kinds = kinds_of(line, fields);
     let priced = priced_of(line, fields);
     let span = span_of(line, fields);
+    let rule = fields[4];
     let name = fields[5];
+    let start = rule.next + 1;
     let money = fields[8];
     let capitals = capitals_in(line, money);
     let last = fields[12];
@@ -171,6 +175,7 @@ fn line_from(line: &[u8], fields: [Field; 13]) -> PriceLine
         article: fields[0],
         condition: fields[1],
         name,
+        start,
         kinds,
         priced,
         currency,

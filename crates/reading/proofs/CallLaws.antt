@@ -16,10 +16,10 @@ use Rattle.file_rules.specs.Calls.{ReadIs}
 use Rattle.file_rules.proofs.FirstBadLaws.{ReadFrom, read-done}
 use Rattle.file_rules.proofs.Promises.{read-numbers}
 use Rattle.judging.specs.Judge.{AnswerIs}
-use Rattle.reading.specs.Rows.{rowsIn, recordsAt, metAfter, ToFill, FilledTo}
+use Rattle.reading.specs.Rows.{rowsIn, metAfter, ToFill}
 use Rattle.reading.specs.Rounds.{AllNumbered}
 use Rattle.reading.proofs.RecordLaws.{same-sizes}
-use Rattle.reading.proofs.NumberedLaws.{numbered-all, over-over}
+use Rattle.reading.proofs.NumberedLaws.{numbered-all}
 
 module _ {file : List ℕ} (old : List ℕ) {r : PlacedAnswer} (a : AnswerIs file (length old) r) where
   pub call-refused : (r .number ≡ 0 → ⊥) → ReadIs file old r old
@@ -67,17 +67,12 @@ module _ {file : List ℕ} (old : List ℕ) {r : PlacedAnswer} (a : AnswerIs fil
               );
         }
 
-    pub call-done : {mid new : List ℕ} → FilledTo 0 file old mid → AllNumbered file mid new → ReadIs file old r new
+    pub call-done : {new : List ℕ} → AllNumbered file old new → ReadIs file old r new
     unfolding lentAfterAt
-    call-done f n =
-        let size : length (recordsAt 0 [] (rowsIn file)) ≡ length (rowsBytes (numbered (rowsIn file))) =
-        same-sizes 0 (length (metAfter [] (rowsIn file))) [] (rowsIn file)
-        ∙ ap length (numbered-all (length (metAfter [] (rowsIn file))) (rowsIn file) (omega arith)) in
+    call-done n =
         record {
           answer = a .is;
           output = n .is
-              ∙ (ap (over (rowsBytes (numbered (rowsIn file)))) (f .is)
-              ∙ (over-over (recordsAt 0 [] (rowsIn file)) (rowsBytes (numbered (rowsIn file))) old size
               ∙ (ap (λ (rs : List Row). over (rowsBytes rs) old) (ap numbered rows ∙ from .is)
-              ∙ sym (ap (λ (o : ResultAt (List Row)). lentAfterRead o old) (read .1)))));
+              ∙ sym (ap (λ (o : ResultAt (List Row)). lentAfterRead o old) (read .1)));
         }

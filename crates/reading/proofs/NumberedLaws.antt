@@ -4,9 +4,10 @@ use mathlib.Core.Path.{_≡_, refl, sym, _∙_, ap, ap₂}
 use mathlib.Core.Bool.{Bool, true, false, _||_, false≢true}
 use mathlib.Core.List.{List, [], _∷_, _++_, map}
 use native.Mathlib.Omega.{arith}
+use native.Mathlib.Decide.{decLt}
 use lib.Dec.{ltb}
-use lib.ListN.{length, drop, replicate, length-append, length-replicate}
-use lib.Seq.{drop-at}
+use lib.ListN.{length, take, drop, replicate, length-append, length-replicate, take-append-drop}
+use lib.Seq.{take-at, drop-at, length-take-le}
 use borrow.Author.Tests.{le-ltb, ltb-true, ltb-false}
 use Rattle.rules.specs.Refusals.{over}
 use Rattle.rules.specs.RowBytes.{rowBytes, rowsBytes}
@@ -17,7 +18,7 @@ use Rattle.file_rules.proofs.PriceFileLaws.{numbered-walk}
 use Rattle.layout.proofs.StoreLaws.{all-same}
 use Rattle.text_names.proofs.EnterLaws.{no-names}
 use Rattle.reading.specs.declared.rounds.Step.{Step}
-use Rattle.reading.specs.Rows.{rowsIn, numberOf, recordsAt, metAfter, ToFill, FilledTo}
+use Rattle.reading.specs.Rows.{rowsIn, numberOf, recordsAt, metAfter, ToFill}
 use Rattle.reading.specs.Rounds.{Round, Moves, Ready, Holds, Rounded, Numbering, AllNumbered}
 use Rattle.reading.proofs.RecordLaws.{same-sizes, given-is}
 use Rattle.reading.proofs.FillLaws.{fill-end, fill-long, no-rows, over-long}
@@ -42,16 +43,18 @@ round-start {file} {out} {c} h =
         starts-long = length-replicate {A = ℕ} 65535 0;
         before-long = length-replicate {A = ℕ} 65535 0;
       };
+      under = h .under;
+      stands = h .stands;
       fill = record {
         done = [];
         tail = h .tail;
         good = h .good;
         is = h .is;
         place = refl;
-        long = same;
+        long = h .long ∙ same;
         rest = ap (λ (s : List ℕ). recordsAt (c + 65535) [] (rowsIn file) ++ s)
             (sym (ap (drop (length (recordsAt (c + 65535) [] (rowsIn file)))) (h .is)
-            ∙ drop-at (recordsAt c [] (rowsIn file)) (h .tail) (length (recordsAt (c + 65535) [] (rowsIn file))) same));
+            ∙ drop-at (h .under) (h .tail) (length (recordsAt (c + 65535) [] (rowsIn file))) (h .long ∙ same)));
         within = omega arith;
       };
       told = sym (le-ltb (c + 65535) 0 (omega arith));
@@ -95,7 +98,7 @@ pub round-long : {file old : List ℕ} {c : ℕ} {out starts before last : List 
 round-long {file} {old} {c} R h =
     fill-long (R .fill)
     ∙ over-long (recordsAt (c + 65535) [] (rowsIn file)) old
-    (omega (arith, same-sizes c (c + 65535) [] (rowsIn file), ap length (h .is), length-append (recordsAt c [] (rowsIn file)) (h .tail)))
+    (omega (arith, same-sizes c (c + 65535) [] (rowsIn file), ap length (h .is), h .long, length-append (h .under) (h .tail)))
 
 -- ---- round by round
 
@@ -103,15 +106,13 @@ pub over-over : (as′ bs old : List ℕ) → length as′ ≡ length bs → ove
 over-over as′ bs old e =
     ap (λ (s : List ℕ). bs ++ s) (drop-at as′ (drop (length as′) old) (length bs) e ∙ ap (λ (n : ℕ). drop n old) e)
 
--- numbers up to 0 are given at the start
-pub numbering-start : {file out : List ℕ} → Holds 0 file out → Numbering file out out 0 true
-numbering-start {file} {out} h =
+pub numbering-start : {file out : List ℕ} → ToFill file out → Numbering file out out 0 true
+numbering-start t =
     record {
-      good = h .good;
-      room = omega (arith, ap length (h .is), length-append (recordsAt 0 [] (rowsIn file)) (h .tail));
-      is = h .is ∙ ap (λ (s : List ℕ). recordsAt 0 [] (rowsIn file) ++ s)
-          (sym (ap (drop (length (recordsAt 0 [] (rowsIn file)))) (h .is)
-          ∙ drop-at (recordsAt 0 [] (rowsIn file)) (h .tail) (length (recordsAt 0 [] (rowsIn file))) refl));
+      good = t .good;
+      room = t .room;
+      first = λ _. refl;
+      is = λ l. absurd (omega arith);
       some-left = λ _. omega arith;
       none-left = λ e. absurd (true-not e);
     }
@@ -120,13 +121,33 @@ numbering-start {file} {out} h =
     true-not e = false≢true (sym e)
 
 module _ {file old out : List ℕ} {c : ℕ} {more : Bool} (p : Numbering file old out c more) where
+  -- what comes over all records comes over what stood there first
+  same-over : (bs : List ℕ) → length (recordsAt c [] (rowsIn file)) ≡ length bs → over bs out ≡ over bs old
+  same-over bs e = by (decLt 0 c)
+    where
+      by : Dec (0 < c) → over bs out ≡ over bs old
+      by (yes l) = ap (over bs) (p .is l) ∙ over-over (recordsAt c [] (rowsIn file)) bs old e
+      by (no l) = ap (over bs) (p .first (omega arith))
+
+  pub numbering-long : length out ≡ length old
+  numbering-long = by (decLt 0 c)
+    where
+      by : Dec (0 < c) → length out ≡ length old
+      by (yes l) =
+          ap length (p .is l) ∙ over-long (recordsAt c [] (rowsIn file)) old (omega (arith, p .room, same-sizes 0 c [] (rowsIn file)))
+      by (no l) = ap length (p .first (omega arith))
+
   pub numbering-here : more ≡ true → Holds c file out
   numbering-here e =
+      let n : ℕ = length (recordsAt c [] (rowsIn file)) in
       record {
         good = p .good;
         small = omega (arith, p .some-left e, few-names file (p .good));
-        tail = drop (length (recordsAt c [] (rowsIn file))) old;
-        is = p .is;
+        under = take n out;
+        tail = drop n out;
+        is = sym (take-append-drop n out);
+        long = length-take-le n out (omega (arith, p .room, same-sizes 0 c [] (rowsIn file), numbering-long));
+        stands = λ l. ap (take n) (p .is l) ∙ take-at (recordsAt c [] (rowsIn file)) (drop n old) n refl;
       }
 
   pub numbering-on : more ≡ true → {new : List ℕ} {r : Bool} → Rounded c file out new r → Numbering file old new (c + 65535) r
@@ -134,20 +155,16 @@ module _ {file old out : List ℕ} {c : ℕ} {more : Bool} (p : Numbering file o
       record {
         good = p .good;
         room = p .room;
-        is = q .is
-            ∙ (ap (over (recordsAt (c + 65535) [] (rowsIn file))) (p .is)
-            ∙ over-over (recordsAt c [] (rowsIn file)) (recordsAt (c + 65535) [] (rowsIn file)) old (same-sizes c (c + 65535) [] (rowsIn file)));
+        first = λ l. absurd (omega arith);
+        is = λ _. q .is ∙ same-over (recordsAt (c + 65535) [] (rowsIn file)) (same-sizes c (c + 65535) [] (rowsIn file));
         some-left =
             λ f. let h : c + 65535 < length (metAfter [] (rowsIn file)) =
             ltb-true (c + 65535) (length (metAfter [] (rowsIn file))) (sym (q .more) ∙ f) in omega arith;
-        none-left = λ f. ltb-false (c + 65535) (length (metAfter [] (rowsIn file))) (sym (q .more) ∙ f);
+        none-left = λ f. (omega arith, ltb-false (c + 65535) (length (metAfter [] (rowsIn file))) (sym (q .more) ∙ f));
       }
 
   pub numbering-less : more ≡ true → length (metAfter [] (rowsIn file)) + 1 - (c + 65535) < length (metAfter [] (rowsIn file)) + 1 - c
   numbering-less e = omega (arith, p .some-left e)
-
-  pub numbering-long : length out ≡ length old
-  numbering-long = ap length (p .is) ∙ over-long (recordsAt c [] (rowsIn file)) old (omega (arith, p .room, same-sizes 0 c [] (rowsIn file)))
 
 -- ---- every number is given
 
@@ -186,10 +203,4 @@ numbered-all c ls h = all-given (λ l. textNumber (textNames ls) (l .name)) c []
 
 pub numbering-end : {file old out : List ℕ} {c : ℕ} {more : Bool} → Numbering file old out c more → more ≡ false → AllNumbered file old out
 numbering-end {file} {old} {c = c} p e =
-    record { is = p .is ∙ ap (λ (s : List ℕ). over s old) (numbered-all c (rowsIn file) (p .none-left e)) }
-
--- ---- behind the records as they were written first
-
-pub filled-holds : {file old new : List ℕ} → ToFill file old → FilledTo 0 file old new → Holds 0 file new
-filled-holds {file} {old} t f =
-    record { good = t .good; small = omega arith; tail = drop (length (recordsAt 0 [] (rowsIn file))) old; is = f .is }
+    record { is = p .is (p .none-left e .0) ∙ ap (λ (s : List ℕ). over s old) (numbered-all c (rowsIn file) (p .none-left e .1)) }

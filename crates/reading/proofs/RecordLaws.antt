@@ -1,14 +1,14 @@
--- One record: how long it is, what its kind says, and what it is as long as no number is given.
+-- One record: how long it is, what its kind says, and when its text has a number.
 use Prim.Native.Nat.{ℕ, suc, _+_, _%_, _≤_, _<_}
 use mathlib.Core.Path.{_≡_, refl, sym, _∙_, ap, ap₂}
 use mathlib.Core.Bool.{Bool, true, false, cond}
-use mathlib.Core.List.{List, [], _∷_, _++_, map, append-assoc}
+use mathlib.Core.List.{List, [], _∷_, _++_}
 use native.Mathlib.Omega.{arith}
 use lib.Dec.{leb}
 use lib.ListN.{length, drop, getD, set, length-set, length-append}
 use lib.Seq.{getD-set-same}
 use borrow.Author.Tests.{le-leb, lt-leb, leb-false, leb-true}
-use Rattle.rules.specs.Lists.{same, join}
+use Rattle.rules.specs.Lists.{same}
 use Rattle.rules.specs.Bytes.{bytesOf}
 use Rattle.rules.specs.Book.{Row}
 use Rattle.rules.specs.RowBytes.{nameBytes, valueBytes, rowBytes}
@@ -19,7 +19,7 @@ use Rattle.layout.proofs.StoreLaws.{bytes-halves}
 use Rattle.price_line.specs.declared.PriceLine.{PriceLine}
 use Rattle.price_line.specs.Line.{rowOn, LineIs}
 use Rattle.price_record.proofs.SizeLaws.{row-length}
-use Rattle.reading.specs.Rows.{waiting, recordAt, numberOf, firstRecord, recordsAt, metAfter}
+use Rattle.reading.specs.Rows.{waiting, recordAt, numberOf, recordsAt}
 
 -- ---- its length
 
@@ -96,31 +96,8 @@ place-low (y ∷ s) x = by (same x y)
     by true = omega arith
     by false = omega arith
 
-pub first-is : (met : List (List ℕ)) (l : NamedRow) → recordAt 0 (numberOf met (l .name)) (l .row) ≡ firstRecord l
-unfolding firstRecord
-first-is met l = by (isEmpty (l .name)) refl
-  where
-    x : List ℕ
-    x = l .name
-
-    by : (b : Bool) → isEmpty x ≡ b
-        → recordAt 0 (cond (isEmpty x) 0 (placeIn (met ++ (x ∷ [])) x)) (l .row)
-        ≡ cond (isEmpty x) (rowBytes (withText 0 (l .row))) (waiting (l .row))
-    by true e =
-        ap (λ (b : Bool). recordAt 0 (cond b 0 (placeIn (met ++ (x ∷ [])) x)) (l .row)) e
-        ∙ (given-is 0 0 (l .row) (omega arith) ∙ sym (ap (λ (b : Bool). cond b (rowBytes (withText 0 (l .row))) (waiting (l .row))) e))
-    by false e =
-        ap (λ (b : Bool). recordAt 0 (cond b 0 (placeIn (met ++ (x ∷ [])) x)) (l .row)) e
-        ∙ (waits-is 0 (placeIn (met ++ (x ∷ [])) x) (l .row) (place-low (met ++ (x ∷ [])) x)
-        ∙ sym (ap (λ (b : Bool). cond b (rowBytes (withText 0 (l .row))) (waiting (l .row))) e))
-
-pub firsts-are : (met : List (List ℕ)) (here ls : List NamedRow)
-    → recordsAt 0 met (here ++ ls) ≡ join (map firstRecord here) ++ recordsAt 0 (metAfter met here) ls
-unfolding recordsAt metAfter
-firsts-are met [] ls = refl
-firsts-are met (l ∷ here) ls =
-    ap₂ (λ (s u : List ℕ). s ++ u) (first-is met l) (firsts-are (after met (l .name)) here ls)
-    ∙ sym (append-assoc (firstRecord l) (join (map firstRecord here)) (recordsAt 0 (metAfter (after met (l .name)) here) ls))
+pub some-number : (met : List (List ℕ)) (x : List ℕ) → isEmpty x ≡ false → 0 < numberOf met x
+some-number met x e = omega (arith, ap (λ (b : Bool). cond b 0 (placeIn (met ++ (x ∷ [])) x)) e, place-low (met ++ (x ∷ [])) x)
 
 -- ---- a number of which four bytes are written
 

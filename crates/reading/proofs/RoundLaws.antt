@@ -1,34 +1,36 @@
--- A line in a round: a row that has its number stays, and one that waits gets it where the table knows its name or has a place for it.
-use Prim.Native.Nat.{ℕ, suc, _+_, _-_, _%_, _≤_, _<_}
+-- A line in a round: a row that has its number stays, and one that is due gets it where the table knows its name or has a place for it.
+use Prim.Native.Nat.{ℕ, zero, suc, _+_, _-_, _%_, _≤_, _<_}
 use mathlib.Core.Path.{_≡_, refl, sym, _∙_, ap, ap₂, subst}
 use mathlib.Core.Bool.{Bool, true, false, _||_}
 use mathlib.Core.List.{List, [], _∷_, _++_}
 use mathlib.Core.Logic.{_⊎_, inl, inr}
+use mathlib.Core.Option.{Option, some}
 use native.Mathlib.Omega.{arith}
 use native.Mathlib.Decide.{decLt}
 use lib.Dec.{ltb}
-use lib.ListN.{length, drop, getD, set, length-append, length-set}
-use lib.Seq.{getD-append-add, getD-set-same, getD-set-other, getD-at}
+use lib.ListN.{length, take, drop, getD, set, length-append, length-set, take-append-drop}
+use lib.Seq.{take-at, drop-at, drop-drop, length-take-le, getD-append-add, getD-set-same, getD-set-other, getD-at}
 use borrow.Author.Tests.{le-ltb, lt-ltb}
-use Rattle.rules.specs.Lists.{isSome}
-use Rattle.rules.specs.Layout.{whole}
+use Rattle.rules.specs.Lists.{isSome, ifSome}
 use Rattle.rules.specs.Book.{Row}
 use Rattle.rules.specs.RowBytes.{rowBytes}
 use Rattle.rules.proofs.TestLaws.{or-false}
-use Rattle.file_rules.specs.PriceLine.{isEmpty, priceLine}
+use Rattle.file_rules.specs.Fields.{semicolon, field}
+use Rattle.file_rules.specs.PriceLine.{isEmpty}
 use Rattle.file_rules.specs.PriceFile.{placeIn, withText}
 use Rattle.file_rules.proofs.NumberingLaws.{seen, after, place-within}
-use Rattle.layout.specs.Reads.{only, part}
+use Rattle.layout.specs.Reads.{part}
+use Rattle.layout.proofs.PartLaws.{part-length}
 use Rattle.layout.specs.Ensures.{Number, PutsTo}
 use Rattle.fields.specs.Field.{textOf, CutAt}
 use Rattle.price_line.specs.declared.PriceLine.{PriceLine}
-use Rattle.price_line.specs.Line.{rowOn, LineIs}
-use Rattle.text_names.specs.Names.{nameFrom, StartsRow, Hashed, FoundIs, EnteredIs}
-use Rattle.text_names.proofs.NamesLaws.{name-is}
+use Rattle.fields.proofs.EndLaws.{field-more}
+use Rattle.price_line.specs.Line.{rowOn, NameStarts, LineIs}
+use Rattle.text_names.specs.Names.{nameFrom, StartsName, Hashed, FoundIs, EnteredIs}
 use Rattle.text_names.proofs.EnterLaws.{entered}
 use Rattle.reading.specs.Rows.{rowsIn, numberOf, recordAt, recordsAt, metAfter, Brings, Filling}
 use Rattle.reading.specs.Rounds.{Known, Round}
-use Rattle.reading.proofs.RecordLaws.{line-size, same-size, given-is, low-text}
+use Rattle.reading.proofs.RecordLaws.{line-size, given-is, low-text}
 use Rattle.reading.proofs.FillLaws.{fill-on, fill-same}
 use Rattle.reading.proofs.MetLaws.{getD-left, seen-at, place-at, firsts-more, one-longer, number-blank, number-seen, number-new, not-blank}
 
@@ -59,7 +61,7 @@ module _ {file : List ℕ} {c k : ℕ} {met : List (List ℕ)} {starts before la
       by (inr e) g = absurd (omega arith)
 
   -- one that is entered
-  pub known-more : {at hash : ℕ} {starts′ before′ last′ : List ℕ} → c ≤ length met → k < 65535 → StartsRow file at → nameFrom file at ≡ x
+  pub known-more : {at hash : ℕ} {starts′ before′ last′ : List ℕ} → c ≤ length met → k < 65535 → StartsName file at → nameFrom file at ≡ x
       → Hashed x hash
       → EnteredIs starts before last k at hash starts′ before′ last′ → Known file c (k + 1) (met ++ (x ∷ [])) starts′ before′ last′
   known-more {at} {hash} {starts′} {before′} {last′} g l s e d w =
@@ -90,6 +92,11 @@ module _ {file : List ℕ} {c k : ℕ} {met : List (List ℕ)} {starts before la
 
 -- ---- a row in a round
 
+drop-left : (s u : List ℕ) (n : ℕ) → n ≤ length s → drop n (s ++ u) ≡ drop n s ++ u
+drop-left s u zero h = refl
+drop-left [] u (suc n) h = absurd (omega arith)
+drop-left (b ∷ s) u (suc n) h = drop-left s u n (omega arith)
+
 module _ {file : List ℕ} {at end : ℕ} {row : PriceLine} (cut : CutAt 10 file at end) (line : LineIs (part file at end) row)
     (b : Brings file at (end + 1) (part file at end) row) where
   abbrev pub x : List ℕ
@@ -98,20 +105,38 @@ module _ {file : List ℕ} {at end : ℕ} {row : PriceLine} (cut : CutAt 10 file
   abbrev pub r : Row
   r = rowOn (part file at end) row .row
 
-  pub starts-row : StartsRow file at
-  starts-row =
-      record {
-        fits = omega (arith, cut .low, cut .fits);
-        good = ap (λ (p : List ℕ × List ℕ). isSome (whole priceLine (p .0))) (cut .is)
-            ∙ (ap isSome (line .is) ∙ ap (λ (g : Bool). isSome (only g (rowOn (part file at end) row))) (b .row));
-      }
+  starts : NameStarts (part file at end) row
+  starts = line .starts (b .row)
+
+  line-long : length (part file at end) ≡ end - at
+  line-long = part-length file at end (cut .fits)
+
+  -- from there on stand the rest of the line and the lines behind it
+  rest-is : drop (at + row .start) file ≡ drop (row .start) (part file at end) ++ drop end file
+  rest-is =
+      let e : at + (end - at) ≡ end = omega (arith, cut .low) in
+      sym (drop-drop (row .start) at file)
+      ∙ (ap (drop (row .start)) (sym (take-append-drop (end - at) (drop at file)))
+      ∙ (drop-left (part file at end) (drop (end - at) (drop at file)) (row .start) (starts .fits)
+      ∙ ap (λ (s : List ℕ). drop (row .start) (part file at end) ++ s) (drop-drop (end - at) at file
+      ∙ ap (λ (n : ℕ). drop n file) e)))
+
+  name-field : field (drop (at + row .start) file) ≡ some (textOf (part file at end) (row .name), semicolon ∷ (starts .rest ++ drop end file))
+  name-field = ap field rest-is ∙ field-more (drop (row .start) (part file at end)) (drop end file) (starts .reads) (omega arith)
+
+  pub name-within : at + row .start ≤ length file
+  name-within = omega (arith, starts .fits, line-long, cut .low, cut .fits)
+
+  pub starts-name : StartsName file (at + row .start)
+  starts-name = record { fits = name-within; good = ap isSome name-field }
 
   pub name-text : textOf (part file at end) (row .name) ≡ x
   unfolding rowOn
   name-text = refl
 
-  pub name-here : nameFrom file at ≡ x
-  name-here = name-is starts-row cut line ∙ name-text
+  pub name-here : nameFrom file (at + row .start) ≡ x
+  unfolding nameFrom
+  name-here = ap (λ (o : Option (List ℕ × List ℕ)). ifSome o [] (λ p. p .0)) name-field ∙ name-text
 
   module _ {wanted : List ℕ} {c : ℕ} {out starts before last : List ℕ} {k to : ℕ} {more : Bool}
       (R : Round file wanted c out starts before last k at to more) where
@@ -125,21 +150,45 @@ module _ {file : List ℕ} {at end : ℕ} {row : PriceLine} (cut : CutAt 10 file
     unfolding recordsAt
     rows-are d = ap (recordsAt d (R .met)) (b .is)
 
+    abbrev pub size : ℕ
+    size = 34 + row .article .count + row .condition .count
+
     abbrev pub piece : List ℕ
-    piece = recordAt c t r
+    piece = take size (R .under)
 
     abbrev pub under : List ℕ
-    under = recordsAt c (after met x) (rowsIn (drop (end + 1) file))
+    under = drop size (R .under)
+
+    abbrev pub behind : ℕ → List ℕ
+    behind d = recordsAt d (after met x) (rowsIn (drop (end + 1) file))
+
+    enough : size ≤ length (R .under)
+    enough =
+        omega (
+          arith,
+          R .fill .long,
+          ap length (rows-are (c + 65535)),
+          length-append (recordAt (c + 65535) t r) (behind (c + 65535)),
+          line-size line (c + 65535) t,
+        )
 
     fill : Filling file wanted (c + 65535) out at to met (piece ++ under)
-    fill = subst (Filling file wanted (c + 65535) out at to (R .met)) (rows-are c) (R .fill)
+    fill = subst (Filling file wanted (c + 65535) out at to (R .met)) (sym (take-append-drop size (R .under))) (R .fill)
 
     later : metAfter (after met x) (rowsIn (drop (end + 1) file)) ≡ metAfter [] (rowsIn file)
     unfolding metAfter
     later = sym (ap (metAfter (R .met)) (b .is)) ∙ R .last-met
 
     long : length piece ≡ 34 + row .article .count + row .condition .count
-    long = line-size line c t
+    long = length-take-le size (R .under) enough
+
+    -- in a later round its record stands there
+    module _ (l : 1 ≤ c) where
+      pub piece-is : piece ≡ recordAt c t r
+      piece-is = ap (take size) (R .stands l ∙ rows-are c) ∙ take-at (recordAt c t r) (behind c) size (line-size line c t)
+
+      under-is : under ≡ behind c
+      under-is = ap (drop size) (R .stands l ∙ rows-are c) ∙ drop-at (recordAt c t r) (behind c) size (line-size line c t)
 
     pub kind-here : getD out (to + 2) 0 ≡ getD piece 2 0
     kind-here =
@@ -168,25 +217,26 @@ module _ {file : List ℕ} {at end : ℕ} {row : PriceLine} (cut : CutAt 10 file
         (rows-are (c + 65535)
         ∙ ap (λ (s : List ℕ). s ++ recordsAt (c + 65535) (after met x) (rowsIn (drop (end + 1) file))) i) (omega (arith, f, long))
 
-    pub comes : {n e : ℕ} {new : List ℕ} → t ≤ c + 65535 → Number (t % 4294967296) 4294967296 n → PutsTo out to (rowBytes (withText n r)) new e
+    pub comes : {bs new : List ℕ} {e : ℕ} → bs ≡ recordAt (c + 65535) t r → PutsTo out to bs new e
         → Filling file wanted (c + 65535) new (end + 1) e (after met x) under
-    comes {n} {e} {new} l m p =
-        let i : rowBytes (withText n r) ≡ recordAt (c + 65535) t r =
-        ap (λ (k : ℕ). rowBytes (withText k r)) (m .is) ∙ (low-text t r ∙ sym (given-is (c + 65535) t r l)) in
-        fill-on piece under fill (after met x) (b .good) (omega (arith, cut .fits)) (rows-are (c + 65535)) (same-size c (c + 65535) t r)
+    comes {bs} {new} {e} i p =
+        fill-on piece under fill (after met x) (b .good) (omega (arith, cut .fits)) (rows-are (c + 65535)) (long ∙ sym (line-size line (c + 65535) t))
         (subst (λ (bs : List ℕ). PutsTo out to bs new e) i p)
+
+    pub numbered-is : {n : ℕ} → t ≤ c + 65535 → Number (t % 4294967296) 4294967296 n → rowBytes (withText n r) ≡ recordAt (c + 65535) t r
+    numbered-is l m = ap (λ (k : ℕ). rowBytes (withText k r)) (m .is) ∙ (low-text t r ∙ sym (given-is (c + 65535) t r l))
 
     pub goes-on : {out′ starts′ before′ last′ : List ℕ} {k′ e : ℕ} {more′ : Bool} → Known file c k′ (after met x) starts′ before′ last′
         → Filling file wanted (c + 65535) out′ (end + 1) e (after met x) under → more′ ≡ ltb (c + 65535) (length (after met x))
         → Round file wanted c out′ starts′ before′ last′ k′ (end + 1) e more′
-    goes-on n f m = record { met = after met x; known = n; fill = f; told = m; last-met = later; small = R .small }
+    goes-on n f m = record { met = after met x; known = n; under = under; fill = f; stands = under-is; told = m; last-met = later; small = R .small }
 
     -- ---- what becomes of the names
 
     abbrev pub Kept : Type 0
     Kept = Known file c k (after met x) starts before last × ((more || false) ≡ ltb (c + 65535) (length (after met x)))
 
-    none-new : after met x ≡ met → Kept
+    pub none-new : after met x ≡ met → Kept
     none-new e = (
       subst (λ (m : List (List ℕ)). Known file c k m starts before last) (sym e) (R .known),
       or-false more ∙ (R .told ∙ ap (λ (m : List (List ℕ)). ltb (c + 65535) (length m)) (sym e)),

@@ -2,20 +2,17 @@
 -- record has.
 use Prim.Native.Nat.{ℕ, _+_, _≤_}
 use mathlib.Core.Path.{_≡_}
-use mathlib.Core.List.{List, [], _∷_, _++_, map}
+use mathlib.Core.List.{List, [], _∷_, _++_}
 use mathlib.Core.Bool.{true, cond}
-use lib.Dec.{leb, ltb}
+use lib.Dec.{leb}
 use lib.ListN.{length, drop, set}
-use Rattle.rules.specs.Lists.{isSome, ifSome, join}
 use Rattle.rules.specs.Book.{Row}
 use Rattle.rules.specs.RowBytes.{rowBytes}
-use Rattle.rules.specs.Refusals.{over}
 use Rattle.rules.specs.PlacedRefusals.{Done, orZeroAt}
 use Rattle.file_rules.specs.Fields.{linesOf}
-use Rattle.file_rules.specs.PriceLine.{NamedRow, isEmpty, brought}
+use Rattle.file_rules.specs.PriceLine.{NamedRow}
 use Rattle.file_rules.specs.PriceFile.{textNumber, withText, linesFrom}
 use Rattle.file_rules.proofs.NumberingLaws.{after}
-use Rattle.layout.specs.Ensures.{PutsTo}
 use Rattle.price_line.specs.declared.PriceLine.{PriceLine}
 use Rattle.price_line.specs.Line.{rowOn}
 
@@ -39,10 +36,6 @@ recordAt c t r = cond (leb t c) (rowBytes (withText t r)) (waiting r)
 abbrev pub numberOf : List (List ℕ) → List ℕ → ℕ
 numberOf met x = textNumber (met ++ (x ∷ [])) x
 
--- as long as no number is given, only a text without a name has its number
-unfoldable pub firstRecord : NamedRow → List ℕ
-firstRecord l = cond (isEmpty (l .name)) (rowBytes (withText 0 (l .row))) (waiting (l .row))
-
 -- ---- many
 
 unfoldable pub recordsAt : ℕ → List (List ℕ) → List NamedRow → List ℕ
@@ -55,22 +48,6 @@ metAfter met [] = met
 metAfter met (l ∷ ls) = metAfter (after met (l .name)) ls
 
 -- ---- line by line
-
--- what a line brings
-unfoldable pub putOf : List ℕ → List ℕ
-putOf line = ifSome (brought line) [] (λ ls. join (map firstRecord ls))
-
--- a line that is not bad, with room for what it brings
-pub record LineRoom (line out : List ℕ) (to : ℕ) : Type 0 where
-  pub good : isSome (brought line) ≡ true
-  pub room : to + length (putOf line) ≤ length out
-
-pub record LinePut (line old : List ℕ) (to : ℕ) (new : List ℕ) (r : ℕ) : Type 0 where
-  pub puts : PutsTo old to (putOf line) new r
-
--- the kind is taken back where a name waits for its number
-pub record Marked (old : List ℕ) (to count : ℕ) (new : List ℕ) : Type 0 where
-  pub is : new ≡ cond (ltb 0 count) (set old (to + 2) 0) old
 
 -- the line at `at` brings nothing, or this row; behind it the file goes on at `next`
 pub record Skips (file : List ℕ) (at next : ℕ) : Type 0 where
@@ -95,16 +72,7 @@ pub record Filling (file wanted : List ℕ) (d : ℕ) (out : List ℕ) (at to : 
   pub rest : done ++ (recordsAt d met (rowsIn (drop at file)) ++ tail) ≡ wanted
   pub within : at ≤ length file + 1
 
-pub record Putting (file old out : List ℕ) (at to : ℕ) : Type 0 where
-  pub met : List (List ℕ)
-  pub under : List ℕ
-  pub fill : Filling file (over (recordsAt 0 [] (rowsIn file)) old) 0 out at to met under
-
 -- a file without a bad line, with room for its records
 pub record ToFill (file out : List ℕ) : Type 0 where
   pub good : Good file
   pub room : length (recordsAt 0 [] (rowsIn file)) ≤ length out
-
--- its records stand at the front, with numbers up to d
-pub record FilledTo (d : ℕ) (file old new : List ℕ) : Type 0 where
-  pub is : new ≡ over (recordsAt d [] (rowsIn file)) old

@@ -1,9 +1,8 @@
-// A price file read: judged first, then its records are written, and then the names of texts get their numbers.
+// A price file read: judged first, then its records are written, and the names of texts get their numbers.
 mod rounds;
 mod rows;
 
 use crate::rounds::number_rows;
-use crate::rows::put_rows;
 use judging::judge;
 use rules::PlacedAnswer;
 ghost use Rattle.file_rules.specs.Calls.{ReadIs};
@@ -16,7 +15,6 @@ pub fn read_prices(file: &[u8], out: &mut [u8]) -> PlacedAnswer
     if answer.number != 0 {
         return answer;
     }
-    put_rows(file, out);
     number_rows(file, out);
     answer
 }

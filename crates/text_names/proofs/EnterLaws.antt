@@ -7,7 +7,7 @@ use native.Mathlib.Decide.{decLt}
 use lib.ListN.{length, getD, set, length-set}
 use lib.Seq.{getD-set-same, getD-set-other}
 use Rattle.layout.specs.Ensures.{Number}
-use Rattle.text_names.specs.Names.{nameFrom, StartsRow, hashOf, hashAt, Chained, Candidate, Latest, Hashed, Table, EnteredIs}
+use Rattle.text_names.specs.Names.{nameFrom, StartsName, hashOf, hashAt, Chained, Candidate, Latest, Hashed, Table, EnteredIs}
 
 -- what `find` starts from
 latest-candidate : {file starts last : List ℕ} {k : ℕ} → Latest file starts last k → (x : List ℕ) (h : ℕ) → h ≡ hashOf x → h < 65536
@@ -22,7 +22,7 @@ module _ {file starts before last : List ℕ} {k : ℕ} (t : Table file starts b
   find-start p = subst (Candidate file starts k x) (sym (p .is)) (latest-candidate (t .latest) x h (n .is) (n .below))
 
 module _ {file starts before last : List ℕ} {k : ℕ} (c : Chained file starts before k) (t : Latest file starts last k) {start h : ℕ}
-    (s : StartsRow file start)
+    (s : StartsName file start)
     (e : h ≡ hashOf (nameFrom file start)) (l : h < 65536) (ls : k < length starts) (lb : k < length before) where
   old-start : (i : ℕ) → i < k → getD (set starts k start) i 0 ≡ getD starts i 0
   old-start i g = getD-set-other starts k i start 0 (omega arith)
@@ -70,9 +70,9 @@ module _ {file starts before last : List ℕ} {k : ℕ} (c : Chained file starts
 
   entered-chained : Chained file (set starts k start) (set before k (getD last h 0)) (k + 1)
   entered-chained = record {
-    rows =
-        each (λ i. StartsRow file (getD starts′ i 0)) (λ i g. subst (StartsRow file) (sym (old-start i g)) (c .rows i g))
-        (subst (StartsRow file) (sym (getD-set-same starts k start 0 ls)) s);
+    fields =
+        each (λ i. StartsName file (getD starts′ i 0)) (λ i g. subst (StartsName file) (sym (old-start i g)) (c .fields i g))
+        (subst (StartsName file) (sym (getD-set-same starts k start 0 ls)) s);
     starts-long = omega (arith, length-set starts k start);
     before-long = omega (arith, length-set before k (getD last h 0));
     back = back′;
@@ -116,7 +116,7 @@ module _ {file starts before last : List ℕ} {k : ℕ} (c : Chained file starts
       last-name g n d m a f (no x) b = let w : k ≡ m = omega arith in d (sym f ∙ (sym (ap (hashAt file starts′) w) ∙ new-hash))
 
 -- The table with a name more.
-pub entered : {file starts before last : List ℕ} {k : ℕ} → Table file starts before last k → {start h : ℕ} → StartsRow file start
+pub entered : {file starts before last : List ℕ} {k : ℕ} → Table file starts before last k → {start h : ℕ} → StartsName file start
     → Hashed (nameFrom file start) h → k < length starts → k < length before
     → {starts′ before′ last′ : List ℕ} → EnteredIs starts before last k start h starts′ before′ last′ → Table file starts′ before′ last′ (k + 1)
 entered {file} {starts} {before} {last} {k} t {start} {h} s n ls lb {starts′} {before′} e =
@@ -133,7 +133,7 @@ pub no-names : {file starts before last : List ℕ} → length last ≡ 65536 �
 no-names long zeros =
     record {
       chained = record {
-        rows = λ i l. absurd (omega arith);
+        fields = λ i l. absurd (omega arith);
         starts-long = omega arith;
         before-long = omega arith;
         back = λ i l. absurd (omega arith);

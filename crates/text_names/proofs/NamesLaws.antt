@@ -3,50 +3,45 @@ use Prim.Native.Nat.{ℕ, _-_, _≤_, _<_}
 use mathlib.Core.Path.{_≡_, refl, sym, _∙_, ap, subst}
 use mathlib.Core.Bool.{Bool, true, false, false≢true}
 use mathlib.Core.List.{List, []}
-use mathlib.Core.Option.{Option, none}
+use mathlib.Core.Option.{Option}
 use native.Mathlib.Omega.{arith}
 use native.Mathlib.Decide.{decLt}
 use lib.ListN.{length, drop, getD}
 use Rattle.rules.specs.Lists.{same, isSome, ifSome}
-use Rattle.rules.specs.Layout.{whole}
-use Rattle.file_rules.specs.Fields.{cut}
-use Rattle.file_rules.specs.PriceLine.{NamedRow, priceLine}
 use Rattle.rules.proofs.ListLaws.{same-eq, same-refl}
-use Rattle.layout.specs.Reads.{only, part}
+use Rattle.layout.specs.Reads.{only}
 use Rattle.layout.specs.Ensures.{Says, Number}
-use Rattle.fields.specs.Field.{textOf, TextIs, CutAt}
-use Rattle.price_line.specs.declared.PriceLine.{PriceLine}
-use Rattle.price_line.specs.Line.{rowOn, LineIs}
-use Rattle.text_names.specs.Names.{nameFrom, StartsRow, hashOf, Chained, Candidate, FoundIs}
+use Rattle.fields.specs.declared.field.Field.{Field}
+use Rattle.fields.specs.Field.{textOf, TextIs, FieldIs}
+use Rattle.text_names.specs.Names.{nameFrom, StartsName, hashOf, Chained, Candidate, FoundIs}
 
--- ---- the name on a line
+-- ---- the name in a field
 
-module _ {file : List ℕ} {start end : ℕ} (s : StartsRow file start) (c : CutAt 10 file start end) {row : PriceLine}
-    (p : LineIs (part file start end) row) where
-  pub name-is : nameFrom file start ≡ textOf (part file start end) (row .name)
-  unfolding nameFrom rowOn
-  name-is = ap (λ (o : Option NamedRow). ifSome o [] (λ l. l .name)) here ∙ by (row .good) (sym (ap isSome here) ∙ s .good)
+module _ {file : List ℕ} {start : ℕ} (s : StartsName file start) {f : Field} (p : FieldIs file start f) where
+  pub name-is : nameFrom file start ≡ textOf file f
+  unfolding nameFrom
+  name-is = ap (λ (o : Option (List ℕ × List ℕ)). ifSome o [] (λ q. q .0)) (p .reads .is) ∙ by (f .good) (sym (ap isSome (p .reads .is)) ∙ s .good)
     where
-      here : whole priceLine (cut 10 (drop start file) .0) ≡ only (row .good) (rowOn (part file start end) row)
-      here = ap (λ (x : List ℕ × List ℕ). whole priceLine (x .0)) (c .is) ∙ p .is
-
-      by : (b : Bool) → isSome (only b (rowOn (part file start end) row)) ≡ true
-          → ifSome (only b (rowOn (part file start end) row)) [] (λ l. l .name) ≡ textOf (part file start end) (row .name)
+      by : (b : Bool) → isSome (only {A = List ℕ × List ℕ} b (textOf file f, drop (f .next) file)) ≡ true
+          → ifSome (only {A = List ℕ × List ℕ} b (textOf file f, drop (f .next) file)) [] (λ q. q .0) ≡ textOf file f
       by true e = refl
       by false e = absurd (false≢true e)
 
-  pub named-is : (x : List ℕ) {r : Bool} → Says (same (textOf (part file start end) (row .name)) x) r → Says (same (nameFrom file start) x) r
+  pub named-is : (x : List ℕ) {r : Bool} → Says (same (textOf file f) x) r → Says (same (nameFrom file start) x) r
   named-is x q = record { is = ap (λ (y : List ℕ). same y x) name-is ∙ q .is }
 
-  pub name-there : TextIs (part file start end) (row .name)
-  name-there = p .name
+pub starts-within : {file : List ℕ} {start : ℕ} → StartsName file start → start ≤ length file
+starts-within s = s .fits
+
+pub name-there : {file : List ℕ} {start : ℕ} {f : Field} → FieldIs file start f → TextIs file f
+name-there p = p .text
 
 -- ---- the chain
 
 module _ {file starts before : List ℕ} {k : ℕ} (t : Chained file starts before k) {x : List ℕ} {j : ℕ} (c : Candidate file starts k x j)
     (h : 0 < j) where
-  pub chain-row : StartsRow file (getD starts (j - 1) 0)
-  chain-row = t .rows (j - 1) (omega (arith, c .low))
+  pub chain-name : StartsName file (getD starts (j - 1) 0)
+  chain-name = t .fields (j - 1) (omega (arith, c .low))
 
   pub chain-starts : j - 1 < length starts
   chain-starts = omega (arith, c .low, t .starts-long)

@@ -1,4 +1,4 @@
--- Names of texts, each at the line where it was met first, and chains of those with the same hash.
+-- Names of texts, each at the field where it was met first, and chains of those with the same hash.
 use Prim.Native.Nat.{ℕ, _+_, _-_, _*_, _%_, _≤_, _<_}
 use mathlib.Core.Path.{_≡_}
 use mathlib.Core.List.{List, [], _∷_}
@@ -6,17 +6,15 @@ use mathlib.Core.Bool.{true, cond}
 use lib.Dec.{eqb}
 use lib.ListN.{length, drop, getD, set}
 use Rattle.rules.specs.Lists.{isSome, ifSome}
-use Rattle.rules.specs.Layout.{whole}
-use Rattle.file_rules.specs.Fields.{cut}
-use Rattle.file_rules.specs.PriceLine.{priceLine}
+use Rattle.file_rules.specs.Fields.{field}
 
--- the name on the line that starts there
+-- the name in the field that starts there
 unfoldable pub nameFrom : List ℕ → ℕ → List ℕ
-nameFrom file start = ifSome (whole priceLine (cut 10 (drop start file) .0)) [] (λ l. l .name)
+nameFrom file start = ifSome (field (drop start file)) [] (λ p. p .0)
 
-pub record StartsRow (file : List ℕ) (start : ℕ) : Type 0 where
+pub record StartsName (file : List ℕ) (start : ℕ) : Type 0 where
   pub fits : start ≤ length file
-  pub good : isSome (whole priceLine (cut 10 (drop start file) .0)) ≡ true
+  pub good : isSome (field (drop start file)) ≡ true
 
 -- any hash will do: no law of the chains opens it. Quotes do not count, so that a text and its bytes between quotes have one hash
 abbrev pub addByte : ℕ → ℕ → ℕ
@@ -40,7 +38,7 @@ hashAt file starts i = hashOf (nameFrom file (getD starts i 0))
 
 -- k names stand in the table; `before` has the number of the last one before it with the same hash, or 0
 pub record Chained (file starts before : List ℕ) (k : ℕ) : Type 0 where
-  pub rows : (i : ℕ) → i < k → StartsRow file (getD starts i 0)
+  pub fields : (i : ℕ) → i < k → StartsName file (getD starts i 0)
   pub starts-long : k ≤ length starts
   pub before-long : k ≤ length before
   pub back : (i : ℕ) → i < k → getD before i 0 ≤ i
@@ -78,7 +76,7 @@ pub record Vacant (starts before last : List ℕ) (k h : ℕ) : Type 0 where
   pub before-long : k < length before
   pub last-long : h < length last
 
--- a name more: where its line starts, the one before it with the same hash, and that it is the last with it
+-- a name more: where its field starts, the one before it with the same hash, and that it is the last with it
 pub record EnteredIs (starts before last : List ℕ) (k start h : ℕ) (starts′ before′ last′ : List ℕ) : Type 0 where
   pub starts-is : starts′ ≡ set starts k start
   pub before-is : before′ ≡ set before k (getD last h 0)

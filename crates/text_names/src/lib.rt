@@ -1,15 +1,14 @@
-// The names of texts that were met, in a table: each at the line where it stood first, and found again along a chain of those with the same
-// hash. The table is lent as three arrays: `starts` has the places of those lines, `before` the number of the last name before it with the
+// The names of texts that were met, in a table: each at the field where it stood first, and found again along a chain of those with the same
+// hash. The table is lent as three arrays: `starts` has where those fields start, `before` the number of the last name before it with the
 // same hash, and `last` by hash the number of the last name that has it; 0 where there is none.
 use fields::content::same_text;
 use fields::field::Field;
-use fields::field::cut_at;
-use price_line::price_line;
+use fields::field::field_at;
 ghost use Prim.Native.Nat.{_<_};
 ghost use Rattle.rules.specs.Lists.{same};
 ghost use Rattle.layout.specs.Ensures.{Says, Number};
 ghost use Rattle.fields.specs.Field.{textOf, TextIs};
-ghost use Rattle.text_names.specs.Names.{nameFrom, addByte, Hashed, StartsRow, Table, FoundIs, Vacant, EnteredIs};
+ghost use Rattle.text_names.specs.Names.{nameFrom, addByte, Hashed, StartsName, Table, FoundIs, Vacant, EnteredIs};
 
 // So many names have their numbers in two bytes.
 pub const MOST: usize = 65_535;
@@ -22,16 +21,14 @@ fn wide(n: u16) -> usize
     n as usize
 }
 
-// Whether the row of the line that starts there names this text.
+// Whether the field that starts there names this text.
 fn is_named(file: &[u8], start: usize, line: &[u8], f: Field) -> bool
-    requires { ⌜ StartsRow (now file) start ⌝ }
+    requires { ⌜ StartsName (now file) start ⌝ }
     requires { ⌜ TextIs (now line) f ⌝ }
     ensures { λ r. ⌜ Says (same (nameFrom (now (file .entry)) start) (textOf (now (line .entry)) f)) r ⌝ }
 {
-    let end = cut_at(file, start, b'\n');
-    let row = price_line(&file[start..end]);
-    let name = row.name;
-    same_text(&file[start..end], name, line, f)
+    let name = field_at(file, start);
+    same_text(file, name, line, f)
 }
 
 // The number of this text's name, which has hash h, among the first k; 0 where none is.
@@ -88,7 +85,7 @@ pub fn hash_of(line: &[u8], f: Field) -> usize
     n
 }
 
-// Name k + 1, met first at the line that starts there, with hash h.
+// Name k + 1, met first in the field that starts there, with hash h.
 pub fn enter(
     starts: &mut [usize],
     before: &mut [u16],

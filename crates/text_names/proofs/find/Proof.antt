@@ -2,12 +2,12 @@
 use Rattle.fields.specs.Field.{textOf}
 use borrow.Author.Needs.{needs}
 use Rattle.text_names.specs.Names.{Candidate}
-use Rattle.text_names.proofs.NamesLaws.{chain-row, chain-starts, chain-before, chain-less, chain-found, chain-on, chain-none}
+use Rattle.text_names.proofs.NamesLaws.{chain-name, chain-starts, chain-before, chain-less, chain-found, chain-on, chain-none}
 use Rattle.text_names.proofs.EnterLaws.{find-hash, find-start}
 use Rattle.text_names.proofs.find.Statement.{statement}
 use Rattle.text_names.proofs.find.Tie as tie
 
-ruleset laws = (needs, find-hash, find-start, chain-row, chain-starts, chain-before, chain-less, chain-found, chain-on, chain-none)
+ruleset laws = (needs, find-hash, find-start, chain-name, chain-starts, chain-before, chain-less, chain-found, chain-on, chain-none)
 
 abbrev Inv-loop : tie.InvT-loop
 Inv-loop file starts before last k h line f j₀ j = Candidate file starts k (textOf line f) j

@@ -1,10 +1,10 @@
 -- `reading::rounds::number_line` meets its contract.
 use borrow.Author.Needs.{needs}
-use Rattle.reading.proofs.MoveLaws.{row-room, row-waits, move-skip, move-had}
+use Rattle.reading.proofs.MoveLaws.{row-room, row-due, move-skip, move-had}
 use Rattle.reading.proofs.rounds.number_line.Statement.{statement}
 use Rattle.reading.proofs.rounds.number_line.Tie as tie
 
-ruleset laws = (needs, row-room, row-waits, move-skip, move-had)
+ruleset laws = (needs, row-room, row-due, move-skip, move-had)
 
 pub number-line-spec : {M : Type 1} → statement M
 number-line-spec =
@@ -19,13 +19,13 @@ number-line-spec =
     (λ c. search needs)  -- part-price-line-start
     (λ c. search needs)  -- part-price-line-end
     (λ c κs. search laws)  -- price-line-requires
-    (λ c κs. search laws)  -- is-waiting-requires
-    (λ c κs. let waits = c .before .before .before .before in
-    let line = waits .before .before .before in
+    (λ c κs. search laws)  -- is-due-requires
+    (λ c κs. let due = c .before .before .before .before in
+    let line = due .before .before .before in
     let test = line .before .before in
     let start = test .before .before .before .before .before .before .before .before in
-    row-waits (start .pre .1) (start .pre .0) (test .before .brings-nothing .ensures) (test .if1 .left) (line .price-line .ensures)
-    (waits .before .is-waiting .ensures) (waits .if2 .taken))  -- number-row-requires
+    row-due (start .pre .1) (start .pre .0) (test .before .brings-nothing .ensures) (test .if1 .left) (line .price-line .ensures)
+    (due .before .is-due .ensures) (due .if2 .taken))  -- number-row-requires
     (λ c. search needs)  -- same-length
     (λ c. search needs)  -- same-length-2
     (λ c. search needs)  -- same-length-3
@@ -33,9 +33,9 @@ number-line-spec =
     (λ c. search laws)  -- returns-2
     (λ c κs. search laws)  -- behind-requires
     (λ c. search needs)  -- same-length-5
-    (λ c. let waits = c .before .before in
-    let line = waits .before .before .before in
+    (λ c. let due = c .before .before in
+    let line = due .before .before .before in
     let test = line .before .before in
     let start = test .before .before .before .before .before .before .before .before in
     move-had (start .pre .1) (start .pre .0) (test .before .brings-nothing .ensures) (test .if1 .left) (line .price-line .ensures)
-    (waits .before .is-waiting .ensures) (waits .if2 .left) (c .behind .ensures)))  -- returns-3
+    (due .before .is-due .ensures) (due .if2 .left) (c .behind .ensures)))  -- returns-3
