@@ -14,7 +14,6 @@ use Rattle.file_rules.specs.Fields.{semicolon, quote, startsWith, cut, inside, 
 use Rattle.file_rules.proofs.FieldLaws.{cut-on, cut-at, past-on, past-at}
 use Rattle.layout.proofs.PartLaws.{part-length}
 use Rattle.layout.specs.Reads.{only, part}
-use Rattle.layout.specs.Ensures.{Says}
 use Rattle.layout.proofs.LayoutLaws.{then-reads, then-broken, one-of-at, one-of-cut, reads-as}
 use Rattle.fields.specs.declared.field.Field.{Field}
 use Rattle.fields.specs.declared.field.Closed.{Closed}
@@ -125,7 +124,7 @@ module _ {s : List ℕ} {at : ℕ} where
     fits = h;
     next-fits = h;
     count = ap length (empty-text s at);
-    names = ap (all nameByte) (empty-text s at);
+    names = ap (all nameByte) (empty-text s at ∙ sym (part-none s at));
     stands = inl (empty-text s at ∙ sym (part-none s at));
     closes = λ l. absurd (omega arith);
   }
@@ -153,9 +152,9 @@ module _ {s : List ℕ} {at : ℕ} where
 
 -- ---- a field without quotes around it
 
-module _ {s : List ℕ} {at to : ℕ} {b : Bool} (k : Bare s at) (p : CutAt semicolon s at to) (q : Says (all nameByte (part s at to)) b) where
+module _ {s : List ℕ} {at to : ℕ} (k : Bare s at) (p : CutAt semicolon s at to) where
   abbrev bare : Field
-  bare = record { from = at; to = to; count = to - at; next = to; named = b; good = true }
+  bare = record { from = at; to = to; count = to - at; next = to; good = true }
 
   bare-text : textOf s bare ≡ part s at to
   unfolding textOf
@@ -170,7 +169,7 @@ module _ {s : List ℕ} {at to : ℕ} {b : Bool} (k : Bare s at) (p : CutAt semi
       fits = p .fits;
       next-fits = p .fits;
       count = ap length bare-text ∙ part-length s at to (p .fits);
-      names = ap (all nameByte) bare-text ∙ q .is;
+      names = ap (all nameByte) bare-text;
       stands = inl bare-text;
       closes = λ l. absurd (omega arith);
     };
@@ -198,9 +197,9 @@ module _ {s : List ℕ} {at : ℕ} (o : Opened s at) {c : Closed} (p : Closing s
   pub behind-closed : c .good ≡ true → c .to + 1 ≤ length s
   behind-closed e = omega (arith, p .within e)
 
-  module _ (e : c .good ≡ true) {next : ℕ} (q : PastSpaces s (c .to + 1) next) {b : Bool} (w : Says (all nameByte (part s (at + 1) (c .to))) b) where
+  module _ (e : c .good ≡ true) {next : ℕ} (q : PastSpaces s (c .to + 1) next) where
     abbrev quoted : Field
-    quoted = record { from = at + 1; to = c .to; count = c .count; next = next; named = b; good = true }
+    quoted = record { from = at + 1; to = c .to; count = c .count; next = next; good = true }
 
     inner : inside (drop (at + 1) s) ≡ some (p .text, drop (c .to + 1) s)
     inner = p .is ∙ ap (λ b. only b (p .text, drop (c .to + 1) s)) e
@@ -233,7 +232,7 @@ module _ {s : List ℕ} {at : ℕ} (o : Opened s at) {c : Closed} (p : Closing s
         fits = p .fits;
         next-fits = q .fits;
         count = ap length quoted-text ∙ p .count;
-        names = ap (all nameByte) quoted-text ∙ (p .names ∙ w .is);
+        names = ap (all nameByte) quoted-text ∙ p .names;
         stands = subst (λ (t : List ℕ). Stands t (part s (at + 1) (c .to))) (sym quoted-text) (p .stands);
         closes = λ l. (drop (c .to + 1) s, inner ∙ sym (ap (λ (t : List ℕ). some (t, drop (c .to + 1) s)) quoted-text));
       };

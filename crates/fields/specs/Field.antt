@@ -64,7 +64,7 @@ insideText s = ifSome (inside s) [] (λ p. p .0)
 
 -- none at all
 abbrev pub noField : ℕ → Field
-noField at = record { from = at; to = at; count = 0; next = at; named = true; good = false }
+noField at = record { from = at; to = at; count = 0; next = at; good = false }
 
 pub record NoField (at : ℕ) (f : Field) : Type 0 where
   pub is : f ≡ noField at
@@ -79,7 +79,7 @@ pub record TextIs (line : List ℕ) (f : Field) : Type 0 where
   pub fits : f .to ≤ length line
   pub next-fits : f .next ≤ length line
   pub count : length (textOf line f) ≡ f .count
-  pub names : all nameByte (textOf line f) ≡ f .named
+  pub names : all nameByte (textOf line f) ≡ all nameByte (part line (f .from) (f .to))
   pub stands : Stands (textOf line f) (part line (f .from) (f .to))
   pub closes : f .count < f .to - f .from → (rest : List ℕ) × (inside (drop (f .from) line) ≡ some (textOf line f, rest))
 

@@ -13,7 +13,6 @@ pub struct Field {
     pub to: usize,
     pub count: usize,
     pub next: usize,
-    pub named: bool,
     pub good: bool,
 }
 
@@ -91,7 +90,7 @@ fn past_spaces(line: &[u8], at: usize) -> usize
 }
 
 // Whether all bytes are printable. A flag to the end, with no way out before it: many bytes are then tested at a time.
-fn all_named(s: &[u8]) -> bool
+pub fn all_named(s: &[u8]) -> bool
     ensures { λ r. ⌜ Says (all nameByte (now (s .entry))) r ⌝ }
 {
     let mut ok = true;
@@ -112,7 +111,6 @@ fn no_field(at: usize) -> Field
         to: at,
         count: 0,
         next: at,
-        named: true,
         good: false,
     }
 }
@@ -123,18 +121,16 @@ fn bare_field(line: &[u8], at: usize) -> Field
     ensures { λ r. ⌜ FieldIs (now (line .entry)) at r ⌝ }
 {
     let to = cut_at(line, at, b';');
-    let named = all_named(&line[at..to]);
     Field {
         from: at,
         to,
         count: to - at,
         next: to,
-        named,
         good: true,
     }
 }
 
-// A field with its opening quote at `at`. A quote is a printable byte, so it does not matter that some stand twice.
+// A field with its opening quote at `at`.
 fn quoted_field(line: &[u8], at: usize) -> Field
     requires { ⌜ Opened (now line) at ⌝ }
     ensures { λ r. ⌜ FieldIs (now (line .entry)) at r ⌝ }
@@ -144,13 +140,11 @@ fn quoted_field(line: &[u8], at: usize) -> Field
     let to = closed.to;
     if closed.good {
         let next = past_spaces(line, to + 1);
-        let named = all_named(&line[from..to]);
         return Field {
             from,
             to,
             count: closed.count,
             next,
-            named,
             good: true,
         };
     }

@@ -6,7 +6,8 @@ use mathlib.Core.List.{List, [], _∷_}
 use native.Mathlib.Omega.{arith}
 use lib.Dec.{leb}
 use borrow.Author.Tests.{le-leb}
-use Rattle.rules.specs.Bytes.{eitherSide}
+use Rattle.rules.specs.Lists.{all, between}
+use Rattle.rules.specs.Bytes.{nameByte, eitherSide}
 use Rattle.rules.specs.BookLayout.{valueOf, inBounds}
 use Rattle.layout.specs.Ensures.{Says}
 use Rattle.fields.specs.declared.field.Field.{Field}
@@ -17,13 +18,13 @@ use Rattle.fields.specs.Field.{textOf}
 use Rattle.figures.specs.Figures.{signedBy, QuantityIs, DateIs, AmountIs, LetterIs}
 use Rattle.price_line.specs.Line.{namesFit, Kinded, Worth, ValueAre, Spanned}
 
-pub names-are : (a c : Field)
-    → Says (namesFit a c) ((a .good && leb 1 (a .count) && leb (a .count) 40 && a .named) && (c .good && leb (c .count) 20 && c .named))
-names-are a c =
+pub names-are : (line : List ℕ) (a c : Field) {x y : Bool} → Says (all nameByte (textOf line a)) x → Says (all nameByte (textOf line c)) y
+    → Says (namesFit line a c) ((a .good && leb 1 (a .count) && leb (a .count) 40 && x) && (c .good && leb (c .count) 20 && y))
+names-are line a c {x} {y} p q =
     record {
-      is = ap₂ _&&_ (left (a .good) (leb 1 (a .count)) (leb (a .count) 40) (a .named))
-          (ap (λ (t : Bool). c .good && ((t && leb (c .count) 20) && c .named)) (le-leb 0 (c .count) (omega arith))
-          ∙ right (c .good) (leb (c .count) 20) (c .named));
+      is = ap₂ (λ (m n : Bool). (a .good && (between 1 40 (a .count) && m)) && (c .good && (between 0 20 (c .count) && n))) (p .is) (q .is)
+          ∙ ap₂ _&&_ (left (a .good) (leb 1 (a .count)) (leb (a .count) 40) x)
+          (ap (λ (t : Bool). c .good && ((t && leb (c .count) 20) && y)) (le-leb 0 (c .count) (omega arith)) ∙ right (c .good) (leb (c .count) 20) y);
     }
   where
     left : (g x y n : Bool) → (g && ((x && y) && n)) ≡ (g && x && y && n)

@@ -193,12 +193,13 @@ behindValue article condition sort level rule name value = do
       })
 
 module _ {line : List ℕ} {fs : List Field} (p : FieldsAre line fs) where
-  module _ {t : Bool} (names : Says (namesFit (nth fs 0) (nth fs 1)) t) {k : Kinds}
+  module _ {t : Bool} (names : Says (namesFit line (nth fs 0) (nth fs 1)) t) {n : Bool}
+      (named : Says (all nameByte (textOf line (nth fs 5))) n) {k : Kinds}
       (kinds : Kinded line (nth fs 2) (nth fs 3) (nth fs 4) k) {v : Priced} (value : ValueAre line (nth fs 6) (nth fs 7) v)
       {c : Capitals} (capitals : CapitalsAre (textOf line (nth fs 8)) c) {s : Span} (span : Spanned line (nth fs 9) (nth fs 10) (nth fs 11) s) where
     abbrev good : Bool
     good =
-        t && k .good && (nth fs 5 .good && nth fs 5 .named) && v .good && (nth fs 8 .good && c .good) && s .good &&
+        t && k .good && (nth fs 5 .good && n) && v .good && (nth fs 8 .good && c .good) && s .good &&
         (nth fs 12 .good && eqb (nth fs 12 .count) 0) && eqb (nth fs 12 .next) (length line)
 
     abbrev read : PriceLine
@@ -207,8 +208,8 @@ module _ {line : List ℕ} {fs : List Field} (p : FieldsAre line fs) where
     text : (j : ℕ) → j < 13 → TextIs line (nth fs j)
     text j h = field-text p j h
 
-    is-name : (lo hi j : ℕ) → j < 13 → isName lo hi (textOf line (nth fs j)) ≡ (between lo hi (nth fs j .count) && nth fs j .named)
-    is-name lo hi j h = ap₂ (λ (n : ℕ) (b : Bool). between lo hi n && b) (text j h .count) (text j h .names)
+    is-name : (lo hi j : ℕ) → j < 13 → isName lo hi (textOf line (nth fs j)) ≡ (between lo hi (nth fs j .count) && all nameByte (textOf line (nth fs j)))
+    is-name lo hi j h = ap (λ (m : ℕ). between lo hi m && all nameByte (textOf line (nth fs j))) (text j h .count)
 
     line-reads : Reads priceLine line 0
         ((nth fs 0 .good && isName 1 40 (textOf line (nth fs 0))) &&
@@ -253,7 +254,7 @@ module _ {line : List ℕ} {fs : List Field} (p : FieldsAre line fs) where
           (nth fs 8 .good && c .good)
           (nth fs 9 .good && span .is-from) (nth fs 10 .good && span .is-to) (nth fs 11 .good && span .is-upto)
           (nth fs 12 .good && isEmpty (textOf line (nth fs 12))) (eqb (nth fs 12 .next) (length line))
-          ∙ (λ i. both-names i && kinds .good i && (nth fs 5 .good && text 5 (omega arith) .names i) && value .good i &&
+          ∙ (λ i. both-names i && kinds .good i && (nth fs 5 .good && named .is i) && value .good i &&
           (nth fs 8 .good && c .good) && span .good i && (nth fs 12 .good && eqb (text 12 (omega arith) .count i) 0) && eqb (nth fs 12 .next)
           (length line)));
       article = text 0 (omega arith);
@@ -264,21 +265,21 @@ module _ {line : List ℕ} {fs : List Field} (p : FieldsAre line fs) where
     }
       where
         -- what is good up to the value, and up to the name before it
-        to-value : good ≡ true → (t && k .good && (nth fs 5 .good && nth fs 5 .named) && v .good) ≡ true
+        to-value : good ≡ true → (t && k .good && (nth fs 5 .good && n) && v .good) ≡ true
         to-value g =
-            and-left (t && k .good && (nth fs 5 .good && nth fs 5 .named) && v .good) _
-            (and-left (t && k .good && (nth fs 5 .good && nth fs 5 .named) && v .good && (nth fs 8 .good && c .good)) _
-            (and-left (t && k .good && (nth fs 5 .good && nth fs 5 .named) && v .good && (nth fs 8 .good && c .good) && s .good) _
-            (and-left (t && k .good && (nth fs 5 .good && nth fs 5 .named) && v .good && (nth fs 8 .good && c .good) && s .good &&
+            and-left (t && k .good && (nth fs 5 .good && n) && v .good) _
+            (and-left (t && k .good && (nth fs 5 .good && n) && v .good && (nth fs 8 .good && c .good)) _
+            (and-left (t && k .good && (nth fs 5 .good && n) && v .good && (nth fs 8 .good && c .good) && s .good) _
+            (and-left (t && k .good && (nth fs 5 .good && n) && v .good && (nth fs 8 .good && c .good) && s .good &&
             (nth fs 12 .good && eqb (nth fs 12 .count) 0)) _ g)))
 
-        to-name : good ≡ true → (t && k .good && (nth fs 5 .good && nth fs 5 .named)) ≡ true
-        to-name g = and-left (t && k .good && (nth fs 5 .good && nth fs 5 .named)) _ (to-value g)
+        to-name : good ≡ true → (t && k .good && (nth fs 5 .good && n)) ≡ true
+        to-name g = and-left (t && k .good && (nth fs 5 .good && n)) _ (to-value g)
 
         name-starts : good ≡ true → NameStarts line read
         name-starts g =
             let a : nth fs 5 .good ≡ true = and-left (nth fs 5 .good) _ (and-right (t && k .good) _ (to-name g)) in
-            let d : v .good ≡ true = and-right (t && k .good && (nth fs 5 .good && nth fs 5 .named)) _ (to-value g) in
+            let d : v .good ≡ true = and-right (t && k .good && (nth fs 5 .good && n)) _ (to-value g) in
             let b : nth fs 6 .good ≡ true = and-left (nth fs 6 .good) _ (and-left (nth fs 6 .good && v .amount .good) _ (value .good ∙ d)) in
             record {
               fits = starts-at (p .each 4 (omega arith)) (p .each 5 (omega arith)) a b;
@@ -287,15 +288,15 @@ module _ {line : List ℕ} {fs : List Field} (p : FieldsAre line fs) where
             }
 
         fit : (x y : Bool)
-            → ((x && (between 1 40 (nth fs 0 .count) && nth fs 0 .named)) && (y && (between 0 20 (nth fs 1 .count) && nth fs 1 .named))) ≡ true
+            → ((x && (between 1 40 (nth fs 0 .count) && all nameByte (textOf line (nth fs 0)))) && (y && (between 0 20 (nth fs 1 .count) && all nameByte (textOf line (nth fs 1))))) ≡ true
             → (nth fs 0 .count ≤ 40) × (nth fs 1 .count ≤ 20)
         fit true true e = (
           between-high 1 40 (nth fs 0 .count)
-              (and-left (between 1 40 (nth fs 0 .count)) (nth fs 0 .named) (and-left (between 1 40 (nth fs 0 .count) && nth fs 0 .named) _ e)),
+              (and-left (between 1 40 (nth fs 0 .count)) (all nameByte (textOf line (nth fs 0))) (and-left (between 1 40 (nth fs 0 .count) && all nameByte (textOf line (nth fs 0))) _ e)),
           between-high 0 20 (nth fs 1 .count)
-              (and-left (between 0 20 (nth fs 1 .count)) (nth fs 1 .named) (and-right (between 1 40 (nth fs 0 .count) && nth fs 0 .named) _ e)),
+              (and-left (between 0 20 (nth fs 1 .count)) (all nameByte (textOf line (nth fs 1))) (and-right (between 1 40 (nth fs 0 .count) && all nameByte (textOf line (nth fs 0))) _ e)),
         )
-        fit true false e = absurd (false≢true (sym (and-no (between 1 40 (nth fs 0 .count) && nth fs 0 .named)) ∙ e))
+        fit true false e = absurd (false≢true (sym (and-no (between 1 40 (nth fs 0 .count) && all nameByte (textOf line (nth fs 0)))) ∙ e))
         fit false y e = absurd (false≢true e)
 
         both-names : ((nth fs 0 .good && isName 1 40 (textOf line (nth fs 0))) && (nth fs 1 .good && isName 0 20 (textOf line (nth fs 1)))) ≡ t

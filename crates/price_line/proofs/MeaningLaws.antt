@@ -1,8 +1,12 @@
 -- A field's text means what its bytes mean.
 use Prim.Native.Nat.{ℕ}
-use mathlib.Core.Path.{refl}
+use mathlib.Core.Path.{refl, _∙_}
+use mathlib.Core.Bool.{Bool}
 use mathlib.Core.List.{List, [], _∷_}
+use Rattle.rules.specs.Lists.{all}
+use Rattle.rules.specs.Bytes.{nameByte}
 use Rattle.layout.specs.Reads.{part}
+use Rattle.layout.specs.Ensures.{Says}
 use Rattle.fields.specs.declared.field.Field.{Field}
 use Rattle.figures.specs.declared.Figure.{Figure}
 use Rattle.figures.specs.declared.Amount.{Amount}
@@ -13,6 +17,9 @@ use Rattle.figures.specs.Figures.{QuantityIs, DateIs, AmountIs, LetterIs, Capit
 use Rattle.figures.proofs.MeaningLaws.{quantity-text, date-text, letter-text, amount-text, capitals-text}
 
 module _ {line : List ℕ} {f : Field} (t : TextIs line f) where
+  pub named-means : {r : Bool} → Says (all nameByte (part line (f .from) (f .to))) r → Says (all nameByte (textOf line f)) r
+  named-means p = record { is = t .names ∙ p .is }
+
   pub sort-means : {r : Letter} → LetterIs (83 ∷ 80 ∷ []) (part line (f .from) (f .to)) r → LetterIs (83 ∷ 80 ∷ []) (textOf line f) r
   sort-means p = record { is = letter-text t refl p }
 

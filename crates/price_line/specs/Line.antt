@@ -5,7 +5,8 @@ use mathlib.Core.List.{List, [], _∷_}
 use mathlib.Core.Bool.{Bool, true, false, _&&_}
 use mathlib.Core.Option.{some}
 use lib.ListN.{length, drop, getD}
-use Rattle.rules.specs.Lists.{between}
+use Rattle.rules.specs.Lists.{all, between}
+use Rattle.rules.specs.Bytes.{nameByte}
 use Rattle.rules.specs.Layout.{whole}
 use Rattle.rules.specs.BookLayout.{valueOf, inBounds}
 use Rattle.file_rules.specs.Fields.{semicolon, field}
@@ -25,7 +26,7 @@ use Rattle.price_line.specs.declared.PriceLine.{PriceLine}
 -- ---- the fields
 
 abbrev pub zeroField : Field
-zeroField = record { from = 0; to = 0; count = 0; next = 0; named = false; good = false }
+zeroField = record { from = 0; to = 0; count = 0; next = 0; good = false }
 
 abbrev pub nth : List Field → ℕ → Field
 nth fs k = getD fs k zeroField
@@ -46,8 +47,9 @@ pub record FieldsTo (line : List ℕ) (fs : List Field) (at k : ℕ) : Type 0 wh
 
 -- ---- groups of fields: each is good where it was read and its text means something
 
-abbrev pub namesFit : Field → Field → Bool
-namesFit a c = (a .good && (between 1 40 (a .count) && a .named)) && (c .good && (between 0 20 (c .count) && c .named))
+abbrev pub namesFit : List ℕ → Field → Field → Bool
+namesFit line a c =
+    (a .good && (between 1 40 (a .count) && all nameByte (textOf line a))) && (c .good && (between 0 20 (c .count) && all nameByte (textOf line c)))
 
 pub record Kinded (line : List ℕ) (s l r : Field) (k : Kinds) : Type 0 where
   pub is-sort : Bool

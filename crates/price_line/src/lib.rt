@@ -5,6 +5,7 @@ use crate::meanings::capitals_in;
 use crate::meanings::day_in;
 use crate::meanings::flag_in;
 use crate::meanings::level_in;
+use crate::meanings::named_in;
 use crate::meanings::number_in;
 use crate::meanings::rule_in;
 use crate::meanings::sort_in;
@@ -72,13 +73,16 @@ fn fields_of(line: &[u8]) -> [Field; 13]
 }
 
 // Article and condition.
-fn names_fit(fields: [Field; 13]) -> bool
-    ensures { λ r. ⌜ Says (namesFit (nth fields 0) (nth fields 1)) r ⌝ }
+fn names_fit(line: &[u8], fields: [Field; 13]) -> bool
+    requires { ⌜ FieldsAre (now line) fields ⌝ }
+    ensures { λ r. ⌜ Says (namesFit (now (line .entry)) (nth fields 0) (nth fields 1)) r ⌝ }
 {
     let article = fields[0];
     let condition = fields[1];
-    let first = article.good & (1 <= article.count) & (article.count <= 40) & article.named;
-    let second = condition.good & (condition.count <= 20) & condition.named;
+    let a = named_in(line, article);
+    let c = named_in(line, condition);
+    let first = article.good & (1 <= article.count) & (article.count <= 40) & a;
+    let second = condition.good & (condition.count <= 20) & c;
     first & second
 }
 
@@ -152,19 +156,20 @@ fn line_from(line: &[u8], fields: [Field; 13]) -> PriceLine
     requires { ⌜ FieldsAre (now line) fields ⌝ }
     ensures { λ r. ⌜ LineIs (now (line .entry)) r ⌝ }
 {
-    let names = names_fit(fields);
+    let names = names_fit(line, fields);
     let kinds = kinds_of(line, fields);
     let priced = priced_of(line, fields);
     let span = span_of(line, fields);
     let rule = fields[4];
     let name = fields[5];
     let start = rule.next + 1;
+    let named = named_in(line, name);
     let money = fields[8];
     let capitals = capitals_in(line, money);
     let last = fields[12];
     let good = names
         & kinds.good
-        & (name.good & name.named)
+        & (name.good & named)
         & priced.good
         & (money.good & capitals.good)
         & span.good

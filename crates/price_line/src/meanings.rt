@@ -1,5 +1,6 @@
 // What a field of the price file means, by the column that it stands in. A field's own bytes are read: where quotes in them stand twice, it is bad.
 use fields::field::Field;
+use fields::field::all_named;
 use figures::Amount;
 use figures::Capitals;
 use figures::Figure;
@@ -11,8 +12,21 @@ use figures::one_of_three;
 use figures::one_of_two;
 use figures::quantity_in;
 ghost use mathlib.Core.List.{[], _∷_};
+ghost use Rattle.rules.specs.Lists.{all};
+ghost use Rattle.rules.specs.Bytes.{nameByte};
+ghost use Rattle.layout.specs.Ensures.{Says};
 ghost use Rattle.fields.specs.Field.{textOf, TextIs};
 ghost use Rattle.figures.specs.Figures.{QuantityIs, DateIs, AmountIs, LetterIs, CapitalsAre};
+
+// Whether all bytes of a name are printable. A quote is, so it does not matter that some stand twice.
+pub fn named_in(line: &[u8], f: Field) -> bool
+    requires { ⌜ TextIs (now line) f ⌝ }
+    ensures { λ r. ⌜ Says (all nameByte (textOf (now (line .entry)) f)) r ⌝ }
+{
+    let from = f.from;
+    let to = f.to;
+    all_named(&line[from..to])
+}
 
 // Sale or purchase.
 pub fn sort_in(line: &[u8], f: Field) -> Letter

@@ -19,12 +19,14 @@ line-from-spec =
     (λ c. search needs)  -- array-copy-out-rule
     (λ c. search needs)  -- array-copy-out-name
     (λ c. omega (arith, field-text (c .before .before .before .before .before .before .before .before .pre) 4 (omega arith) .next-fits))  -- add-start
+    (λ c κs. search laws)  -- named-in-requires
     (λ c. search needs)  -- array-copy-out-money
     (λ c κs. search laws)  -- capitals-in-requires
     (λ c. search needs)  -- array-copy-out-last
     (λ c. search needs)  -- array-copy-out-t17
     (λ c. search needs)  -- array-copy-out-t38
     (λ c. let money = c .before .before .before .before .before .before .before .before .before .before .before .before .before in
-    let span = money .before .before .before .before .before in
-    line-is (span .before .before .before .before .before .pre) (span .before .before .before .names-fit .ensures) (span .before .before .kinds-of .ensures)
-    (span .before .priced-of .ensures) (money .capitals-in .ensures) (span .span-of .ensures)))  -- returns
+    let name = money .before .before in
+    let span = name .before .before .before .before in
+    line-is (span .before .before .before .before .before .pre) (span .before .before .before .names-fit .ensures) (name .named-in .ensures)
+    (span .before .before .kinds-of .ensures) (span .before .priced-of .ensures) (money .capitals-in .ensures) (span .span-of .ensures)))  -- returns

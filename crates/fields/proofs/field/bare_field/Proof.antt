@@ -11,9 +11,5 @@ bare-field-spec =
     tie.close
     (tie.spec
     (λ c κs. search laws)  -- cut-at-requires
-    (λ c. search needs)  -- sub-all-named
-    (λ c. search needs)  -- part-all-named-start
-    (λ c. search needs)  -- part-all-named-end
-    (λ c κs. search laws)  -- all-named-requires
     (λ c. search needs)  -- sub-t6
     (λ c. search laws))  -- returns

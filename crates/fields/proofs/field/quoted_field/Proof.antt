@@ -14,10 +14,6 @@ quoted-field-spec =
     (λ c κs. search laws)  -- closing-requires
     (λ c. search needs)  -- add-past-spaces
     (λ c κs. search laws)  -- past-spaces-requires
-    (λ c. search needs)  -- sub-all-named
-    (λ c. search needs)  -- part-all-named-start
-    (λ c. search needs)  -- part-all-named-end
-    (λ c κs. search laws)  -- all-named-requires
     (λ c. search laws)  -- returns
     (λ c κs. search laws)  -- no-field-requires
     (λ c. search laws))  -- returns-2
