@@ -18,6 +18,8 @@ const GRANTED: usize = 5;
 const ROUNDS: usize = 100;
 /// Where a run takes seconds.
 const FEW_ROUNDS: usize = 3;
+/// Of a book of its own, so that those that are thrown behind it stay what they are.
+const SPREAD_SEED: u64 = 20_240_701;
 const STRETCH: usize = 20;
 const MOST_BYTES: usize = 1_096 * STRETCH;
 
@@ -25,6 +27,8 @@ pub fn measure(dice: &mut Dice) -> Vec<Row> {
     let lists = catalog::catalog(dice, ROWS, &Manner::price_lists());
     let own_days = catalog::catalog(dice, ROWS, &beginning_within(1_096));
     let alone = catalog::book(dice, &[ROWS], &beginning_within(1_001));
+    let spread = Manner { spread_roundings: true, ..beginning_within(1_096) };
+    let spread = catalog::catalog(&mut Dice::new(SPREAD_SEED), ROWS, &spread);
     let mut rows = Vec::new();
     for end in ENDS {
         rows.push(time("50 rows, price lists", &lists, lists.near_end(), end, ROUNDS));
@@ -32,6 +36,7 @@ pub fn measure(dice: &mut Dice) -> Vec<Row> {
     for end in ENDS {
         rows.push(time("50 rows, days of their own", &own_days, own_days.near_end(), end, ROUNDS));
     }
+    rows.push(time("50 rows, days of their own, roundings spread", &spread, spread.near_end(), ENDS[2], ROUNDS));
     rows.push(time("all rows of one article", &alone, &alone.articles[0], ENDS[2], FEW_ROUNDS));
     rows
 }

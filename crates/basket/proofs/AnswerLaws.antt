@@ -23,7 +23,7 @@ use Rattle.layout.specs.Records.{recordsLeft}
 use Rattle.layout.proofs.StoreLaws.{puts-then}
 use Rattle.layout.proofs.PileLaws.{Piling, pile-start, pile-again, pile-end}
 use Rattle.questions.specs.Questions.{noQuestion}
-use Rattle.survey.specs.declared.Found.{Found}
+use Rattle.wanted.specs.declared.Sights.{Sights}
 use Rattle.price.specs.declared.answered.Answered.{Answered}
 use Rattle.price.specs.Answered.{PutsIfRoom, AnsweredIs, linesTo}
 use Rattle.basket.specs.declared.answers.Answers.{Answers}
@@ -81,7 +81,7 @@ kept-next xs j d h {kept} {new} {end} {r} k p = record { is = go (leb (end + len
 -- ---- one behind the other
 
 -- j answers are there, so many lines go with them, and these are kept
-pub record Answering (b s starts ends : List ℕ) (found : List Found) (n : ℕ) (old kept bytes : List ℕ) (lines end j : ℕ) : Type 0 where
+pub record Answering (b s starts ends : List ℕ) (found : Sights) (n : ℕ) (old kept bytes : List ℕ) (lines end j : ℕ) : Type 0 where
   pub basket : Basketed b s starts ends found n
   pub few : n ≤ 200
   pub place : j ≤ n
@@ -92,7 +92,7 @@ pub record Answering (b s starts ends : List ℕ) (found : List Found) (n : ℕ)
   pub same : length kept ≡ length old
   pub keeps : Kept kept end (join (take j (map linesIn (outcomes b s))))
 
-module _ {b s starts ends : List ℕ} {found : List Found} {n : ℕ} where
+module _ {b s starts ends : List ℕ} {found : Sights} {n : ℕ} where
   pub answers-start : Basketed b s starts ends found n → (kept : List ℕ) → Answering b s starts ends found n kept kept (replicate 6600 0) 0 0 0
   answers-start bk kept =
       let room : length {A = ℕ} (replicate 6600 0) ≡ 6600 = length-replicate {A = ℕ} 6600 0 in

@@ -16,12 +16,13 @@ use Rattle.layout.specs.Reads.{part}
 use Rattle.layout.specs.Records.{recordsLeft}
 use Rattle.questions.specs.Questions.{noQuestion}
 use Rattle.survey.specs.declared.Found.{Found}
-use Rattle.survey.specs.Survey.{FoundIs}
-use Rattle.wanted.specs.Entries.{noFound}
+use Rattle.survey.specs.Survey.{FoundIs, FoundOf}
+use Rattle.wanted.specs.declared.Sights.{Sights}
+use Rattle.wanted.specs.Entries.{noSight}
 use Rattle.price.specs.Answered.{Ready, answeredTo}
 use Rattle.basket.specs.Basket.{asked, Basketed, outcomes, allAnswers, allLines}
 
-module _ {b s starts ends : List ℕ} {found : List Found} {n : ℕ} (bk : Basketed b s starts ends found n) where
+module _ {b s starts ends : List ℕ} {found : Sights} {n : ℕ} (bk : Basketed b s starts ends found n) where
   pub outcomes-count : length (outcomes b s) ≡ n
   outcomes-count = length-map (asked s) (answered (recordsLeft b 5)) ∙ bk .count
 
@@ -39,12 +40,14 @@ module _ {b s starts ends : List ℕ} {found : List Found} {n : ℕ} (bk : Baske
     pub part-fits : getD ends j 0 ≤ length s
     part-fits = bk .stand j h .fits
 
-    pub ready-at : Ready b (part s (getD starts j 0) (getD ends j 0)) (getD found j noFound)
-    ready-at =
+    pub ready-at : {f : Found} → FoundOf (getD (found .all) j noSight) (found .noted) f → Ready b (part s (getD starts j 0) (getD ends j 0)) f
+    ready-at {f} of =
         let is = bk .stand j h .is in
         record {
           ok = ap isSome is;
-          has = λ q e. subst (λ (x : Question). FoundIs b (x .article) (x .sort) (getD found j noFound)) (Option·some-injective _ q (sym is ∙ e)) (bk .has j h);
+          has = λ q e.
+              subst (λ (x : Question). FoundIs b (x .article) (x .sort) f) (Option·some-injective _ q (sym is ∙ e))
+              (subst (λ (g : Found). FoundIs b (getD (asked s) j noQuestion .article) (getD (asked s) j noQuestion .sort) g) (sym (of .is)) (bk .has j h));
         }
 
     -- what the question there is answered, among what all are

@@ -25,7 +25,7 @@ use Rattle.layout.proofs.StoreLaws.{puts-then, puts-front}
 use Rattle.book.proofs.WalkLaws.{book-left}
 use Rattle.questions.specs.declared.Questions.{Questions}
 use Rattle.questions.specs.Questions.{QuestionsAre, QuestionsHere, noQuestion}
-use Rattle.survey.specs.declared.Found.{Found}
+use Rattle.wanted.specs.declared.Sights.{Sights}
 use Rattle.price.specs.Answered.{HasRoom}
 use Rattle.basket.specs.declared.answers.Answers.{Answers}
 use Rattle.basket.specs.declared.located.Located.{Located}
@@ -75,7 +75,7 @@ module _ {s : List ℕ} {list : Questions} (told : QuestionsAre s mostBasket lis
   }
 
   pub all-basketed : {b : List ℕ} {there : Located} → LocatedIs b s (list .starts) (list .ends) (list .count) there → there .ok ≡ true
-      → Basketed b s (list .starts) (list .ends) (there .all) (list .count)
+      → Basketed b s (list .starts) (list .ends) (there .found) (list .count)
   all-basketed {b} located so = record {
     is-book = book-left b (sym (located .ok) ∙ so);
     are = are;
@@ -85,7 +85,7 @@ module _ {s : List ℕ} {list : Questions} (told : QuestionsAre s mostBasket lis
     has = λ j h. located .has so j h (getD (asked s) j noQuestion) (told .each (asked s) are j h .is);
   }
 
-module _ {b s starts ends : List ℕ} {found : List Found} {n : ℕ} (bk : Basketed b s starts ends found n) {kept : List ℕ} {a : Answers} (told : AnswersAre b s kept a) where
+module _ {b s starts ends : List ℕ} {found : Sights} {n : ℕ} (bk : Basketed b s starts ends found n) {kept : List ℕ} {a : Answers} (told : AnswersAre b s kept a) where
   -- the answers are those of n questions
   head-is : length (allAnswers b s) ≡ 33 * n
   head-is = told .size ∙ ap (λ (k : ℕ). 33 * k) (bk .count)

@@ -12,20 +12,20 @@ use Rattle.layout.specs.Reads.{part}
 use Rattle.layout.specs.Records.{recordsLeft}
 use Rattle.layout.proofs.PileLaws.{Piling, pile-start, pile-room, pile-again, pile-end}
 use Rattle.questions.specs.Questions.{noQuestion}
-use Rattle.survey.specs.declared.Found.{Found}
+use Rattle.wanted.specs.declared.Sights.{Sights}
 use Rattle.price.specs.declared.answered.Answered.{Answered}
 use Rattle.price.specs.Answered.{HasRoom, AnsweredIs, linesTo}
 use Rattle.basket.specs.Basket.{Basketed, outcomes, allLines, Kept}
 use Rattle.basket.proofs.AskedLaws.{outcomes-count, nth}
 
 -- the lines of j questions are there
-pub record Listing (b s starts ends : List ℕ) (found : List Found) (n : ℕ) (old : List ℕ) (from : ℕ) (out : List ℕ) (at j : ℕ) : Type 0 where
+pub record Listing (b s starts ends : List ℕ) (found : Sights) (n : ℕ) (old : List ℕ) (from : ℕ) (out : List ℕ) (at j : ℕ) : Type 0 where
   pub basket : Basketed b s starts ends found n
   pub few : n ≤ 200
   pub place : j ≤ n
   pub pile : Piling old from (map linesIn (outcomes b s)) out at j
 
-module _ {b s starts ends : List ℕ} {found : List Found} {n : ℕ} {old : List ℕ} {from : ℕ} where
+module _ {b s starts ends : List ℕ} {found : Sights} {n : ℕ} {old : List ℕ} {from : ℕ} where
   pub lines-start : Basketed b s starts ends found n → HasRoom old from (allLines b s) → Listing b s starts ends found n old from old from 0
   lines-start bk room = record { basket = bk; few = bk .few; place = omega arith; pile = pile-start old from (map linesIn (outcomes b s)) (room .fits) }
 

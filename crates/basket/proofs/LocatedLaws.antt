@@ -5,8 +5,7 @@ use mathlib.Core.Bool.{Bool, true, false, false≢true}
 use mathlib.Core.List.{List}
 use mathlib.Core.Option.{some}
 use native.Mathlib.Omega.{arith}
-use lib.ListN.{length, getD, set, replicate, length-replicate}
-use lib.Seq.{getD-set-same}
+use lib.ListN.{length, getD}
 use Rattle.rules.specs.Lists.{isSome}
 use Rattle.rules.specs.Question.{Question, questionOf}
 use Rattle.rules.specs.BookLayout.{records}
@@ -16,9 +15,10 @@ use Rattle.questions.specs.declared.Names.{Names}
 use Rattle.questions.specs.Questions.{NamesAre}
 use Rattle.survey.specs.declared.Found.{Found}
 use Rattle.survey.specs.declared.Surveyed.{Surveyed}
-use Rattle.survey.specs.Survey.{nothing, FoundIs, SurveyIs}
-use Rattle.wanted.specs.Entries.{noFound, FoundAll}
-use Rattle.basket.specs.Located.{LocatedIs}
+use Rattle.survey.specs.Survey.{FoundIs, SurveyIs}
+use Rattle.wanted.specs.declared.Sights.{Sights}
+use Rattle.wanted.specs.Entries.{foundFor, FoundAll}
+use Rattle.basket.specs.Located.{LocatedIs, FirstFound}
 
 -- the name of the only question stands in the questions
 module _ {s starts ends : List ℕ} {n : ℕ} {names : Names} (are : NamesAre s starts ends n names) where
@@ -37,22 +37,21 @@ module _ {b s starts ends : List ℕ} {n : ℕ} {names : Names} (are : NamesAre 
       (subst (λ (a : List ℕ). FoundIs b a (getD (names .sorts) j 0) f) (are .each j h .article q e) found)
 
   pub located-one : n ≡ 1 → {w : Surveyed} → SurveyIs b (nameAt s (names .starts) (names .ends) 0) (getD (names .sorts) 0 0) w
-      → LocatedIs b s starts ends n (record { ok = w .ok; all = set (replicate 500 nothing) 0 (w .found) })
-  located-one one {w} told = record {
+      → {found : Sights} → FirstFound (w .found) found → LocatedIs b s starts ends n (record { ok = w .ok; found = found })
+  located-one one {w} told {found} first = record {
     ok = told .ok;
     has = λ ok j h.
         let zero : j ≡ 0 = omega arith in
-        let here : getD (set (replicate 500 nothing) 0 (w .found)) j noFound ≡ w .found =
-        ap (λ (k : ℕ). getD (set (replicate 500 nothing) 0 (w .found)) k noFound) zero ∙ getD-set-same (replicate 500 nothing) 0 (w .found) noFound (omega (arith, length-replicate 500 nothing)) in
-        let found : FoundIs b (nameAt s (names .starts) (names .ends) j) (getD (names .sorts) j 0) (w .found) =
+        let here : foundFor found j ≡ w .found = ap (foundFor found) zero ∙ first .is in
+        let its : FoundIs b (nameAt s (names .starts) (names .ends) j) (getD (names .sorts) j 0) (w .found) =
         subst (λ (k : ℕ). FoundIs b (nameAt s (names .starts) (names .ends) k) (getD (names .sorts) k 0) (w .found)) (sym zero) (told .found ok) in
-        λ q e. subst (λ (f : Found). FoundIs b (q .article) (q .sort) f) (sym here) (for-question j h found q e);
+        λ q e. subst (λ (f : Found). FoundIs b (q .article) (q .sort) f) (sym here) (for-question j h its q e);
   }
 
-  pub located-all : {t : Bool} → t ≡ isSome (records b) → t ≡ true → {all : List Found} → FoundAll b s (names .starts) (names .ends) (names .sorts) n all
-      → LocatedIs b s starts ends n (record { ok = true; all = all })
+  pub located-all : {t : Bool} → t ≡ isSome (records b) → t ≡ true → {found : Sights} → FoundAll b s (names .starts) (names .ends) (names .sorts) n found
+      → LocatedIs b s starts ends n (record { ok = true; found = found })
   located-all e f told = record { ok = sym f ∙ e; has = λ ok j h. for-question j h (told .each j h) }
 
-pub located-none : {b s starts ends : List ℕ} {n : ℕ} {all : List Found} {t : Bool} → t ≡ isSome (records b) → t ≡ false
-    → LocatedIs b s starts ends n (record { ok = false; all = all })
+pub located-none : {b s starts ends : List ℕ} {n : ℕ} {found : Sights} {t : Bool} → t ≡ isSome (records b) → t ≡ false
+    → LocatedIs b s starts ends n (record { ok = false; found = found })
 located-none e f = record { ok = sym f ∙ e; has = λ ok. absurd (false≢true ok) }

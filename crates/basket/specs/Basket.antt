@@ -18,9 +18,9 @@ use Rattle.rules.specs.declared.Written.{Written}
 use Rattle.layout.specs.Ensures.{Puts}
 use Rattle.layout.specs.Records.{recordsLeft}
 use Rattle.questions.specs.Questions.{noQuestion, StandAt}
-use Rattle.survey.specs.declared.Found.{Found}
 use Rattle.survey.specs.Survey.{FoundIs}
-use Rattle.wanted.specs.Entries.{noFound}
+use Rattle.wanted.specs.declared.Sights.{Sights}
+use Rattle.wanted.specs.Entries.{foundFor}
 use Rattle.basket.specs.declared.answers.Answers.{Answers}
 
 -- ---- the questions
@@ -30,13 +30,13 @@ abbrev pub asked : List ℕ → List Question
 asked s = ifSome (questionsOf mostBasket s) [] (λ qs. qs)
 
 -- they stand at these places, and this is what the book has for each
-pub record Basketed (b s starts ends : List ℕ) (found : List Found) (n : ℕ) : Type 0 where
+pub record Basketed (b s starts ends : List ℕ) (found : Sights) (n : ℕ) : Type 0 where
   pub is-book : records b ≡ some (recordsLeft b 5)
   pub are : questionsOf mostBasket s ≡ some (asked s)
   pub few : n ≤ mostBasket
   pub count : length (asked s) ≡ n
   pub stand : StandAt s starts ends n (asked s)
-  pub has : (j : ℕ) → j < n → FoundIs b (getD (asked s) j noQuestion .article) (getD (asked s) j noQuestion .sort) (getD found j noFound)
+  pub has : (j : ℕ) → j < n → FoundIs b (getD (asked s) j noQuestion .article) (getD (asked s) j noQuestion .sort) (foundFor found j)
 
 -- ---- what is answered to them
 

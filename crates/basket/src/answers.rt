@@ -6,7 +6,8 @@ use layout::strings::put_bytes;
 use layout::strings::put_run;
 use price::answered::answer_to;
 use rules::PriceAnswer;
-use survey::Found;
+use survey::found_of;
+use wanted::Sights;
 ghost use Prim.Native.Nat.{_+_, _≤_};
 ghost use lib.ListN.{length};
 ghost use Rattle.layout.specs.Ensures.{Puts};
@@ -55,13 +56,15 @@ pub fn answers_to(
     questions: &[u8],
     starts: &[usize; 500],
     ends: &[usize; 500],
-    found: [Found; 500],
+    found: Sights,
     n: usize,
     kept: &mut [u8],
 ) -> Answers
     requires { ⌜ Basketed (now book) (now questions) (now starts) (now ends) found n ⌝ }
     ensures { λ r. ⌜ AnswersAre (now (book .entry)) (now (questions .entry)) (now (kept .exit)) r ⌝ }
 {
+    let all = found.all;
+    let noted = found.noted;
     let mut bytes = [0u8; ANSWERS_SIZE];
     let mut lines = 0;
     let mut end = 0;
@@ -69,7 +72,13 @@ pub fn answers_to(
     while j < n {
         let from = starts[j];
         let to = ends[j];
-        let told = answer_to(book, &questions[from..to], found[j], kept, end);
+        let told = answer_to(
+            book,
+            &questions[from..to],
+            found_of(all[j], noted),
+            kept,
+            end,
+        );
         let answer = told.answer;
         put_answer(&mut bytes, ANSWER_SIZE * j, answer);
         lines = lines + answer.lines as usize;

@@ -11,8 +11,8 @@ use layout::strings::put_bytes;
 use questions::questions_of;
 use rules::LINE_SIZE;
 use rules::Written;
-use survey::Found;
 use survey::is_book;
+use wanted::Sights;
 ghost use mathlib.Core.Path.{_≡_};
 ghost use Rattle.rules.specs.Refusals.{refused};
 ghost use Rattle.rules.specs.Basket.{shownBasket};
@@ -35,7 +35,7 @@ fn filled(
     questions: &[u8],
     starts: &[usize; 500],
     ends: &[usize; 500],
-    found: [Found; 500],
+    found: Sights,
     n: usize,
     out: &mut [u8],
 ) -> Written
@@ -81,7 +81,7 @@ pub fn basket(book: &[u8], questions: &[u8], out: &mut [u8]) -> Written
         let n = list.count;
         let there = locate(book, questions, &starts, &ends, n);
         if there.ok {
-            let found = there.all;
+            let found = there.found;
             return filled(book, questions, &starts, &ends, found, n, out);
         }
         return refusal(1);

@@ -1,7 +1,8 @@
 // The lines of all questions of a basket, one question's behind the other's.
 use layout::strings::put_bytes;
 use price::answered::answer_to;
-use survey::Found;
+use survey::found_of;
+use wanted::Sights;
 ghost use Rattle.layout.specs.Ensures.{PutsTo};
 ghost use Rattle.price.specs.Answered.{HasRoom};
 ghost use Rattle.basket.specs.Basket.{Basketed, Kept, allLines};
@@ -14,19 +15,27 @@ fn put_all_lines(
     questions: &[u8],
     starts: &[usize; 500],
     ends: &[usize; 500],
-    found: [Found; 500],
+    found: Sights,
     n: usize,
 ) -> usize
     requires { ⌜ Basketed (now book) (now questions) (now starts) (now ends) found n ⌝ }
     requires { ⌜ HasRoom (now out) at (allLines (now book) (now questions)) ⌝ }
     ensures { λ r. ⌜ PutsTo (now (out .entry)) at (allLines (now (book .entry)) (now (questions .entry))) (now (out .exit)) r ⌝ }
 {
+    let all = found.all;
+    let noted = found.noted;
     let mut end = at;
     let mut j = 0;
     while j < n {
         let from = starts[j];
         let to = ends[j];
-        let told = answer_to(book, &questions[from..to], found[j], out, end);
+        let told = answer_to(
+            book,
+            &questions[from..to],
+            found_of(all[j], noted),
+            out,
+            end,
+        );
         end = told.end;
         j += 1;
     }
@@ -43,7 +52,7 @@ pub fn put_lines(
     questions: &[u8],
     starts: &[usize; 500],
     ends: &[usize; 500],
-    found: [Found; 500],
+    found: Sights,
     n: usize,
 ) -> usize
     requires { ⌜ Basketed (now book) (now questions) (now starts) (now ends) found n ⌝ }

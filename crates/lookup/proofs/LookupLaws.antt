@@ -1,14 +1,14 @@
 -- The lookup of roundings by spots meets the definition's: what is looked for, each turn of the walk, and its end.
-use Prim.Native.Nat.{ℕ, _+_, _-_, _%_, _≤_, _<_}
+use Prim.Native.Nat.{ℕ, suc, _+_, _-_, _%_, _≤_, _<_}
 use mathlib.Core.Path.{_≡_, refl, sym, _∙_, ap, subst}
 use mathlib.Core.Bool.{Bool, true, false, _&&_, _||_, not, cond, or-true, false≢true}
-use mathlib.Core.List.{List, [], _∷_}
+use mathlib.Core.List.{List, [], _∷_, map}
 use mathlib.Core.Option.{Option, some, none}
 use native.Mathlib.Omega.{arith}
 use native.Mathlib.Decide.{decLt, ℕ-discrete}
 use lib.Dec.{eqb}
-use lib.ListN.{length, drop, getD, set, replicate, length-set, length-drop, length-replicate, getD-replicate}
-use lib.Seq.{length-take-le, getD-set-same, getD-set-other}
+use lib.ListN.{length, take, drop, getD, set, replicate, drop-of-length-le, length-set, length-drop, length-replicate, getD-replicate}
+use lib.Seq.{length-take-le, getD-set-same, getD-set-other, getD-take, drop-cons}
 use borrow.Author.Tests.{eq-eqb, ne-eqb, not-true}
 use Rattle.rules.specs.Lists.{isSome, consSome, ifSome}
 use Rattle.rules.specs.Layout.{whole}
@@ -17,7 +17,7 @@ use Rattle.rules.specs.Book.{Record, RoundingRecord, asRounding, roundings, rou
 use Rattle.rules.specs.BookLayout.{kinded, oneRecord}
 use Rattle.rules.specs.Amounts.{SoundRounding}
 use Rattle.rules.specs.declared.Rounding.{Rounding}
-use Rattle.rules.proofs.ListLaws.{All}
+use Rattle.rules.proofs.ListLaws.{All, all-at}
 use Rattle.rules.proofs.KindLaws.{roundingKind, list-all}
 use Rattle.rules.proofs.GivesLaws.{gives-repeated, whole-gives}
 use Rattle.layout.specs.Reads.{part}
@@ -30,7 +30,7 @@ use Rattle.records.specs.Ensures.{Bounded, RoundingBounds, RoundingIs}
 use Rattle.records.specs.Tests.{roundingNumber}
 use Rattle.records.proofs.BoundLaws.{gives-record}
 use Rattle.records.proofs.RoundingLaws.{number-kind, rounding-long}
-use Rattle.lookup.specs.Roundings.{RoundingUsed, roundingHeld, spotOr, RoundingHere, SpotHeld, RoundingAt, Found, SpotsFound, Sought, Room, Placing, Wants, OpenAre, NextOpen, SpotAfter, SpotsAfter, Noted}
+use Rattle.lookup.specs.Roundings.{RoundingUsed, roundingHeld, roundingThere, spotOr, RoundingHere, SpotHeld, RoundingAt, Found, SpotsFound, Sought, Room, Placing, Wants, OpenAre, NextOpen, SpotAfter, SpotsAfter, Noted, RoundingSpot, SpotsNoted, SoughtAmong, Among}
 -- at this door
 pub use Rattle.book.proofs.WalkLaws.{book-records}
 
@@ -136,7 +136,7 @@ module _ {b : List ℕ} {at : ℕ} (w : Between b at) (h : at < length b) {e : �
       ∙ hit (x .number) x (recordsLeft b e) refl
 
 module _ {b : List ℕ} {at e : ℕ} (s : StopIs b at e) where
-  there-rounding : OfKind 3 (part b (at + 2) e) → RoundingHere b at
+  pub there-rounding : OfKind 3 (part b (at + 2) e) → RoundingHere b at
   there-rounding k = record { fits = subst (λ (x : ℕ). x ≤ length b) (s .is) (s .fits); kind = subst (λ (x : ℕ). OfKind 3 (part b (at + 2) x)) (s .is) k }
 
   pub here-kind : RoundingHere b at → OfKind 3 (part b (at + 2) e)
@@ -402,3 +402,84 @@ module _ {b : List ℕ} {spot : ℕ} where
 -- a spot that was found for a number has its rounding
 pub found-used : {b : List ℕ} {from number spot : ℕ} → Found b from number spot → {r : Rounding} → RoundingAt b spot r → RoundingUsed b from number r
 found-used f r = record { is = r .is ∙ f .is; sound = r .sound }
+
+-- ---- among noted spots
+
+module _ (b : List ℕ) (from : ℕ) where
+  -- a noted rounding that goes by
+  among-after : {at : ℕ} → RoundingSpot b at → (left : List ℕ) {x : Rounding} → RoundingAt b at x → {k p q : ℕ} → SoughtAmong b from k p (at ∷ left)
+      → q ≡ cond (eqb p 0 && eqb k (x .number)) at p → SoughtAmong b from k q left
+  unfolding roundingFor
+  among-after {at} spot left {x} r {k} {p} {q} t i = go (ℕ-discrete p 0) (ℕ-discrete k (x .number))
+    where
+      rest : Rounding
+      rest = roundingFor k (map (roundingThere b) left)
+
+      all : Rounding
+      all = roundingFor k (map (roundingThere b) (at ∷ left))
+
+      some-spot : at ≡ 0 → ⊥
+      some-spot z = omega (arith, spot .low)
+
+      there : roundingThere b at ≡ x
+      there = sym (r .is ∙ at-some b at plain some-spot)
+
+      keeps : p ≡ q → spotOr b p rest ≡ spotOr b p all → SoughtAmong b from k q left
+      keeps d f = subst (λ (y : ℕ). SoughtAmong b from k y left) d (record { held = t .held; is = f ∙ t .is })
+
+      go : Dec (p ≡ 0) → Dec (k ≡ x .number) → SoughtAmong b from k q left
+      go (no n) d = keeps (sym (i ∙ rw (ne-eqb p 0 n))) (at-some b p rest n ∙ sym (at-some b p all n))
+      go (yes z) (no d) =
+          keeps (sym (i ∙ rw (z, ne-eqb k (x .number) d)))
+          (ap (spotOr b p) (sym (rw (there, ne-eqb (x .number) k (λ e. d (sym e))))))
+      go (yes z) (yes d) =
+          let a : at ≡ q = sym (i ∙ rw (z, eq-eqb k (x .number) d)) in
+          subst (λ (y : ℕ). SoughtAmong b from k y left) a
+          (record {
+            held = record { held = λ f. spot .here };
+            is = at-some b at rest some-spot ∙ there ∙ sym (rw (there, eq-eqb (x .number) k (sym d))) ∙ sym (at-none b p all z) ∙ t .is;
+          })
+
+module _ {b : List ℕ} {from : ℕ} {noted : List ℕ} {count : ℕ} (all : SpotsNoted b from noted count) {numbers : List ℕ} {n : ℕ} where
+  pub among-start : n ≤ 99 → Among b from noted count numbers n (replicate 99 0) 0
+  among-start l = record { long = length-replicate {A = ℕ} 99 0; each = λ i k. start (getD-replicate 99 i 0 0 (omega arith)) }
+    where
+      start : {k p : ℕ} → p ≡ 0 → SoughtAmong b from k p (take count noted)
+      start {k} {p} z = record {
+        held = record { held = λ f. absurd (f z) };
+        is = at-none b p (roundingFor k (map (roundingThere b) (take count noted))) z ∙ ap (roundingFor k) (all .are);
+      }
+
+  module _ {spots : List ℕ} {j : ℕ} (inv : Among b from noted count numbers n spots j) where
+    long : length (take count noted) ≡ count
+    long = length-take-le count noted (all .fits)
+
+    pub among-end : count ≤ j → SpotsFound b from numbers n spots
+    unfolding roundingFor
+    among-end h = record {
+      each = λ i l. record {
+        held = inv .each i l .held;
+        is = ap (λ (xs : List ℕ). spotOr b (getD spots i 0) (roundingFor (getD numbers i 0) (map (roundingThere b) xs))) (sym (drop-of-length-le (take count noted) {i = j} (omega (arith, long)))) ∙ inv .each i l .is;
+      };
+    }
+
+    module _ (h : j < count) where
+      spot-at : RoundingSpot b (getD noted j 0)
+      spot-at = subst (RoundingSpot b) (getD-take count noted j 0 h) (all-at (RoundingSpot b) (take count noted) 0 (all .there) j (omega (arith, long)))
+
+      pub among-held : SpotHeld b (getD noted j 0)
+      among-held = record { held = λ f. spot-at .here }
+
+      next : drop j (take count noted) ≡ getD noted j 0 ∷ drop (j + 1) (take count noted)
+      next =
+          let e : suc j ≡ j + 1 = omega arith in
+          drop-cons (take count noted) j 0 (omega (arith, long)) ∙ (λ i. getD-take count noted j 0 h i ∷ drop (e i) (take count noted))
+
+      pub among-again : {x : Rounding} → RoundingAt b (getD noted j 0) x → {after : List ℕ} → SpotsAfter spots numbers n (x .number) (getD noted j 0) after
+          → Among b from noted count numbers n after (j + 1)
+      among-again r p = record {
+        long = p .long;
+        each = λ i l.
+            among-after b from spot-at (drop (j + 1) (take count noted)) r
+            (subst (SoughtAmong b from (getD numbers i 0) (getD spots i 0)) next (inv .each i l)) (p .each i l);
+      }

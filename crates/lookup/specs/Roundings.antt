@@ -2,16 +2,17 @@
 use Prim.Native.Nat.{ℕ, _+_, _%_, _≤_, _<_}
 use mathlib.Core.Path.{_≡_}
 use mathlib.Core.Bool.{Bool, true, false, _&&_, cond}
-use mathlib.Core.List.{List}
+use mathlib.Core.List.{List, map}
 use mathlib.Core.Option.{Option, some, none}
 use lib.Dec.{eqb}
-use lib.ListN.{length, getD}
+use lib.ListN.{length, take, drop, getD}
 use Rattle.rules.specs.Lists.{ifSome}
 use Rattle.rules.specs.Layout.{whole}
 use Rattle.rules.specs.Book.{Record, asRounding, roundings, roundingFor, plain}
 use Rattle.rules.specs.BookLayout.{kinded}
 use Rattle.rules.specs.Amounts.{SoundRounding}
 use Rattle.rules.specs.declared.Rounding.{Rounding}
+use Rattle.rules.proofs.ListLaws.{All}
 use Rattle.layout.specs.Reads.{part}
 use Rattle.layout.specs.Records.{recordStop, recordsLeft, Between}
 use Rattle.records.specs.Asks.{OfKind}
@@ -27,9 +28,13 @@ unfoldable pub roundingHeld : Option Record → Rounding
 roundingHeld none = plain
 roundingHeld (some r) = ifSome (asRounding r) plain (λ x. x)
 
--- the rounding whose record stands at a spot; 0 is the spot of none, and has `other`
+-- the rounding whose record stands at a spot
+abbrev pub roundingThere : List ℕ → ℕ → Rounding
+roundingThere b spot = roundingHeld (whole kinded (part b (spot + 2) (recordStop b spot)))
+
+-- 0 is the spot of none, and has `other`
 unfoldable pub spotOr : List ℕ → ℕ → Rounding → Rounding
-spotOr b spot other = cond (eqb spot 0) other (roundingHeld (whole kinded (part b (spot + 2) (recordStop b spot))))
+spotOr b spot other = cond (eqb spot 0) other (roundingThere b spot)
 
 -- a rounding stands at the spot
 pub record RoundingHere (b : List ℕ) (spot : ℕ) : Type 0 where
@@ -103,3 +108,26 @@ pub record SpotsAfter (spots numbers : List ℕ) (n number at : ℕ) (r : List �
 pub record Noted (spots numbers : List ℕ) (n number at : ℕ) (r : List ℕ) (flags : List Bool) (left : Bool) : Type 0 where
   pub put : SpotsAfter spots numbers n number at r
   pub opened : OpenAre numbers r n flags left
+
+-- ---- spots that were noted
+
+-- a rounding stands at the spot, which is not that of none
+pub record RoundingSpot (b : List ℕ) (spot : ℕ) : Type 0 where
+  pub low : 0 < spot
+  pub here : RoundingHere b spot
+
+-- the first `count` of these are the spots of all roundings among the records from a spot on, in the order of the book
+pub record SpotsNoted (b : List ℕ) (from : ℕ) (noted : List ℕ) (count : ℕ) : Type 0 where
+  pub fits : count ≤ length noted
+  pub there : All (RoundingSpot b) (take count noted)
+  pub are : map (roundingThere b) (take count noted) ≡ roundings (recordsLeft b from)
+
+-- the number of a spot is found, or the noted spots that are left have what all have
+pub record SoughtAmong (b : List ℕ) (from number spot : ℕ) (left : List ℕ) : Type 0 where
+  pub held : SpotHeld b spot
+  pub is : spotOr b spot (roundingFor number (map (roundingThere b) left)) ≡ roundingFor number (roundings (recordsLeft b from))
+
+-- and so for the first n numbers, with the noted spots before j gone through
+pub record Among (b : List ℕ) (from : ℕ) (noted : List ℕ) (count : ℕ) (numbers : List ℕ) (n : ℕ) (spots : List ℕ) (j : ℕ) : Type 0 where
+  pub long : length spots ≡ 99
+  pub each : (i : ℕ) → i < n → SoughtAmong b from (getD numbers i 0) (getD spots i 0) (drop j (take count noted))

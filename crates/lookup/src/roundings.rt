@@ -1,4 +1,5 @@
-// The roundings of up to 99 numbers, found by one walk over the records: of each number the first record's spot, then the rounding there.
+// The roundings of up to 99 numbers, found by one walk over the records, or among spots that were noted before: of each number the first record's
+// spot, then the rounding there.
 use book::record_stop;
 use records::rounding_number;
 use records::rounding_of;
@@ -10,7 +11,7 @@ ghost use mathlib.Core.Path.{_≡_};
 ghost use Rattle.rules.specs.Book.{plain};
 ghost use lib.ListN.{length};
 ghost use Rattle.layout.specs.Records.{Between, StopIs};
-ghost use Rattle.lookup.specs.Roundings.{SpotAfter, SpotsAfter, OpenAre, Room, Noted, NextOpen, SpotsFound, RoundingHere, SpotHeld, RoundingAt};
+ghost use Rattle.lookup.specs.Roundings.{SpotAfter, SpotsAfter, OpenAre, Room, Noted, NextOpen, SpotsFound, RoundingHere, SpotHeld, RoundingAt, SpotsNoted};
 
 // Sets the flags of the low bytes of those of the first n numbers that have no spot, and tells whether there are any. No record has number 0,
 // so that it is not looked for.
@@ -145,4 +146,28 @@ pub fn rounding_at(b: &[u8], spot: usize) -> Rounding
     let end = record_stop(b, spot);
     let body = spot + 2;
     rounding_of(&b[body..end])
+}
+
+// The same where the spots of all roundings of the book were noted: `count` of them. No other record is looked at.
+pub fn spots_among(
+    b: &[u8],
+    noted: &[usize; 16],
+    count: usize,
+    numbers: [u16; 99],
+    n: usize,
+) -> [usize; 99]
+    requires { ⌜ SpotsNoted (now b) 5 (now noted) count ⌝ }
+    requires { ⌜ count ≤ 16 ⌝ }
+    requires { ⌜ n ≤ 99 ⌝ }
+    ensures { λ r. ⌜ SpotsFound (now (b .entry)) 5 numbers n r ⌝ }
+{
+    let mut spots = [0; 99];
+    let mut j = 0;
+    while j < count {
+        let at = noted[j];
+        let rounding = rounding_at(b, at);
+        put_spots(&mut spots, &numbers, n, rounding.number, at);
+        j += 1;
+    }
+    spots
 }

@@ -15,7 +15,7 @@ use Rattle.rules.specs.declared.Rounding.{Rounding}
 use Rattle.layout.specs.Records.{recordsLeft, Between, RecordHere, StopIs}
 use Rattle.records.specs.Asks.{OfKind}
 use Rattle.records.specs.Ensures.{RowIs, rowIn}
-use Rattle.lookup.specs.Roundings.{RoundingUsed, SpotHeld, RoundingAt, Found, SpotsFound}
+use Rattle.lookup.specs.Roundings.{SpotHeld, RoundingAt, Found, SpotsFound, SpotsNoted}
 use Rattle.lookup.proofs.LookupLaws.{found-used}
 use Rattle.grants.specs.Table.{GrantsAre}
 use Rattle.grants.specs.declared.terms.Terms.{Terms}
@@ -34,7 +34,7 @@ use Rattle.lines.proofs.ChosenLaws.{chosen-base-first}
 use Rattle.picks.specs.declared.Picks.{Picks}
 use Rattle.picks.specs.Held.{Stands, HeldAre, HeldIn}
 use Rattle.picks.specs.Picks.{RoundingsIn, Held, RowAt, RowFound, RowPicked, PicksSoFar, Filled, PickedAre, PicksFrom, PickedFor}
-use Rattle.picks.proofs.WithinLaws.{walk-within}
+use Rattle.picks.proofs.WithinLaws.{walk-within, spots-within}
 
 -- ---- a row
 
@@ -49,19 +49,26 @@ module _ {b : List ℕ} {at : ℕ} (held : Held b at) where
     pub row-read : {row : PriceRow} → RowIs (take (end - (at + 2)) (drop (at + 2) b)) row → RowAt b at row
     row-read is = record { end = end; stop = stop; is = is }
 
+-- ---- the spots of the roundings
+
 module _ {b : List ℕ} {w : Window} (told : RoundingsIn b w) where
   pub window-long : length (take (w .to) b) ≡ w .to
   window-long = length-take-le (w .to) b (told .window .rounding-fits)
 
-  -- a lookup may keep to the window
-  rounding-used : {number : ℕ} {r : Rounding} → RoundingUsed (take (w .to) b) (w .from) number r → r ≡ roundingFor number (roundings (recordsLeft b 5))
-  rounding-used {number} u = u .is ∙ ap (roundingFor number) (told .window .rounding-same)
+  pub roundings-between : Between (take (w .to) b) (w .from)
+  roundings-between = told .window .rounding-between
 
-module _ {b : List ℕ} {w : Window} {at found : ℕ} (held : Held b at) (row-found : RowFound b w at found) where
-  pub found-held : SpotHeld (take (w .to) b) found
+  pub few-noted : w .noted .count < 17 → SpotsNoted b 5 (w .noted .spots) (w .noted .count)
+  few-noted h = told .window .noted .are (omega arith)
+
+  pub many-walked : {numbers : List ℕ} {n : ℕ} {spots : List ℕ} → SpotsFound (take (w .to) b) (w .from) numbers n spots → SpotsFound b 5 numbers n spots
+  many-walked = spots-within (told .window)
+
+module _ {b : List ℕ} {at found : ℕ} (held : Held b at) (row-found : RowFound b at found) where
+  pub found-held : SpotHeld b found
   found-held = row-found .is (held .row) (held .there) .held
 
-  pub row-picked : RoundingsIn b w → {row : PriceRow} → RowAt b at row → {rounding : Rounding} → RoundingAt (take (w .to) b) found rounding
+  pub row-picked : {row : PriceRow} → RowAt b at row → {rounding : Rounding} → RoundingAt b found rounding
       → (place : ℕ) → RowPicked b at place (record {
         rounding = rounding;
         value = row .value;
@@ -72,13 +79,13 @@ module _ {b : List ℕ} {w : Window} {at found : ℕ} (held : Held b at) (row-fo
         currency = row .currency;
       })
   unfolding rowIn
-  row-picked told {row} read {rounding} stands place =
+  row-picked {row} read {rounding} stands place =
       let body : List ℕ = take (read .end - (at + 2)) (drop (at + 2) b) in
       record {
         is = λ r there.
             let e : rowIn body row ≡ r = there-row there (read .stop) row (read .is) in
             let used : rounding ≡ roundingFor (row .rounding) (roundings (recordsLeft b 5)) =
-            rounding-used told (found-used (row-found .is r there) stands) ∙ ap (λ (x : Row). roundingFor (x .rounding) (roundings (recordsLeft b 5))) (sym e) in
+            found-used (row-found .is r there) stands .is ∙ ap (λ (x : Row). roundingFor (x .rounding) (roundings (recordsLeft b 5))) (sym e) in
             subst (λ (x : Row). _≡_ {A = View} (record {
               place = place;
               level = letterOf (row .level);
@@ -178,12 +185,6 @@ module _ {b : List ℕ} {slots : List Seen} {names : ℕ} {w : Window} (filled :
   pub filled-roundings : RoundingsIn b w
   filled-roundings = record { article = filled .asked .article; sort = filled .asked .sort; window = filled .window }
 
-  pub filled-between : Between (take (w .to) b) (w .from)
-  filled-between = filled .window .rounding-between
-
-  pub filled-long : length (take (w .to) b) ≡ w .to
-  filled-long = window-long filled-roundings
-
   pub filled-few : names ≤ 32
   filled-few = filled .few
 
@@ -195,10 +196,10 @@ module _ {b : List ℕ} {slots : List Seen} {names : ℕ} {w : Window} (filled :
     held-at = record { row = stands .one .row; there = stands .there }
 
     -- the spot that was found for the number that a row names
-    pub found-at : {spots : List ℕ} → SpotsFound (take (w .to) b) (w .from) numbers n spots → RowFound b w (getD ats i 0) (getD spots i 0)
+    pub found-at : {spots : List ℕ} → SpotsFound b 5 numbers n spots → RowFound b (getD ats i 0) (getD spots i 0)
     found-at {spots} f = record {
       is = λ r there.
-          subst (λ (j : ℕ). Found (take (w .to) b) (w .from) j (getD spots i 0))
+          subst (λ (j : ℕ). Found b 5 j (getD spots i 0))
           (stands .number-is ∙ ap (λ (x : Row). x .rounding) (there-same (stands .there) there)) (f .each i l);
     }
 

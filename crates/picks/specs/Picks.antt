@@ -2,7 +2,7 @@
 use Prim.Native.Nat.{ℕ, _+_, _≤_, _<_}
 use mathlib.Core.Path.{_≡_}
 use mathlib.Core.List.{List, map}
-use lib.ListN.{length, take, getD}
+use lib.ListN.{length, getD}
 use Rattle.rules.specs.Book.{Row, rows, roundings}
 use Rattle.rules.specs.Question.{Question}
 use Rattle.rules.specs.Lines.{chosen}
@@ -44,9 +44,9 @@ pub record RowAt (b : List ℕ) (at : ℕ) (r : PriceRow) : Type 0 where
 
 -- ---- roundings
 
--- at `found` stands the rounding of the row at `at`, in the window of the roundings
-pub record RowFound (b : List ℕ) (w : Window) (at found : ℕ) : Type 0 where
-  pub is : (r : Row) → RowThere b at r → Found (take (w .to) b) (w .from) (r .rounding) found
+-- at `found` stands the rounding of the row at `at`
+pub record RowFound (b : List ℕ) (at found : ℕ) : Type 0 where
+  pub is : (r : Row) → RowThere b at r → Found b 5 (r .rounding) found
 
 -- ---- picks
 

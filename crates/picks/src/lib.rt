@@ -1,4 +1,4 @@
-// The chosen rows of a price by value, slot after slot, with their roundings, which one walk has found.
+// The chosen rows of a price by value, slot after slot, with their roundings: these stand at noted spots, or one walk has found them.
 mod held;
 
 use crate::held::held_in;
@@ -9,6 +9,7 @@ use grants::terms::Terms;
 use lines::Pick;
 use lookup::roundings::rounding_at;
 use lookup::roundings::rounding_spots;
+use lookup::roundings::spots_among;
 use rules::Cents;
 use rules::Currency;
 use rules::Level;
@@ -17,8 +18,10 @@ use rules::Rounding;
 use rules::Rule;
 use rules::Value;
 use rules::Way;
+use survey::window::MANY;
 use survey::window::Window;
 ghost use Prim.Native.Nat.{_≤_};
+ghost use Rattle.lookup.specs.Roundings.{SpotsFound};
 ghost use Rattle.grants.specs.Asks.{Asked};
 ghost use Rattle.survey.specs.Window.{Windows};
 ghost use Rattle.picks.specs.Picks.{RoundingsIn, Held, RowAt, RowFound, RowPicked, Filled, PicksFrom, PickedFor};
@@ -56,15 +59,13 @@ fn row_at(b: &[u8], at: usize) -> PriceRow
 }
 
 // The row that stands at `at`, with the rounding that was found at `found`.
-fn row_pick(b: &[u8], window: Window, at: usize, place: u8, found: usize) -> Pick
-    requires { ⌜ RoundingsIn (now b) window ⌝ }
+fn row_pick(b: &[u8], at: usize, place: u8, found: usize) -> Pick
     requires { ⌜ Held (now b) at ⌝ }
-    requires { ⌜ RowFound (now b) window at found ⌝ }
+    requires { ⌜ RowFound (now b) at found ⌝ }
     ensures { λ r. ⌜ RowPicked (now (b .entry)) at place r ⌝ }
 {
     let row = row_at(b, at);
-    let to = window.to;
-    let rounding = rounding_at(&b[..to], found);
+    let rounding = rounding_at(b, found);
     let level = row.level;
     let rule = row.rule;
     let value = row.value;
@@ -80,6 +81,21 @@ fn row_pick(b: &[u8], window: Window, at: usize, place: u8, found: usize) -> Pic
     }
 }
 
+// Where the roundings of the first n numbers stand: few were noted while the book was accepted, many are walked for.
+fn spots_of(b: &[u8], window: Window, numbers: [u16; 99], n: usize) -> [usize; 99]
+    requires { ⌜ RoundingsIn (now b) window ⌝ }
+    requires { ⌜ n ≤ 99 ⌝ }
+    ensures { λ r. ⌜ SpotsFound (now (b .entry)) 5 numbers n r ⌝ }
+{
+    let noted = window.noted;
+    if noted.count < MANY {
+        let spots = noted.spots;
+        return spots_among(b, &spots, noted.count, numbers, n);
+    }
+    let to = window.to;
+    rounding_spots(&b[..to], window.from, numbers, n)
+}
+
 // The rows that the filled slots hold, one after the other. With so many granted names.
 fn picks_from(b: &[u8], slots: [Seen; 100], window: Window, names: usize) -> Picks
     requires { ⌜ Filled (now b) slots names window ⌝ }
@@ -89,12 +105,11 @@ fn picks_from(b: &[u8], slots: [Seen; 100], window: Window, names: usize) -> Pic
     let mut places = [0; 99];
     let mut numbers = [0; 99];
     let n = held_in(slots, names, &mut ats, &mut places, &mut numbers);
-    let to = window.to;
-    let spots = rounding_spots(&b[..to], window.from, numbers, n);
+    let spots = spots_of(b, window, numbers, n);
     let mut rows = [NONE; 99];
     let mut i = 0;
     while i < n {
-        rows[i] = row_pick(b, window, ats[i], places[i], spots[i]);
+        rows[i] = row_pick(b, ats[i], places[i], spots[i]);
         i += 1;
     }
     Picks { rows, n }

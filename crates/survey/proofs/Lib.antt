@@ -1,4 +1,5 @@
 pub mod WindowLaws
+pub mod SpotLaws
 pub mod SurveyLaws
 pub mod EntranceLaws
 pub mod OwnLaws

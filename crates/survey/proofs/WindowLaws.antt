@@ -21,8 +21,10 @@ use Rattle.book.specs.Ensures.{RecordEnd}
 use Rattle.book.proofs.BookLaws.{inFront, record-good, from-end, from-record}
 use Rattle.records.specs.Tests.{isRow, isRounding}
 use Rattle.survey.specs.declared.window.Span.{Span}
+use Rattle.survey.specs.declared.window.Noted.{Noted}
+use Rattle.survey.specs.declared.window.Spans.{Spans}
 use Rattle.survey.specs.declared.window.Window.{Window}
-use Rattle.survey.specs.Window.{spanAfter, SpanAfter, rowSpan, roundingSpan, WindowAfter, Windows}
+use Rattle.survey.specs.Window.{spanAfter, SpanAfter, rowSpan, roundingSpan, SpansAfter, NotedIn, Windows}
 
 -- ---- what the function computes
 
@@ -136,7 +138,7 @@ pub record Spanning {A : Type 0} (f : List Record → List A) (w : List ℕ) (fr
   pub rest : f inside ++ f (recordsLeft w at) ≡ f (recordsLeft w from)
 
 -- and when none is left: the records in the span have all that counts
-pub record Spans {A : Type 0} (f : List Record → List A) (w : List ℕ) (from : ℕ) (s : Span) : Type 0 where
+pub record Spanned {A : Type 0} (f : List Record → List A) (w : List ℕ) (from : ℕ) (s : Span) : Type 0 where
   pub fits : s .last ≤ length w
   pub between : Between (take (s .last) w) (s .first)
   pub same : f (recordsLeft (take (s .last) w) (s .first)) ≡ f (recordsLeft w from)
@@ -221,7 +223,7 @@ module _ {A : Type 0} {f : List Record → List A} (g : Gathers f) {w : List ℕ
         go none e = absurd (false≢true (sym (ap isSome e) ∙ stop .ok))
         go (some r) e = turned r e (step ∙ ap (λ o. consSome o (recordsLeft w end)) e) counts (λ c. out c r e)
 
-  pub span-end : {s : Span} {at : ℕ} → Spanning f w from s at → at ≤ length w → recordsLeft w at ≡ [] → Spans f w from s
+  pub span-end : {s : Span} {at : ℕ} → Spanning f w from s at → at ≤ length w → recordsLeft w at ≡ [] → Spanned f w from s
   span-end {s} {at} inv h e =
       let fits : s .last ≤ length w = omega (arith, run-le (inv .gap)) in
       record {
@@ -236,19 +238,21 @@ module _ {A : Type 0} {f : List Record → List A} (g : Gathers f) {w : List ℕ
 
 -- ---- the window
 
-pub window-noted : {w : Window} {own rounding : Bool} {at end : ℕ} {a b : Span} → SpanAfter (rowSpan w) own at end a → SpanAfter (roundingSpan w) rounding at end b
-    → WindowAfter w own rounding at end (record { first = a .first; last = a .last; from = b .first; to = b .last })
-window-noted a b = record { rows = a; roundings = b }
+pub spans-noted : {s : Spans} {own rounding : Bool} {at end : ℕ} {a b : Span} → SpanAfter (rowSpan s) own at end a → SpanAfter (roundingSpan s) rounding at end b
+    → SpansAfter s own rounding at end (record { first = a .first; last = a .last; from = b .first; to = b .last })
+spans-noted a b = record { rows = a; roundings = b }
 
-pub windows : {b : List ℕ} {start : ℕ} {article : List ℕ} {sort : ℕ} {w : Window}
-    → Spans (rowsOf article sort) b start (rowSpan w) → Spans roundings b start (roundingSpan w) → Windows b start article sort w
-windows a b = record {
+pub windows : {b : List ℕ} {start : ℕ} {article : List ℕ} {sort : ℕ} {rs ss : Span} {k : Noted}
+    → Spanned (rowsOf article sort) b start rs → Spanned roundings b start ss → NotedIn b start k
+    → Windows b start article sort (record { first = rs .first; last = rs .last; from = ss .first; to = ss .last; noted = k })
+windows a b k = record {
   fits = a .fits;
   between = a .between;
   same = a .same;
   rounding-fits = b .fits;
   rounding-between = b .between;
   rounding-same = b .same;
+  noted = k;
 }
 
 -- a window is that of an article and a sort by whatever name

@@ -4,23 +4,40 @@ use mathlib.Core.Path.{_≡_}
 use mathlib.Core.Bool.{true, false, _||_}
 use mathlib.Core.List.{List}
 use mathlib.Core.Option.{Option}
+use lib.ListN.{replicate}
 use Rattle.rules.specs.Lists.{isSome}
 use Rattle.rules.specs.Book.{Record, articleOf}
 use Rattle.rules.specs.BookLayout.{records}
 use Rattle.layout.specs.Records.{recordsLeft}
 use Rattle.records.specs.Tests as Tests
 use Rattle.survey.specs.declared.Found.{Found}
+use Rattle.survey.specs.declared.Sighted.{Sighted}
 use Rattle.survey.specs.declared.Surveyed.{Surveyed}
-use Rattle.survey.specs.Window.{WindowAfter, Windows}
+use Rattle.survey.specs.declared.window.Noted.{Noted}
+use Rattle.survey.specs.Window.{SpansAfter, Windows}
 
--- nothing found: the window is still empty, behind a header
+-- nothing seen: the spans are still empty, behind a header
+abbrev pub unseen : Sighted
+unseen = record { article = false; spans = record { first = 5; last = 5; from = 5; to = 5 } }
+
+-- what was found, by what was kept of the article and what was noted of the roundings
+abbrev pub foundIn : Sighted → Noted → Found
+foundIn s k = record {
+  article = s .article;
+  window = record { first = s .spans .first; last = s .spans .last; from = s .spans .from; to = s .spans .to; noted = k };
+}
+
+pub record FoundOf (s : Sighted) (k : Noted) (r : Found) : Type 0 where
+  pub is : r ≡ foundIn s k
+
+-- nothing found, and no rounding noted
 abbrev pub nothing : Found
-nothing = record { article = false; window = record { first = 5; last = 5; from = 5; to = 5 } }
+nothing = foundIn unseen (record { count = 0; spots = replicate 16 0 })
 
--- `r` is what was found once the record o, which stands from `at` to `end`, has gone by too
-pub record FoundAfter (f : Found) (article : List ℕ) (sort : ℕ) (o : Option Record) (at end : ℕ) (r : Found) : Type 0 where
-  pub there : r .article ≡ (f .article || Tests.articleOf article o)
-  pub window : WindowAfter (f .window) (Tests.isRow article sort o) (Tests.isRounding o) at end (r .window)
+-- `r` is what is kept once the record o, which stands from `at` to `end`, has gone by too
+pub record SightedAfter (s : Sighted) (article : List ℕ) (sort : ℕ) (o : Option Record) (at end : ℕ) (r : Sighted) : Type 0 where
+  pub there : r .article ≡ (s .article || Tests.articleOf article o)
+  pub spans : SpansAfter (s .spans) (Tests.isRow article sort o) (Tests.isRounding o) at end (r .spans)
 
 -- of the book b: whether it has the article, and the window of the article and sort
 pub record FoundIs (b article : List ℕ) (sort : ℕ) (r : Found) : Type 0 where

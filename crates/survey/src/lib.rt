@@ -6,8 +6,11 @@ pub mod window;
 
 use crate::own::ending_of;
 use crate::own::is_own;
+use crate::window::Noted;
+use crate::window::Spans;
 use crate::window::Window;
-use crate::window::window_after;
+use crate::window::note_spot;
+use crate::window::spans_after;
 use book::record_end;
 use book::record_stop;
 use layout::heads::book_head_ok;
@@ -20,7 +23,26 @@ ghost use Rattle.rules.specs.Layout.{whole};
 ghost use Rattle.rules.specs.BookLayout.{kinded, records};
 ghost use Rattle.records.specs.Asks.{Accepted};
 ghost use Rattle.survey.specs.Own.{EndingIs};
-ghost use Rattle.survey.specs.Survey.{FoundAfter, FoundIs, PassIs, SurveyIs};
+ghost use Rattle.survey.specs.Survey.{SightedAfter, FoundOf, FoundIs, PassIs, SurveyIs};
+
+// What a pass keeps of an article in every turn: whether its record has gone by, and the spans of its rows of the sort and of the roundings.
+pub struct Sighted {
+    pub article: bool,
+    pub spans: Spans,
+}
+
+impl Sighted {
+    // The spans are behind the header, and still empty.
+    pub const NOTHING: Sighted = Sighted {
+        article: false,
+        spans: Spans {
+            first: 5,
+            last: 5,
+            from: 5,
+            to: 5,
+        },
+    };
+}
 
 // Whether the article has a record, and where its rows of the sort and the roundings stand.
 pub struct Found {
@@ -37,8 +59,30 @@ impl Found {
             last: 5,
             from: 5,
             to: 5,
+            noted: Noted {
+                count: 0,
+                spots: [0; 16],
+            },
         },
     };
+}
+
+// What was found, by what was kept of the article and what was noted of the roundings.
+pub fn found_of(sighted: Sighted, noted: Noted) -> Found
+    ensures { λ r. ⌜ FoundOf sighted noted r ⌝ }
+{
+    let spans = sighted.spans;
+    let window = Window {
+        first: spans.first,
+        last: spans.last,
+        from: spans.from,
+        to: spans.to,
+        noted,
+    };
+    Found {
+        article: sighted.article,
+        window,
+    }
 }
 
 // Whether it is a book, and what is found in one.
@@ -52,39 +96,39 @@ const NO_BOOK: Surveyed = Surveyed {
     found: Found::NOTHING,
 };
 
-// What is found once the record t, which stands from `at` to `end`, has gone by too. Each kind is looked at for one thing alone.
-fn noted(
-    found: Found,
+// What is kept once the record t, which stands from `at` to `end`, has gone by too. Each kind is looked at for one thing alone.
+fn sighted_after(
+    seen: Sighted,
     t: &[u8],
     at: usize,
     end: usize,
     article: &[u8],
     ending: usize,
     sort: u8,
-) -> Found
+) -> Sighted
     requires { ⌜ Accepted (now t) ⌝ }
     requires { ⌜ EndingIs (now article) ending ⌝ }
-    ensures { λ r. ⌜ FoundAfter found (now (article .entry)) sort (whole kinded (now (t .entry))) at end r ⌝ }
+    ensures { λ r. ⌜ SightedAfter seen (now (article .entry)) sort (whole kinded (now (t .entry))) at end r ⌝ }
 {
     if t[0] == 2 {
         let own = is_own(t, article, ending, sort);
-        let window = window_after(found.window, own, false, at, end);
-        return Found {
-            article: found.article,
-            window,
+        let spans = spans_after(seen.spans, own, false, at, end);
+        return Sighted {
+            article: seen.article,
+            spans,
         };
     }
     if is_rounding(t) {
-        let window = window_after(found.window, false, true, at, end);
-        return Found {
-            article: found.article,
-            window,
+        let spans = spans_after(seen.spans, false, true, at, end);
+        return Sighted {
+            article: seen.article,
+            spans,
         };
     }
-    let window = found.window;
-    Found {
-        article: found.article | is_article(t, article),
-        window,
+    let spans = seen.spans;
+    Sighted {
+        article: seen.article | is_article(t, article),
+        spans,
     }
 }
 
@@ -94,37 +138,48 @@ pub fn find(b: &[u8], article: &[u8], sort: u8) -> Found
     ensures { λ r. ⌜ FoundIs (now (b .entry)) (now (article .entry)) sort r ⌝ }
 {
     let ending = ending_of(article);
-    let mut found = Found::NOTHING;
+    let mut seen = Sighted::NOTHING;
+    let mut spots = [0; 16];
+    let mut count = 0;
     let mut at = 5;
     while at < b.len() {
         let end = record_stop(b, at);
         let start = at + 2;
-        found = noted(found, &b[start..end], at, end, article, ending, sort);
+        let t = &b[start..end];
+        seen = sighted_after(seen, t, at, end, article, ending, sort);
+        count = note_spot(&mut spots, count, t, at);
         at = end;
     }
-    found
+    found_of(seen, Noted { count, spots })
 }
 
 // Each record is tested and looked at once. What was found counts only if all are records. Beside bytes that are no book stands what was
-// found so far: were nothing to stand there, each turn of the loop would make that anew for the case that its record is bad.
+// found so far: were nothing to stand there, each turn of the loop would make that anew for the case that its record is bad. The spots of roundings
+// stand beside what is kept from turn to turn, and only a rounding touches them: with them in it, each turn would copy them all.
 fn pass(b: &[u8], article: &[u8], sort: u8) -> Surveyed
     ensures { λ r. ⌜ PassIs (now (b .entry)) (now (article .entry)) sort r ⌝ }
 {
-    let mut found = Found::NOTHING;
+    let mut seen = Sighted::NOTHING;
+    let mut spots = [0; 16];
+    let mut count = 0;
     if !book_head_ok(b) {
-        return Surveyed { ok: false, found };
+        return NO_BOOK;
     }
     let ending = ending_of(article);
     let mut at = 5;
     while at < b.len() {
         let end = record_end(b, at);
         if end < 1 {
+            let found = found_of(seen, Noted { count, spots });
             return Surveyed { ok: false, found };
         }
         let start = at + 2;
-        found = noted(found, &b[start..end], at, end, article, ending, sort);
+        let t = &b[start..end];
+        seen = sighted_after(seen, t, at, end, article, ending, sort);
+        count = note_spot(&mut spots, count, t, at);
         at = end;
     }
+    let found = found_of(seen, Noted { count, spots });
     Surveyed { ok: true, found }
 }
 

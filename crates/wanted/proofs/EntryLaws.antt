@@ -22,7 +22,7 @@ use Rattle.survey.specs.declared.window.Span.{Span}
 use Rattle.survey.specs.Window.{SpanAfter}
 use Rattle.survey.proofs.WindowLaws.{span-kept}
 use Rattle.wanted.specs.declared.entries.Entry.{Entry}
-use Rattle.wanted.specs.Entries.{isArticle, isRow, SeenIs, windowIn, ToldIs}
+use Rattle.wanted.specs.Entries.{isArticle, isRow, SeenIs, spansIn, ToldIs}
 
 -- ---- what is kept of it
 
@@ -80,8 +80,8 @@ rounded-is s o {at = at} {end} {next} kind after = subst (λ (x : Bool). SpanAft
 -- ---- what is told of it
 
 module _ (e : Entry) (sort : ℕ) (roundings : Span) where
-  pub told-sale : sort ≡ 83 → ToldIs e sort roundings (record { article = e .found; window = windowIn (e .sale) roundings })
+  pub told-sale : sort ≡ 83 → ToldIs e sort roundings (record { article = e .found; spans = spansIn (e .sale) roundings })
   told-sale s = record { is = rw (eq-eqb sort 83 s) }
 
-  pub told-purchase : (sort ≡ 83 → ⊥) → ToldIs e sort roundings (record { article = e .found; window = windowIn (e .purchase) roundings })
+  pub told-purchase : (sort ≡ 83 → ⊥) → ToldIs e sort roundings (record { article = e .found; spans = spansIn (e .purchase) roundings })
   told-purchase s = record { is = rw (ne-eqb sort 83 s) }

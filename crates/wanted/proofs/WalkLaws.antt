@@ -26,14 +26,17 @@ use Rattle.book.proofs.WalkLaws.{pass-start, pass-here, pass-less, pass-next, p
 use Rattle.records.specs.Asks.{Accepted}
 use Rattle.records.specs.Tests as Tests
 use Rattle.records.proofs.TestLaws.{article-turn}
-use Rattle.survey.specs.declared.Found.{Found}
+use Rattle.survey.specs.declared.Sighted.{Sighted}
+use Rattle.survey.specs.declared.window.Noted.{Noted}
 use Rattle.survey.specs.declared.window.Span.{Span}
-use Rattle.survey.specs.Window.{SpanAfter}
-use Rattle.survey.specs.Survey.{FoundIs, nothing}
+use Rattle.survey.specs.Window.{SpanAfter, SpotNoted}
+use Rattle.survey.specs.Survey.{foundIn, FoundIs}
+use Rattle.survey.specs.Survey as Survey
 use Rattle.survey.proofs.WindowLaws.{Spanning, span-kept, rows-gather, roundings-gather, roundings-outside, span-start, span-turn, span-end, windows}
+use Rattle.survey.proofs.SpotLaws.{Noting, noting-start, noting-turn, noting-end}
 use Rattle.wanted.specs.declared.entries.Entry.{Entry}
 use Rattle.wanted.specs.Table.{FoundAt, RanksFound}
-use Rattle.wanted.specs.Entries.{ofArticle, isArticle, isRow, EntryAfter, SeenIs, rowsFor, foundIn, ToldIs, noEntry, noFound}
+use Rattle.wanted.specs.Entries.{ofArticle, isArticle, isRow, EntryAfter, SeenIs, rowsFor, sightIn, ToldIs, noEntry, noSight}
 use Rattle.wanted.specs.Entries.{SeenAll, RanksIn, ToldAll, FoundAll}
 use Rattle.wanted.specs.declared.last.Last.{Last}
 use Rattle.wanted.specs.Last.{RecordAt, LastIs, LastAfter}
@@ -175,28 +178,31 @@ one-rank {i = i} {r} f g h =
     let l : i < _ = f .some r h a in
     omega (arith, f .last r h a, g .last i l (f .alike l))
 
-pub record Walking (b names starts ends : List ℕ) (n : ℕ) (entries : List Entry) (rounded : Span) (last : Last) (at : ℕ) : Type 0 where
+pub record Walking (b names starts ends : List ℕ) (n : ℕ) (entries : List Entry) (rounded : Span) (spots : List ℕ) (count : ℕ) (last : Last) (at : ℕ) : Type 0 where
   pub few : n ≤ 500
   pub between : Between b at
   pub long : length entries ≡ 501
   pub rounding : Spanning roundings b 5 rounded at
+  pub noting : Noting b 5 spots count at
   pub name : LastIs b names starts ends n last
   pub each : (article : List ℕ) (sort : ℕ) (r : ℕ) → FoundAt names starts ends n article r → r < n → Kept b article sort (getD entries r noEntry) at
 
 module _ (b names starts ends : List ℕ) (n : ℕ) where
   pub walking-start : isSome (records b) ≡ true → Listed names starts ends n → {last : Last} → LastIs b names starts ends n last
-      → Walking b names starts ends n (replicate 501 unseen) start last 5
+      → Walking b names starts ends n (replicate 501 unseen) start (replicate 16 0) 0 last 5
   walking-start ok list name = record {
     name = name;
     few = list .few;
     between = pass-start b ok;
     long = length-replicate 501 unseen;
     rounding = span-start roundings-gather (omega arith);
+    noting = noting-start;
     each = λ article sort r f h. rw (getD-replicate 501 r unseen noEntry (omega (arith, list .few))) (kept-start article sort);
   }
 
-  module _ {entries : List Entry} {rounded : Span} {last : Last} {at : ℕ} (inv : Walking b names starts ends n entries rounded last at) where
-    pub walking-end : length b ≤ at → SeenAll b names starts ends n entries rounded
+  module _ {entries : List Entry} {rounded : Span} {spots : List ℕ} {count : ℕ} {last : Last} {at : ℕ}
+      (inv : Walking b names starts ends n entries rounded spots count last at) where
+    pub walking-end : length b ≤ at → SeenAll b names starts ends n entries rounded (record { count = count; spots = spots })
     unfolding articleOf
     walking-end h =
         let none-left = pass-end (inv .between) h in
@@ -208,9 +214,12 @@ module _ (b names starts ends : List ℕ) (n : ℕ) where
                 there = sym (or-false found) ∙ ap (λ (rs : List Record). found || isSome (articleOf rs article)) (sym none-left) ∙ k .there;
                 window =
                     windows (span-end (rows-gather article sort) (k .rows) (inv .between .fits) none-left)
-                    (span-end roundings-gather (inv .rounding) (inv .between .fits) none-left);
+                    (span-end roundings-gather (inv .rounding) (inv .between .fits) none-left) (noting-end (inv .noting) none-left);
               };
         }
+
+    pub walking-long : length spots ≡ 16
+    walking-long = inv .noting .long
 
     module _ (h : at < length b) where
       pub walking-here : RecordHere b at
@@ -233,8 +242,9 @@ module _ (b names starts ends : List ℕ) (n : ℕ) where
             → LastAfter b names starts ends n (whole kinded (part b (at + 2) end)) next
             → SeenIs (ltb (next .rank) n) (getD entries (next .rank) noEntry) (whole kinded (take (end - (at + 2)) (drop (at + 2) b))) at end new
             → SpanAfter rounded (Tests.isRounding (whole kinded (take (end - (at + 2)) (drop (at + 2) b)))) at end span
-            → Walking b names starts ends n (set entries (next .rank) new) span next end
-        walking-turn {next} {new} name after noted = record {
+            → {marks : List ℕ} {more : ℕ} → SpotNoted spots count (Tests.isRounding (whole kinded (take (end - (at + 2)) (drop (at + 2) b)))) at marks more
+            → Walking b names starts ends n (set entries (next .rank) new) span marks more next end
+        walking-turn {next} {new} name after noted spot = record {
           name = name .is;
           few = inv .few;
           between = pass-next (inv .between) h stop;
@@ -242,6 +252,7 @@ module _ (b names starts ends : List ℕ) (n : ℕ) where
           rounding =
               span-turn roundings-gather (inv .rounding) (inv .between) stop (pass-record (inv .between) h stop)
               (roundings-outside (whole kinded (part b (at + 2) end))) noted;
+          noting = noting-turn (inv .between) stop (pass-record (inv .between) h stop) (inv .noting) spot;
           each = λ article sort r f l. go article sort r f l (ℕ-discrete r (next .rank));
         }
           where
@@ -280,10 +291,10 @@ pub ranks-in : {names starts ends : List ℕ} {n : ℕ} {ranks : List ℕ} → L
 ranks-in list found = record { few = list .few; each = λ j h. found .each j h .fits }
 
 -- of those before j
-pub record Telling (ranks sorts : List ℕ) (n : ℕ) (entries : List Entry) (rounded : Span) (all : List Found) (j : ℕ) : Type 0 where
+pub record Telling (ranks sorts : List ℕ) (n : ℕ) (entries : List Entry) (rounded : Span) (all : List Sighted) (j : ℕ) : Type 0 where
   pub few : n ≤ 500
   pub long : length all ≡ 500
-  pub done : (i : ℕ) → i < j → getD all i noFound ≡ foundIn (getD entries (getD ranks i 0) noEntry) (getD sorts i 0) rounded
+  pub done : (i : ℕ) → i < j → getD all i noSight ≡ sightIn (getD entries (getD ranks i 0) noEntry) (getD sorts i 0) rounded
 
 module _ (ranks sorts : List ℕ) (n : ℕ) (entries : List Entry) (rounded : Span) where
   pub telling-rank : {j : ℕ} → RanksIn n ranks → j < n → getD ranks j 0 < 501
@@ -293,34 +304,34 @@ module _ (ranks sorts : List ℕ) (n : ℕ) (entries : List Entry) (rounded : Sp
   pub telling-fits : {j : ℕ} → RanksIn n ranks → j < n → (k : ℕ) → 501 * k < 2 ^ 63 → Fits w64 (getD ranks j 0 * k)
   telling-fits {j} p h k l = scaled-fits (getD ranks j 0) 501 k (telling-rank p h) l
 
-  pub telling-start : RanksIn n ranks → Telling ranks sorts n entries rounded (replicate 500 nothing) 0
-  telling-start p = record { few = p .few; long = length-replicate 500 nothing; done = λ i l. absurd (omega arith) }
+  pub telling-start : RanksIn n ranks → Telling ranks sorts n entries rounded (replicate 500 Survey.unseen) 0
+  telling-start p = record { few = p .few; long = length-replicate 500 Survey.unseen; done = λ i l. absurd (omega arith) }
 
-  module _ {all : List Found} {j : ℕ} (inv : Telling ranks sorts n entries rounded all j) where
+  module _ {all : List Sighted} {j : ℕ} (inv : Telling ranks sorts n entries rounded all j) where
     pub telling-end : n ≤ j → ToldAll ranks sorts n entries rounded all
     telling-end h = record { each = λ i l. inv .done i (omega arith) }
 
-    pub telling-again : j < n → {l : Found} → ToldIs (getD entries (getD ranks j 0) noEntry) (getD sorts j 0) rounded l
+    pub telling-again : j < n → {l : Sighted} → ToldIs (getD entries (getD ranks j 0) noEntry) (getD sorts j 0) rounded l
         → Telling ranks sorts n entries rounded (set all j l) (j + 1)
     telling-again h {l} told = record { few = inv .few; long = length-set all j l ∙ inv .long; done = λ i k. go i (decLt i j) k }
       where
         go : (i : ℕ) → Dec (i < j) → i < j + 1
-            → getD (set all j l) i noFound ≡ foundIn (getD entries (getD ranks i 0) noEntry) (getD sorts i 0) rounded
-        go i (yes k) m = getD-set-other all j i l noFound (λ e. omega arith) ∙ inv .done i k
+            → getD (set all j l) i noSight ≡ sightIn (getD entries (getD ranks i 0) noEntry) (getD sorts i 0) rounded
+        go i (yes k) m = getD-set-other all j i l noSight (λ e. omega arith) ∙ inv .done i k
         go i (no k) m =
             let e : j ≡ i = omega arith in
             let g : j < length all = omega (arith, inv .long, inv .few) in
-            subst (λ (x : ℕ). getD (set all j l) x noFound ≡ foundIn (getD entries (getD ranks x 0) noEntry) (getD sorts x 0) rounded) e
-            (getD-set-same all j l noFound g ∙ told .is)
+            subst (λ (x : ℕ). getD (set all j l) x noSight ≡ sightIn (getD entries (getD ranks x 0) noEntry) (getD sorts x 0) rounded) e
+            (getD-set-same all j l noSight g ∙ told .is)
 
 -- what was seen and told is what is found of each
 pub found-all : {b names starts ends sorts : List ℕ} {n : ℕ} {ranks : List ℕ} → RanksFound names starts ends n ranks
-    → {entries : List Entry} {rounded : Span} → SeenAll b names starts ends n entries rounded
-    → {all : List Found} → ToldAll ranks sorts n entries rounded all → FoundAll b names starts ends sorts n all
-found-all {b} {names} {starts} {ends} {sorts} {n} {ranks} rank {entries} {rounded} seen {all} told = record {
+    → {entries : List Entry} {rounded : Span} {noted : Noted} → SeenAll b names starts ends n entries rounded noted
+    → {all : List Sighted} → ToldAll ranks sorts n entries rounded all → FoundAll b names starts ends sorts n (record { all = all; noted = noted })
+found-all {b} {names} {starts} {ends} {sorts} {n} {ranks} rank {entries} {rounded} {noted} seen {all} told = record {
   each = λ j h.
       let r = getD ranks j 0 in
       let m : r < n = rank .each j h .some j h refl in
-      subst (FoundIs b (nameAt names starts ends j) (getD sorts j 0)) (sym (told .each j h))
+      subst (λ (s : Sighted). FoundIs b (nameAt names starts ends j) (getD sorts j 0) (foundIn s noted)) (sym (told .each j h))
       (seen .each (nameAt names starts ends j) (getD sorts j 0) r (rank .each j h) m);
 }

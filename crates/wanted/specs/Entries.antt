@@ -10,10 +10,13 @@ use Rattle.rules.specs.Lists.{isSome, ifSome}
 use Rattle.rules.specs.Book.{Record, Row, asArticle, asRow, sale}
 use Rattle.layout.specs.Names.{nameAt}
 use Rattle.survey.specs.declared.Found.{Found}
+use Rattle.survey.specs.declared.Sighted.{Sighted}
+use Rattle.survey.specs.declared.window.Noted.{Noted}
 use Rattle.survey.specs.declared.window.Span.{Span}
-use Rattle.survey.specs.declared.window.Window.{Window}
+use Rattle.survey.specs.declared.window.Spans.{Spans}
 use Rattle.survey.specs.Window.{SpanAfter}
-use Rattle.survey.specs.Survey.{FoundIs}
+use Rattle.survey.specs.Survey.{foundIn, FoundIs}
+use Rattle.wanted.specs.declared.Sights.{Sights}
 use Rattle.wanted.specs.declared.entries.Entry.{Entry}
 use Rattle.wanted.specs.Table.{FoundAt}
 
@@ -49,26 +52,26 @@ pub record SeenIs (wanted : Bool) (e : Entry) (o : Option Record) (at end : ℕ)
 abbrev pub rowsFor : Entry → ℕ → Span
 rowsFor e sort = cond (eqb sort sale) (e .sale) (e .purchase)
 
-abbrev pub windowIn : Span → Span → Window
-windowIn rows roundings = record { first = rows .first; last = rows .last; from = roundings .first; to = roundings .last }
+abbrev pub spansIn : Span → Span → Spans
+spansIn rows roundings = record { first = rows .first; last = rows .last; from = roundings .first; to = roundings .last }
 
-abbrev pub foundIn : Entry → ℕ → Span → Found
-foundIn e sort roundings = record { article = e .found; window = windowIn (rowsFor e sort) roundings }
+abbrev pub sightIn : Entry → ℕ → Span → Sighted
+sightIn e sort roundings = record { article = e .found; spans = spansIn (rowsFor e sort) roundings }
 
-pub record ToldIs (e : Entry) (sort : ℕ) (roundings : Span) (r : Found) : Type 0 where
-  pub is : r ≡ foundIn e sort roundings
+pub record ToldIs (e : Entry) (sort : ℕ) (roundings : Span) (r : Sighted) : Type 0 where
+  pub is : r ≡ sightIn e sort roundings
 
 -- an entry past the end of them all
 abbrev pub noEntry : Entry
 noEntry = record { found = false; sale = record { first = 0; last = 0 }; purchase = record { first = 0; last = 0 } }
 
-abbrev pub noFound : Found
-noFound = record { article = false; window = record { first = 0; last = 0; from = 0; to = 0 } }
+abbrev pub noSight : Sighted
+noSight = record { article = false; spans = record { first = 0; last = 0; from = 0; to = 0 } }
 
--- the entry at the rank of an article has what is found of it, for rows of any sort
-pub record SeenAll (b names starts ends : List ℕ) (n : ℕ) (entries : List Entry) (roundings : Span) : Type 0 where
+-- the entry at the rank of an article, with what is noted of the roundings, has what is found of it, for rows of any sort
+pub record SeenAll (b names starts ends : List ℕ) (n : ℕ) (entries : List Entry) (roundings : Span) (noted : Noted) : Type 0 where
   pub each : (article : List ℕ) (sort r : ℕ) → FoundAt names starts ends n article r → r < n
-      → FoundIs b article sort (foundIn (getD entries r noEntry) sort roundings)
+      → FoundIs b article sort (foundIn (sightIn (getD entries r noEntry) sort roundings) noted)
 
 -- these are ranks on the list
 pub record RanksIn (n : ℕ) (ranks : List ℕ) : Type 0 where
@@ -76,9 +79,13 @@ pub record RanksIn (n : ℕ) (ranks : List ℕ) : Type 0 where
   pub each : (j : ℕ) → j < n → getD ranks j 0 ≤ n
 
 -- what the entries there tell, for the sorts beside them
-pub record ToldAll (ranks sorts : List ℕ) (n : ℕ) (entries : List Entry) (roundings : Span) (all : List Found) : Type 0 where
-  pub each : (j : ℕ) → j < n → getD all j noFound ≡ foundIn (getD entries (getD ranks j 0) noEntry) (getD sorts j 0) roundings
+pub record ToldAll (ranks sorts : List ℕ) (n : ℕ) (entries : List Entry) (roundings : Span) (all : List Sighted) : Type 0 where
+  pub each : (j : ℕ) → j < n → getD all j noSight ≡ sightIn (getD entries (getD ranks j 0) noEntry) (getD sorts j 0) roundings
+
+-- what is found of the name at rank j
+abbrev pub foundFor : Sights → ℕ → Found
+foundFor s j = foundIn (getD (s .all) j noSight) (s .noted)
 
 -- of each of the first n names: what a search of the book for this article and sort alone finds
-pub record FoundAll (b names starts ends sorts : List ℕ) (n : ℕ) (all : List Found) : Type 0 where
-  pub each : (j : ℕ) → j < n → FoundIs b (nameAt names starts ends j) (getD sorts j 0) (getD all j noFound)
+pub record FoundAll (b names starts ends sorts : List ℕ) (n : ℕ) (r : Sights) : Type 0 where
+  pub each : (j : ℕ) → j < n → FoundIs b (nameAt names starts ends j) (getD sorts j 0) (foundFor r j)

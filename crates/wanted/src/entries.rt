@@ -1,9 +1,9 @@
 // What a walk over a book keeps of an article on the list, and what is told of it in the end.
 use records::is_rounding;
 use records::row_of;
-use survey::Found;
+use survey::Sighted;
 use survey::window::Span;
-use survey::window::Window;
+use survey::window::Spans;
 use survey::window::widened;
 ghost use Rattle.rules.specs.Layout.{whole};
 ghost use Rattle.rules.specs.BookLayout.{kinded};
@@ -56,20 +56,20 @@ pub fn roundings_after(roundings: Span, t: &[u8], at: usize, end: usize) -> Span
 }
 
 // What is told of an article, for rows of this sort.
-pub fn told(entry: Entry, sort: u8, roundings: Span) -> Found
+pub fn told(entry: Entry, sort: u8, roundings: Span) -> Sighted
     ensures { λ r. ⌜ ToldIs entry sort roundings r ⌝ }
 {
     let sale = entry.sale;
     let purchase = entry.purchase;
     let rows = if sort == b'S' { sale } else { purchase };
-    let window = Window {
+    let spans = Spans {
         first: rows.first,
         last: rows.last,
         from: roundings.first,
         to: roundings.last,
     };
-    Found {
+    Sighted {
         article: entry.found,
-        window,
+        spans,
     }
 }

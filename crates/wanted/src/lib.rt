@@ -13,8 +13,10 @@ use crate::last::last_first;
 use crate::table::ranks_of;
 use crate::table::table_of;
 use book::record_stop;
-use survey::Found;
+use survey::Sighted;
+use survey::window::Noted;
 use survey::window::Span;
+use survey::window::note_spot;
 ghost use mathlib.Core.Path.{_≡_};
 ghost use mathlib.Core.Bool.{true};
 ghost use Rattle.rules.specs.Lists.{isSome};
@@ -23,10 +25,17 @@ ghost use Rattle.layout.specs.Names.{Listed};
 ghost use Rattle.wanted.specs.Table.{Filled};
 ghost use Rattle.wanted.specs.Entries.{SeenAll, RanksIn, ToldAll, FoundAll};
 
+// What was kept of the article of each name on the list, and what was noted of the roundings, once for all of them.
+pub struct Sights {
+    pub all: [Sighted; 500],
+    pub noted: Noted,
+}
+
 // Of each rank on the list what was seen of its article, and where the roundings stand. What is at rank n nobody reads.
 struct Sightings {
     entries: [Entry; 501],
     roundings: Span,
+    noted: Noted,
 }
 
 // Behind the header, and still empty.
@@ -51,10 +60,12 @@ fn walk(
     requires { ⌜ isSome (records (now b)) ≡ true ⌝ }
     requires { ⌜ Listed (now names) (now starts) (now ends) n ⌝ }
     requires { ⌜ Filled (now names) (now starts) (now ends) n (now heads) (now links) ⌝ }
-    ensures { λ r. ⌜ SeenAll (now (b .entry)) (now (names .entry)) (now (starts .entry)) (now (ends .entry)) n (r .entries) (r .roundings) ⌝ }
+    ensures { λ r. ⌜ SeenAll (now (b .entry)) (now (names .entry)) (now (starts .entry)) (now (ends .entry)) n (r .entries) (r .roundings) (r .noted) ⌝ }
 {
     let mut entries = [UNSEEN; 501];
     let mut roundings = START;
+    let mut spots = [0; 16];
+    let mut count = 0;
     let mut last = last_first(b, names, starts, ends, n, heads, links);
     let mut at = 5;
     while at < b.len() {
@@ -66,19 +77,25 @@ fn walk(
         let old = entries[i];
         entries[i] = seen(old, i < n, t, at, end);
         roundings = roundings_after(roundings, t, at, end);
+        count = note_spot(&mut spots, count, t, at);
         at = end;
     }
-    Sightings { entries, roundings }
+    let noted = Noted { count, spots };
+    Sightings {
+        entries,
+        roundings,
+        noted,
+    }
 }
 
 // What was seen at these ranks on the list, for rows of the sorts beside them.
-fn tell(ranks: [usize; 500], sorts: &[u8; 500], n: usize, sightings: Sightings) -> [Found; 500]
+fn tell(ranks: [usize; 500], sorts: &[u8; 500], n: usize, sightings: Sightings) -> [Sighted; 500]
     requires { ⌜ RanksIn n ranks ⌝ }
     ensures { λ r. ⌜ ToldAll ranks (now (sorts .entry)) n (sightings .entries) (sightings .roundings) r ⌝ }
 {
     let entries = sightings.entries;
     let roundings = sightings.roundings;
-    let mut all = [Found::NOTHING; 500];
+    let mut all = [Sighted::NOTHING; 500];
     let mut j = 0;
     while j < n {
         let i = ranks[j];
@@ -97,7 +114,7 @@ pub fn find_all(
     ends: &[usize; 500],
     sorts: &[u8; 500],
     n: usize,
-) -> [Found; 500]
+) -> Sights
     requires { ⌜ isSome (records (now b)) ≡ true ⌝ }
     requires { ⌜ Listed (now names) (now starts) (now ends) n ⌝ }
     ensures { λ r. ⌜ FoundAll (now (b .entry)) (now (names .entry)) (now (starts .entry)) (now (ends .entry)) (now (sorts .entry)) n r ⌝ }
@@ -107,5 +124,7 @@ pub fn find_all(
     let links = table.links;
     let ranks = ranks_of(names, starts, ends, n, &heads, &links);
     let sightings = walk(b, names, starts, ends, n, &heads, &links);
-    tell(ranks, sorts, n, sightings)
+    let noted = sightings.noted;
+    let all = tell(ranks, sorts, n, sightings);
+    Sights { all, noted }
 }

@@ -3,26 +3,26 @@
 use Prim.Native.Nat.{_-_}
 use Rattle.picks.specs.Picks.{PicksSoFar}
 use borrow.Author.Needs.{needs}
-use Rattle.picks.proofs.PickLaws.{filled-roundings, filled-few, filled-between, filled-long, held-at, held-few, found-at, picks-start, picks-turn, picks-end}
+use Rattle.picks.proofs.PickLaws.{filled-roundings, filled-few, held-at, held-few, found-at, picks-start, picks-turn, picks-end}
 use Rattle.picks.proofs.picks_from.Statement.{statement}
 use Rattle.picks.proofs.picks_from.Tie as tie
 
-ruleset laws = (needs, filled-roundings, filled-few, filled-between, filled-long, held-at, held-few, found-at, picks-start, picks-turn, picks-end)
+ruleset laws = (needs, filled-roundings, filled-few, held-at, held-few, found-at, picks-start, picks-turn, picks-end)
 
 abbrev Inv-loop : tie.InvT-loop
-Inv-loop b window names ats places n to spots rows₀ i₀ rows i = PicksSoFar b ats places rows i
+Inv-loop b names ats places n spots rows₀ i₀ rows i = PicksSoFar b ats places rows i
 
 abbrev μ-loop : tie.MeasureT-loop
-μ-loop b window names ats places n to spots rows₀ i₀ rows i = n - i
+μ-loop b names ats places n spots rows₀ i₀ rows i = n - i
 
 row-pick-requires : tie.Need-row-pick-requires Inv-loop μ-loop
 row-pick-requires c κs =
     let spotted = c .before .before in
-    let held = spotted .before .before in
+    let held = spotted .before in
     let pre = held .before .before .before .before .before .pre in
     let told = held .held-in .ensures in
     let l = c .loop-test .taken in
-    (filled-roundings pre, (held-at pre told l, found-at pre told l (spotted .rounding-spots .ensures)))
+    (held-at pre told l, found-at pre told l (spotted .spots-of .ensures))
 
 pub picks-from-spec : {M : Type 1} → statement M
 picks-from-spec =
@@ -31,8 +31,7 @@ picks-from-spec =
     Inv-loop
     μ-loop
     (λ c κs. search laws)  -- held-in-requires
-    (λ c. search laws)  -- slice-aggregate-rounding-spots
-    (λ c κs. search laws)  -- rounding-spots-requires
+    (λ c κs. search laws)  -- spots-of-requires
     (λ c. search laws)  -- loop-holds
     (λ c. search needs)  -- mul-row-pick
     (λ c. search needs)  -- array-read-row-pick

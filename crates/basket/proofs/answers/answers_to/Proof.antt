@@ -9,10 +9,11 @@ use Rattle.basket.proofs.answers.answers_to.Tie as tie
 ruleset laws = (needs, part-low, part-fits, ready-at, answers-start, answers-room, answers-again, answers-end)
 
 abbrev Inv-loop : tie.InvT-loop
-Inv-loop book questions starts ends n kept₀ found bytes₀ lines₀ end₀ j₀ kept bytes lines end j = Answering book questions starts ends found n kept₀ kept bytes lines end j
+Inv-loop book questions starts ends n kept₀ all noted bytes₀ lines₀ end₀ j₀ kept bytes lines end j =
+    Answering book questions starts ends (record { all = all; noted = noted }) n kept₀ kept bytes lines end j
 
 abbrev μ-loop : tie.MeasureT-loop
-μ-loop book questions starts ends n kept₀ found bytes₀ lines₀ end₀ j₀ kept bytes lines end j = n - j
+μ-loop book questions starts ends n kept₀ all noted bytes₀ lines₀ end₀ j₀ kept bytes lines end j = n - j
 
 pub answers-to-spec : {M : Type 1} → statement M
 answers-to-spec =
@@ -28,8 +29,9 @@ answers-to-spec =
     (λ c. search laws)  -- sub-answer-to
     (λ c. search laws)  -- part-answer-to-start
     (λ c. search laws)  -- part-answer-to-end
-    (λ c. search needs)  -- mul-answer-to
-    (λ c. search needs)  -- array-copy-out-answer-to
+    (λ c. search needs)  -- mul-found-of
+    (λ c. search needs)  -- array-copy-out-found-of
+    (λ c κs. search needs)  -- found-of-requires
     (λ c κs. search laws)  -- answer-to-requires
     (λ c. search needs)  -- slice-aggregate-put-answer
     (λ c. search needs)  -- mul-put-answer

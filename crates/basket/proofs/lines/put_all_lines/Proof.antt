@@ -9,10 +9,11 @@ use Rattle.basket.proofs.lines.put_all_lines.Tie as tie
 ruleset laws = (needs, part-low, part-fits, ready-at, lines-start, lines-again, lines-end)
 
 abbrev Inv-loop : tie.InvT-loop
-Inv-loop out₀ at book questions starts ends n found end₀ j₀ out end j = Listing book questions starts ends found n out₀ at out end j
+Inv-loop out₀ at book questions starts ends n all noted end₀ j₀ out end j =
+    Listing book questions starts ends (record { all = all; noted = noted }) n out₀ at out end j
 
 abbrev μ-loop : tie.MeasureT-loop
-μ-loop out₀ at book questions starts ends n found end₀ j₀ out end j = n - j
+μ-loop out₀ at book questions starts ends n all noted end₀ j₀ out end j = n - j
 
 pub put-all-lines-spec : {M : Type 1} → statement M
 put-all-lines-spec =
@@ -28,8 +29,9 @@ put-all-lines-spec =
     (λ c. search laws)  -- sub-answer-to
     (λ c. search laws)  -- part-answer-to-start
     (λ c. search laws)  -- part-answer-to-end
-    (λ c. search needs)  -- mul-answer-to
-    (λ c. search needs)  -- array-copy-out-answer-to
+    (λ c. search needs)  -- mul-found-of
+    (λ c. search needs)  -- array-copy-out-found-of
+    (λ c κs. search needs)  -- found-of-requires
     (λ c κs. search laws)  -- answer-to-requires
     (λ c. search needs)  -- add-j
     (λ c. search needs)  -- loop-less

@@ -27,9 +27,10 @@ locate-spec =
     (λ c. search laws)  -- part-survey-end
     (λ c. search needs)  -- array-read-survey
     (λ c κs. search needs)  -- survey-requires
-    (λ c. search needs)  -- array-set-from-all
+    (λ c κs. search needs)  -- first-of-requires
     (λ c. search laws)  -- returns
     (λ c κs. search needs)  -- is-book-requires
     find-all-requires
     (λ c. search laws)  -- returns-2
+    (λ c κs. search needs)  -- first-of-requires-2
     (λ c. search laws))  -- returns-3
