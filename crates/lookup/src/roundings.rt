@@ -148,7 +148,7 @@ pub fn rounding_at(b: &[u8], spot: usize) -> Rounding
     rounding_of(&b[body..end])
 }
 
-// The same where the spots of all roundings of the book were noted: `count` of them. No other record is looked at.
+// Where the roundings of the first n numbers stand, if the spots of all roundings of the book were noted: `count` of them. No other record is looked at.
 pub fn spots_among(
     b: &[u8],
     noted: &[usize; 16],
