@@ -5,13 +5,14 @@ import re
 from datetime import date
 from typing import Any, Callable, Mapping, Optional
 
-from rafttwine import Cents, Percent
+from rafttwine import Cents, Factor, Percent
 
 Reader = Callable[[str], Any]
 
 # The most that a price row can hold, either side of zero.
 MOST_CENTS = 100_000_000
 MOST_HUNDREDTHS = 100_000
+MOST_FACTOR = 10_000
 # A number with more digits is beyond every bound of a book, however it goes on.
 MOST_DIGITS = 12
 BEYOND = 10 ** 18
@@ -82,6 +83,17 @@ def several(read_one: Reader, least: int, most: int, wanted: str) -> Reader:
             raise Unfit(f"{len(words)} with commas between, and at most {most} are allowed")
         return [read_one(word) for word in words]
     return read
+
+
+def condition_of(cell: str) -> tuple[str, Factor]:
+    """A granted name, which may have a factor behind it, as `edge x 4.8`."""
+    found = re.fullmatch(r"(?:(.*\S) )?x ([-.0-9]\S*)", cell)
+    if not found:
+        return name_of(1, 20)(cell), Factor(1)
+    try:
+        return name_of(1, 20)(found[1] or ""), Factor.of_thousandths(parts_of(3, 0, MOST_FACTOR)(found[2]))
+    except Unfit as unfit:
+        raise Unfit(f'in "{cell}": {unfit}') from None
 
 
 def whole_of(least: int, most: int, empty: Optional[int] = None) -> Reader:

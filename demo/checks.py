@@ -141,10 +141,12 @@ class Checked:
 
 
 def said(name: str, row: Row, message: str, kind: str = "") -> Fault:
-    """What a builder says about a field (`PriceRow.first: sentence`) is said about the field's column."""
+    """What a builder says about a field (`PriceRow.first: sentence`) is said about the field's column. All that makes a granted
+    condition stands in one."""
     about = re.fullmatch(r"\w+\.(\w+): (.*)", message, re.DOTALL)
+    field = "granted" if message.startswith("Granted.") else about and about[1]
     columns = SECTIONS[name].columns_of(list(row.cells))
-    column = next((column for column, one in columns.items() if about and one.field == about[1]), None)
+    column = next((column for column, one in columns.items() if about and one.field == field), None)
     if about is None or column is None:
         return Fault(row.line, kind + message, name)
     return Fault(row.line, kind + about[2], name, column, row.cells[column])

@@ -1,8 +1,9 @@
 """What a sheet of rows stands for: a price book, two text books, and the questions of a customer."""
 from __future__ import annotations
 
+import warnings
 from datetime import date
-from typing import Mapping
+from typing import Any, Mapping
 
 import rafttwine
 from checks import Checked
@@ -38,11 +39,17 @@ class Desk:
                 raise Wrong([f"{file.path}: {error}"]) from None
 
     def question(self, day: date) -> bytes:
-        asked = self.asked
-        return rafttwine.question(asked.article, day, asked.quantity, asked.granted, self.properties)
+        return question(self.asked, day, self.properties)
 
     def offered(self) -> list[bytes]:
-        return [rafttwine.question(one.article, one.day, one.quantity, one.granted) for one in self.offer]
+        return [question(one, one.day, ()) for one in self.offer]
+
+
+def question(asked: Any, day: date, properties: Any) -> bytes:
+    """What is doubtful about it was told when the sheet was checked."""
+    with warnings.catch_warnings():
+        warnings.simplefilter("ignore", rafttwine.RowWarning)
+        return rafttwine.question(asked.article, day, asked.quantity, asked.granted, properties)
 
 
 def other_languages(sheet: Sheet, language: str) -> list[str]:

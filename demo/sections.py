@@ -6,10 +6,11 @@ from dataclasses import dataclass, field
 from datetime import date
 from typing import Any, Callable, Iterator, Mapping, Optional
 
-from cells import (Reader, currency_of, day_of, file_of, if_given, name_of, parts_of, several, value_of, whole_of, word_of,
-                   yes_or_no)
+from cells import (Reader, condition_of, currency_of, day_of, file_of, if_given, name_of, parts_of, several, value_of, whole_of,
+                   word_of, yes_or_no)
 from makers import MakersFile
-from rafttwine import Article, Level, PackagingRow, Percent, PriceRow, Property, Rounding, Rule, Scheme, Way
+from rafttwine import (Article, Factor, Granted, Level, PackagingRow, Percent, PriceRow, Property, Question, Rounding, Rule, Scheme,
+                       Way)
 
 Values = Mapping[str, Any]
 # The longest period of a price calendar.
@@ -54,7 +55,7 @@ class Asked:
 
     article: str
     quantity: int
-    granted: list[str]
+    granted: list[Granted]
     days: list[date]
     first_day: date
     last_day: date
@@ -66,8 +67,23 @@ class Offered:
 
     article: str
     quantity: int
-    granted: list[str]
+    granted: list[Granted]
     day: date
+
+
+def asked(article: str, quantity: int, granted: list[tuple[str, Factor]], days: list[date], **rest: date) -> Asked:
+    return Asked(article, quantity, conditions(article, days[0], granted), days, **rest)
+
+
+def offered(article: str, quantity: int, granted: list[tuple[str, Factor]], day: date) -> Offered:
+    return Offered(article, quantity, conditions(article, day, granted), day)
+
+
+def conditions(article: str, day: date, granted: list[tuple[str, Factor]]) -> list[Granted]:
+    """The granted conditions. What the package finds doubtful about them, in a question too, it says here."""
+    made = [Granted(name, factor) for name, factor in granted]
+    Question(article, day, granted=made)
+    return made
 
 
 def text(number: int, **languages: str) -> tuple[int, dict[str, str]]:
@@ -109,7 +125,7 @@ COUNT = if_given(whole_of(-10_000, 10_000))
 ASKED_FOR = {
     **named(1, 40, "article"),
     "quantity": Column("quantity", whole_of(1, 100_000)),
-    "granted": Column("granted", several(name_of(1, 20), 0, MOST_LISTED, "names")),
+    "granted": Column("granted", several(condition_of, 0, MOST_LISTED, "names")),
 }
 
 SECTIONS: Mapping[str, Kind] = {
@@ -145,7 +161,7 @@ SECTIONS: Mapping[str, Kind] = {
         "trim": Column("trim", yes_or_no),
     }, key=("id",)),
     "text": Kind(text, {"number": Column("number", whole_of(1, 4_294_967_295))}, key=("number",), language=TEXT),
-    "question": Kind(Asked, {
+    "question": Kind(asked, {
         **ASKED_FOR,
         "days": Column("days", several(day_of, 1, MOST_DAYS, "days as 2026-06-30")),
         "calendar from": Column("first_day", day_of),
@@ -157,7 +173,7 @@ SECTIONS: Mapping[str, Kind] = {
         "value": Column("value", if_given(name_of(0, 30))),
         "hidden": Column("hidden", yes_or_no),
     }, most=MOST_LISTED),
-    "offer": Kind(Offered, {
+    "offer": Kind(offered, {
         **ASKED_FOR,
         "day": Column("day", day_of),
     }, most=MOST_OFFERED, refers={"article": "article"}),

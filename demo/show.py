@@ -10,7 +10,8 @@ from decimal import Decimal
 from typing import Callable, Iterable, Optional, Union
 
 from desk import Desk
-from rafttwine import Line, Packaging, Price, Refusal, Refused, Stretch, basket, calendar, final_number, packaging, price, text
+from rafttwine import (Factor, Granted, Line, Packaging, Price, Refusal, Refused, Stretch, basket, calendar, final_number, packaging,
+                       price, text)
 from rows import Sheet, Wrong
 from sections import Offered
 
@@ -20,6 +21,7 @@ UNIT_NAMES = {"CMT": "cm", "FOT": "ft", "INH": "in", "MMT": "mm", "MTR": "m", "I
 Shown = tuple[str, str, str]
 RULE: Shown = ("", "", "")
 CURRENCY_WIDTH = 3
+ONCE = Factor(1)
 
 # Refusals that a right sheet can meet. Every other one is a fault of the sheet that nothing here found.
 WHY_NOT = {
@@ -57,7 +59,7 @@ def show(desk: Desk) -> None:
         "Order number": answered(desk, lambda: [(final_number(desk.book, some_day), "", "")]),
         "Cartons of one piece": answered(desk, lambda: measures(packaging(desk.book, some_day))),
     }
-    print(", ".join([asked.article, pieces(asked.quantity), *([f"with {', '.join(asked.granted)}"] if asked.granted else [])]))
+    print(", ".join([asked.article, pieces(asked.quantity), *([f"with {', '.join(map(wish, asked.granted))}"] if asked.granted else [])]))
     print_aligned(sections)
 
 
@@ -87,7 +89,7 @@ def itemised(desk: Desk, day: date) -> list[Shown]:
     lines = [(line_text(desk, line), line.amount) for line in answer.lines]
     totals = [("One piece", answer.unit), *([(pieces(asked.quantity), answer.total)] if asked.quantity > 1 else [])]
     listed, summed = ([(name, amount(cents), answer.currency) for name, cents in rows] for rows in (lines, totals))
-    return [*listed, RULE, *summed, *((f"No price line for {asked.granted[place - 1]}", "", "") for place in answer.unused)]
+    return [*listed, RULE, *summed, *((f"No price line for {name}", "", "") for name in answer.unused_names)]
 
 
 def offer(desk: Desk) -> list[Shown]:
@@ -108,15 +110,24 @@ def position(desk: Desk, one: Offered, found: Union[Price, Refusal]) -> list[Sho
         why = WHY_NO_STRETCH.get(found, f"on {one.day.day} {one.day:%b %Y}")
         return [(f"{one.quantity} x {one.article}", "no price", why)]
     name = text_of(desk, found.lines[0].text) or one.article
-    wishes = [one.granted[place - 1] for place in sorted({line.place for line in found.lines} - {0})]
+    wishes = [wish(one.granted[place - 1]) for place in sorted({line.place for line in found.lines} - {0})]
     unused = [(f"No price line for {wish}", "", "") for wish in found.unused_names]
     return [(", ".join([f"{one.quantity} x {name}", *wishes]), amount(found.total), found.currency), *unused]
 
 
+def wish(granted: Granted) -> str:
+    return granted.name + times(granted.factor)
+
+
+def times(factor: Factor) -> str:
+    """How many times, where that is not once."""
+    return "" if factor == ONCE else f" x {factor}"
+
+
 def line_text(desk: Desk, line: Line) -> str:
-    """The text of a line. A text that is nowhere is no reason to keep the price back."""
+    """The text of a line, and how many times it counts. A text that is nowhere is no reason to keep the price back."""
     found = text_of(desk, line.text)
-    return found if found is not None else f"text {line.text}" if line.text else "no text number"
+    return (found if found is not None else f"text {line.text}" if line.text else "no text number") + times(line.factor)
 
 
 def text_of(desk: Desk, number: int) -> Optional[str]:

@@ -43,20 +43,31 @@
  * Numbers are big-endian. A name is a byte with its length and then that many Latin-1 bytes, each 32 to 126 or 160 to 255.
  *
  *   4 bytes   the length of the whole question, these four included
- *   1 byte    1, the version
+ *   1 byte    the version, 1 or 2
  *   a name    the article's number, of 1 to 40 bytes
  *   1 byte    'S' for sale prices, 'P' for purchase prices
  *   3 bytes   the currency you would like, three capitals; three zeros if any will do
  *   4 bytes   the day, as the number yyyymmdd
  *   4 bytes   the quantity, 1 to 100000
- *   1 byte    how many conditions are granted, at most 32; then each of them, a name of 1 to 20 bytes. Small letters a to z count as
- *             capitals. A condition's place is its position in this list, from 1
+ *   1 byte    how many conditions are granted, at most 32; then for each of them
+ *                a name    of 1 to 20 bytes. Small letters a to z count as capitals
+ *                2 bytes   in version 2 alone: its factor in thousandths, 0 to RAFTTWINE_MOST_FACTOR
+ *             A condition's place is its position in this list, from 1
  *   1 byte    how many properties there are, at most 32; then for each of them
  *                1 byte   its width in the final article number, 1 to 30
  *                1 byte   0 if it has a value, 1 if it is hidden, 2 if nothing is selected
  *                a name   its value, of 1 to width bytes without spaces (32, 160) and backslashes; empty if it has none
  *
  * Nothing stands behind that; in a basket, the next question does.
+ *
+ * A factor is for surcharges by the metre and the like: every line that its condition brings has its row's amount times the factor, and
+ * is rounded after that. 2500 is two and a half times; with 0 there is a line all the same, of nothing before it is rounded. Where a name
+ * is repeated its first factor counts, and the others have to be in range like any. A question of version 1 says the same as one of
+ * version 2 with RAFTTWINE_FACTOR_ONE behind each name. Every call takes both, and a basket may hold both.
+ *
+ *   00 00 00 1d  02  02 'A' '1'  'S'  00 00 00  01 34 d8 f6  00 00 00 01  01  04 'E' 'D' 'G' 'E' 09 c4  00
+ *
+ * asks for one A1 on 30 June 2024 in any currency, with 2.5 times EDGE granted and without properties.
  */
 #ifndef RAFTTWINE_H
 #define RAFTTWINE_H
@@ -69,8 +80,8 @@ extern "C" {
 #endif
 
 /* This header's version. The first number changes when a program has to be compiled anew, the second when something is added. */
-#define RAFTTWINE_VERSION_MAJOR 1
-#define RAFTTWINE_VERSION_MINOR 3
+#define RAFTTWINE_VERSION_MAJOR 2
+#define RAFTTWINE_VERSION_MINOR 0
 #define RAFTTWINE_VERSION_PATCH 0
 /* As one number that grows from version to version, and as text with dots between. */
 #define RAFTTWINE_VERSION_NUMBER (RAFTTWINE_VERSION_MAJOR * 10000 + RAFTTWINE_VERSION_MINOR * 100 + RAFTTWINE_VERSION_PATCH)
@@ -131,17 +142,23 @@ static inline const char *rafttwine_refusal_text(unsigned number) {
 
 /* ---- The price of an article, line by line ---- */
 
-/* A line is written in 14 bytes, and a price has at most 99 of them: for each of three levels one without a condition, and one for
- * each of 32 granted ones.
+/* A line is written in RAFTTWINE_LINE_BYTES, whatever the question's version, and a price has at most RAFTTWINE_MOST_LINES: for each of
+ * three levels one without a condition, and one for each of 32 granted ones. RAFTTWINE_MOST_PRICE_BYTES are room for any price.
  *
- *   4 bytes   the line's text number, for rafttwine_text
- *   1 byte    its level: 'B' base price, 'X' surcharge, 'D' discount
- *   1 byte    the place of the granted condition that brought it, from 1; 0 for a line without a condition
- *   8 bytes   its amount in cents, signed (two's complement)
+ *   at 0    4 bytes   the line's text number, for rafttwine_text
+ *   at 4    1 byte    its level: 'B' base price, 'X' surcharge, 'D' discount
+ *   at 5    1 byte    the place of the granted condition that brought it, from 1; 0 for a line without a condition
+ *   at 6    8 bytes   its amount in cents, signed (two's complement), with the factor in it
+ *   at 14   2 bytes   that condition's factor in thousandths; RAFTTWINE_FACTOR_ONE for a line without a condition
  *
  * Lines come by level B, X, D; within a level first the one without a condition, then by place. */
-#define RAFTTWINE_LINE_BYTES 14
+#define RAFTTWINE_LINE_BYTES 16
 #define RAFTTWINE_MOST_LINES 99
+#define RAFTTWINE_MOST_PRICE_BYTES (RAFTTWINE_MOST_LINES * RAFTTWINE_LINE_BYTES)
+
+/* Factors, in thousandths: once, and the greatest. */
+#define RAFTTWINE_FACTOR_ONE 1000
+#define RAFTTWINE_MOST_FACTOR 10000
 
 typedef struct rafttwine_price_answer {
     int64_t unit;         /* the price of one piece in cents: the sum of the lines' amounts */
@@ -176,12 +193,11 @@ rafttwine_price_answer rafttwine_price(const uint8_t *book, size_t book_length, 
  * The refusal of the call itself is 1, 2 or 7, the first that applies: 2 also if one question of many is broken, or if there are too
  * many; 7 if there is not room for everything. No question at all is no fault, and nothing is written then.
  *
- * For each question room for RAFTTWINE_ANSWER_BYTES and RAFTTWINE_MOST_LINES lines is enough, whatever it asks; nobody needs more than
+ * For each question room for RAFTTWINE_ANSWER_BYTES and RAFTTWINE_MOST_PRICE_BYTES is enough, whatever it asks; nobody needs more than
  * RAFTTWINE_MOST_BASKET_BYTES. */
 #define RAFTTWINE_BASKET_QUESTIONS 200
 #define RAFTTWINE_ANSWER_BYTES 33
-#define RAFTTWINE_MOST_BASKET_BYTES \
-    (RAFTTWINE_BASKET_QUESTIONS * (RAFTTWINE_ANSWER_BYTES + RAFTTWINE_MOST_LINES * RAFTTWINE_LINE_BYTES))
+#define RAFTTWINE_MOST_BASKET_BYTES (RAFTTWINE_BASKET_QUESTIONS * (RAFTTWINE_ANSWER_BYTES + RAFTTWINE_MOST_PRICE_BYTES))
 
 typedef struct rafttwine_written {
     uint64_t length; /* how many bytes were written */

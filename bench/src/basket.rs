@@ -6,6 +6,7 @@ use crate::dice::Dice;
 use crate::library;
 use crate::reference;
 use crate::timing::{self, Row, Subject};
+use second::price::LINE_LENGTH;
 use std::collections::HashMap;
 use std::time::Duration;
 
@@ -14,7 +15,7 @@ const GRANTED: usize = 5;
 const SIZES: [usize; 3] = [1, 20, 200];
 /// The second implementation goes once.
 const ROUNDS: usize = 50;
-const MOST_LINES: usize = 99 * 14;
+const MOST_LINES: usize = 99 * LINE_LENGTH;
 const ANSWER: usize = 33;
 
 const HEAD: usize = 5;
@@ -70,7 +71,7 @@ fn agree(book: &[u8], questions: &[Vec<u8>], all: &[u8], room: usize) {
         let answer = library::price(book, question, &mut own);
         assert_eq!(answer.number, 0, "a question that is timed has no price");
         heads.extend(answer.bytes());
-        lines.extend(&own[..answer.lines as usize * MOST_LINES / 99]);
+        lines.extend(&own[..answer.lines as usize * LINE_LENGTH]);
     }
     heads.extend(lines);
     assert_eq!(heads, by_library[..answer.length as usize], "single calls have other bytes");
@@ -97,7 +98,7 @@ fn plain(book: &[u8], questions: &[Vec<u8>]) -> Vec<u8> {
         let mut own = [0; MOST_LINES];
         let answer = second::price(&gathered(&wanted[article_of(question)], &others), question, &mut own);
         heads.extend(answer.bytes());
-        lines.extend(&own[..answer.lines as usize * MOST_LINES / 99]);
+        lines.extend(&own[..answer.lines as usize * LINE_LENGTH]);
     }
     heads.extend(lines);
     heads

@@ -5,12 +5,13 @@ use crate::catalog::{self, Catalog, Manner};
 use crate::dice::Dice;
 use crate::library;
 use crate::timing::{self, Row, Subject};
+use second::price::LINE_LENGTH;
 
 const ROWS: usize = 40_000;
 const PRICES: usize = 200;
 const GRANTED: usize = 5;
 const ROUNDS: usize = 10;
-const MOST_LINES: usize = 99 * 14;
+const MOST_LINES: usize = 99 * LINE_LENGTH;
 
 const ARTICLE: u8 = 1;
 const PRICE: u8 = 2;

@@ -5,6 +5,7 @@ use crate::catalog::{self, Catalog, Manner};
 use crate::dice::Dice;
 use crate::library;
 use crate::timing::{self, Pass, Row, Subject};
+use second::price::LINE_LENGTH;
 use second::PriceAnswer;
 use std::time::Duration;
 
@@ -15,7 +16,7 @@ const THROWN: usize = 500;
 /// implementation goes once in a lap.
 const LAPS: usize = 10;
 const ROUNDS: usize = 20;
-const MOST_LINES: usize = 99 * 14;
+const MOST_LINES: usize = 99 * LINE_LENGTH;
 
 pub fn measure(dice: &mut Dice) -> Vec<Row> {
     let plain = ROWS.map(|rows| catalog::catalog(dice, rows, &Manner::price_lists()));

@@ -61,9 +61,11 @@ fn in_clone_or_installed(shared: bool) -> Result<Library, String> {
 /// A file in the folder of libraries of a version that goes with this crate; or why there is none.
 fn installed(name: &str) -> Result<PathBuf, String> {
     let least = env!("CARGO_PKG_VERSION");
+    let major: u32 = env!("CARGO_PKG_VERSION_MAJOR").parse().unwrap_or_default();
+    let next = major + 1;
     let version = pkg_config("--modversion", "rafttwine")?.ok_or("pkg-config knows no rafttwine")?;
-    pkg_config("--exists", &format!("rafttwine >= {least}, rafttwine < 2"))?
-        .ok_or_else(|| format!("pkg-config knows rafttwine {version}, while {least} or a later 1 is needed"))?;
+    pkg_config("--exists", &format!("rafttwine >= {least}, rafttwine < {next}"))?
+        .ok_or_else(|| format!("pkg-config knows rafttwine {version}, while {least} or a later {major} is needed"))?;
     let folder = pkg_config("--variable=libdir", "rafttwine")?.unwrap_or_default();
     let file = Path::new(&folder).join(name);
     match file.is_file() {

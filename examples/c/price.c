@@ -1,5 +1,5 @@
-/* A price as a salesperson reads it, a basket of prices, a price calendar, and refusals, from a price book that is made here by hand;
- * and prices from a maker's own price file.
+/* A price as a salesperson reads it, with an edge by the metre, a basket of prices, a price calendar, and refusals, from a price book
+ * that is made here by hand; and prices from a maker's own price file.
  *
  *   cc price.c $(pkg-config --cflags --libs rafttwine) -o price
  *
@@ -47,12 +47,14 @@ static void add_name(packed *to, const char *name, size_t most) {
     }
 }
 
+enum { PLAIN = 1, WITH_FACTORS = 2 };
+
 /* A book, a question or a text book: its length, which is put in when it is known, and its version. */
-static packed start(void) {
+static packed start(unsigned version) {
     packed whole;
     whole.length = 0;
     add_number(&whole, 4, 0);
-    add_byte(&whole, 1);
+    add_byte(&whole, version);
     return whole;
 }
 
@@ -80,7 +82,7 @@ static void finish_record(packed *book, size_t place) {
 
 /* ---- A price book, a text book, a question ---- */
 
-enum { ARTICLE = 1, PRICE = 2, OF_BASE = 1, OF_TOTAL_SO_FAR = 2, TABLE = 1, OAK = 2, DISCOUNT = 3 };
+enum { ARTICLE = 1, PRICE = 2, OF_BASE = 1, OF_TOTAL_SO_FAR = 2, TABLE = 1, OAK = 2, EDGE = 3, DISCOUNT = 4 };
 
 /* A fixed value is in cents, any other in hundredths of a percent. A discount is below zero. */
 typedef struct price_row {
@@ -123,9 +125,10 @@ static packed price_book(void) {
         {'B', "", OF_BASE, TABLE, 1, 10000, 20240101, 20240630},
         {'B', "", OF_BASE, TABLE, 1, 10500, 20240701, 20241231},
         {'X', "OAK", OF_BASE, OAK, 0, 1250, 20240101, 20241231},
+        {'X', "EDGE", OF_BASE, EDGE, 1, 695, 20240101, 20241231},
         {'D', "", OF_TOTAL_SO_FAR, DISCOUNT, 0, -333, 20240101, 20241231},
     };
-    packed book = start();
+    packed book = start(PLAIN);
     add_article(&book, "A1");
     for (size_t at = 0; at < sizeof rows / sizeof *rows; at++) add_price(&book, "A1", &rows[at]);
     finish(&book);
@@ -140,25 +143,36 @@ static void add_text(packed *texts, int number, const char *text) {
 
 /* The discount has no text here, as happens in life. */
 static packed text_book(void) {
-    packed texts = start();
+    packed texts = start(PLAIN);
     add_text(&texts, TABLE, "Table");
     add_text(&texts, OAK, "Top in oak");
+    add_text(&texts, EDGE, "Edge, a metre");
     finish(&texts);
     return texts;
 }
 
-static const char *const granted[] = {"oak", "castor"};
+/* A condition that the planned piece grants, and how many times it counts, in thousandths: the edge runs along 4.8 metres. Where everything
+ * counts once, a question of version 1 is enough, which has the names alone. */
+typedef struct condition {
+    const char *name;
+    int factor;
+} condition;
+
+static const condition granted[] = {{"oak", RAFTTWINE_FACTOR_ONE}, {"edge", 4800}, {"castor", RAFTTWINE_FACTOR_ONE}};
 enum { GRANTED = sizeof granted / sizeof *granted };
 
 static packed question(const char *article, uint32_t day, int quantity) {
-    packed asked = start();
+    packed asked = start(WITH_FACTORS);
     add_name(&asked, article, 40);
     add_byte(&asked, 'S');
     add_number(&asked, 3, 0); /* in any currency */
     add_number(&asked, 4, day);
     add_number(&asked, 4, quantity);
     add_byte(&asked, GRANTED);
-    for (int at = 0; at < GRANTED; at++) add_name(&asked, granted[at], 20);
+    for (int at = 0; at < GRANTED; at++) {
+        add_name(&asked, granted[at].name, 20);
+        add_number(&asked, 2, granted[at].factor);
+    }
     add_byte(&asked, 0); /* no properties, which only order numbers need */
     finish(&asked);
     return asked;
@@ -179,19 +193,22 @@ static void print_amount(const char *what, int64_t cents, const uint8_t *currenc
     printf("  %-24s %10s %.3s\n", what, amount, (const char *)currency);
 }
 
+/* The fields of a line stand as the header lists them. A factor is in the amount already. */
 static void print_line(const packed *texts, const uint8_t *line, const uint8_t *currency) {
     uint32_t number = (uint32_t)number_at(line, 4);
-    char what[64];
+    unsigned factor = (unsigned)number_at(line + 14, 2);
+    char what[64], times[16] = "";
     rafttwine_text_answer text = rafttwine_text(texts->bytes, texts->length, texts->bytes, texts->length, number);
+    if (factor != RAFTTWINE_FACTOR_ONE) snprintf(times, sizeof times, " x %u.%03u", factor / 1000, factor % 1000);
     if (text.number == RAFTTWINE_DONE)
-        snprintf(what, sizeof what, "%.*s", (int)text.length, (const char *)texts->bytes + text.place);
+        snprintf(what, sizeof what, "%.*s%s", (int)text.length, (const char *)texts->bytes + text.place, times);
     else
-        snprintf(what, sizeof what, "Text %lu", (unsigned long)number);
+        snprintf(what, sizeof what, "Text %lu%s", (unsigned long)number, times);
     print_amount(what, number_at(line + 6, 8), currency);
 }
 
 static void print_price(const packed *book, const packed *texts, const packed *asked) {
-    uint8_t lines[RAFTTWINE_MOST_LINES * RAFTTWINE_LINE_BYTES];
+    uint8_t lines[RAFTTWINE_MOST_PRICE_BYTES];
     rafttwine_price_answer price =
         rafttwine_price(book->bytes, book->length, asked->bytes, asked->length, lines, sizeof lines);
     if (price.number != RAFTTWINE_DONE) {
@@ -202,7 +219,7 @@ static void print_price(const packed *book, const packed *texts, const packed *a
     print_amount("One piece", price.unit, price.currency);
     print_amount("All pieces", price.total, price.currency);
     for (int at = 0; at < GRANTED; at++)
-        if (price.unused >> at & 1) printf("  No price line for %s\n", granted[at]);
+        if (price.unused >> at & 1) printf("  No price line for %s\n", granted[at].name);
 }
 
 /* One answer of a basket: its fields stand as the header lists them. Returns where the next question's lines start. */
@@ -252,7 +269,7 @@ static void print_calendar(const packed *book, const packed *asked, uint32_t end
 
 /* A book of a maker's own price file, which has no article records: they stand in front. Reports a bad line, and then returns false. */
 static int read_file(packed *book, const char *article, const char *file) {
-    *book = start();
+    *book = start(PLAIN);
     add_article(book, article);
     rafttwine_placed read = rafttwine_read_prices((const uint8_t *)file, strlen(file), book->bytes + book->length,
                                                   sizeof book->bytes - book->length);

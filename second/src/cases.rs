@@ -5,7 +5,8 @@
 
 use crate::basket::ANSWER_LENGTH;
 use crate::days::{day_before, is_day, next_day, period};
-use crate::make::{self, latin1, Article, Packaging, Price, Property, Question, Record, Rounding, Scheme, TextRecord};
+use crate::make::{self, latin1, Article, Granted, Packaging, Price, Property, Question, Record, Rounding, Scheme, TextRecord};
+use crate::price::LINE_LENGTH;
 use crate::random::Random;
 use crate::reader::LONGEST_BOOK;
 
@@ -197,7 +198,7 @@ impl Case {
 
 // Every value of every byte.
 
-/// A small case with a record of every kind, on which every call succeeds.
+/// A small case with a record of every kind and questions of both versions, on which every call succeeds.
 pub fn plain_case() -> Case {
     Case {
         book: vec![
@@ -210,12 +211,15 @@ pub fn plain_case() -> Case {
             Packaging::new("*", "OAK").value(5, 6).value(7, 7).into(),
             Scheme::new("S1", "/", "_").characters(b'#', b'+').trim(1).into(),
         ],
-        question: Question::new("A1", 20240228).granted(&["oak", "Ash"]).valued(3, "V").hidden(2).unselected(1),
+        question: Question::new("A1", 20240228).factored(&[("oak", 1_500), ("Ash", 250)]).valued(3, "V").hidden(2).unselected(1),
         end: 20240301,
         asked: vec![TextRecord::new(1, b"one"), TextRecord::new(2, b"two")],
         fallback: vec![TextRecord::new(3, b""), TextRecord::new(1, b"uno")],
         text_number: 1,
-        basket: vec![Question::new("A1", 20240229).granted(&["elm"]).hidden(1), Question::new("A2", 20240229)],
+        basket: vec![
+            Question::new("A1", 20240229).granted(&["elm"]).hidden(1),
+            Question::new("A2", 20240229).factored(&[("elm", 10_000)]),
+        ],
         damages: Vec::new(),
         rooms: Rooms {
             price: Room::Longer(30),
@@ -227,24 +231,29 @@ pub fn plain_case() -> Case {
     }
 }
 
-/// The plain case with one byte of one input changed, for every byte and every other value.
+/// The plain case with one byte of one input changed, for every byte and every other value; then the same of its question in
+/// version 1.
 pub fn sweep() -> impl Iterator<Item = Case> {
     let plain = plain_case();
-    let inputs = plain.inputs();
-    let targets = [
-        (Target::Book, inputs.book.len()),
-        (Target::Question, inputs.question.len()),
-        (Target::Asked, inputs.asked.len()),
-        (Target::Fallback, inputs.fallback.len()),
-        (Target::Basket, inputs.basket.len()),
-    ];
-    targets.into_iter().flat_map(move |(target, length)| {
-        let plain = plain.clone();
-        (0..length * 256).map(move |step| {
-            let (place, mask) = (step / 256, (step % 256) as u8);
-            let damages = vec![(target, Damage::Change { place, mask })];
-            Case { damages, ..plain.clone() }
-        })
+    let targets = [Target::Book, Target::Question, Target::Asked, Target::Fallback, Target::Basket];
+    let of_version_1 = Case { question: plain.question.clone().granted(&["oak", "Ash"]).version(1), ..plain.clone() };
+    targets.into_iter().flat_map(move |target| swept(plain.clone(), target)).chain(swept(of_version_1, Target::Question))
+}
+
+fn swept(case: Case, target: Target) -> impl Iterator<Item = Case> {
+    let inputs = case.inputs();
+    let length = match target {
+        Target::Book => inputs.book.len(),
+        Target::Question => inputs.question.len(),
+        Target::Asked => inputs.asked.len(),
+        Target::Fallback => inputs.fallback.len(),
+        Target::Program => inputs.program.len(),
+        Target::InBasket(_) | Target::Basket => inputs.basket.len(),
+    };
+    (0..length * 256).map(move |step| {
+        let (place, mask) = (step / 256, (step % 256) as u8);
+        let damages = vec![(target, Damage::Change { place, mask })];
+        Case { damages, ..case.clone() }
     })
 }
 
@@ -295,6 +304,9 @@ const CENTS: [i32; 20] =
 const HUNDREDTHS: [i32; 18] =
     [0, 1, -1, 99, 100, -100, 333, -333, 1250, 2500, -2500, 5000, -5000, 9_999, 10_000, -10_000, 100_000, -100_000];
 
+/// At the ends and next to them, at what changes nothing and next to it, and some that make halves.
+const FACTORS: [u16; 12] = [0, 1, 2, 500, 999, 1_000, 1_000, 1_001, 1_500, 2_500, 9_999, 10_000];
+
 const STEPS: [u32; 11] = [1, 2, 3, 5, 10, 50, 99, 100, 1000, 999_999, 1_000_000];
 
 const ADDS: [i32; 12] = [0, 0, 0, 0, 1, -1, 5, -5, 50, -50, 1_000_000, -1_000_000];
@@ -344,9 +356,11 @@ impl Scene {
     }
 
     fn case(mut self) -> Case {
-        let granted = self.granted();
+        let version = self.version();
+        let granted = self.granted(version);
         let mut book = self.book();
         let mut question = Question {
+            version,
             article: self.article.clone(),
             sort: self.sort,
             currency: self.asked_currency(),
@@ -365,7 +379,7 @@ impl Scene {
             }
         }
         let text_number = self.random.pick(&TEXT_NUMBERS);
-        let (price, calendar, list, number) = (self.room(14 * 40), self.room(20 * 40), self.room(40), self.room(200));
+        let (price, calendar, list, number) = (self.room(LINE_LENGTH * 40), self.room(20 * 40), self.room(40), self.room(200));
         let mut basket = self.basket();
         if self.random.percent(14) {
             self.damage_basket(&mut basket, &mut damages);
@@ -380,9 +394,13 @@ impl Scene {
         self.random.weighted(&[(40, Room::Exact), (12, Room::OneShort), (3, Room::Empty), (30, longer), (15, any)])
     }
 
-    // Names.
+    // Names and factors.
 
-    fn granted(&mut self) -> Vec<Vec<u8>> {
+    fn version(&mut self) -> u8 {
+        self.random.pick(&[1, 2])
+    }
+
+    fn granted(&mut self, version: u8) -> Vec<Granted> {
         let count = match self.random.below(20) {
             0..=2 => 0,
             3..=6 => 1,
@@ -395,16 +413,28 @@ impl Scene {
             // Enough different names, so that there can be a line at each place.
             self.names.extend((0..32).map(|n| latin1(&format!("N{n}"))));
         }
-        (0..count).map(|_| self.granted_name()).collect()
+        (0..count).map(|_| self.granted_name(version)).collect()
     }
 
-    fn granted_name(&mut self) -> Vec<u8> {
+    fn granted_name(&mut self, version: u8) -> Granted {
         let name = match self.random.below(20) {
             0..=15 => self.random.pick(&self.names),
             16..=18 => latin1(self.random.pick(&NAMES)),
             _ => latin1(self.random.pick(&UNKNOWN_NAMES)),
         };
-        self.recased(&name)
+        let granted = Granted::new(self.recased(&name));
+        match version {
+            1 => granted,
+            _ => Granted { factor: self.factor(), ..granted },
+        }
+    }
+
+    fn factor(&mut self) -> u16 {
+        match self.random.below(10) {
+            0..=3 => self.random.between(0, 10_000) as u16,
+            4..=6 if self.theme == Theme::Limit => 10_000,
+            _ => self.random.pick(&FACTORS),
+        }
     }
 
     /// The same name once raised, but with some letters small.
@@ -607,7 +637,8 @@ impl Scene {
         let sign = self.random.pick(&[1, -1]);
         let last = self.random.pick(&[-1, 0, 0, 1]);
         let rule = self.random.pick(&[1, 2]);
-        let with_names = self.random.percent(20);
+        let way = self.random.below(10);
+        let name = self.random.pick(&self.names);
         let row = |level: u8, fixed: u8, value: i32| Price {
             article: self.article.clone(),
             sort: self.sort,
@@ -617,15 +648,14 @@ impl Scene {
             to: 99991231,
             ..Price::fixed("", level, value)
         };
-        records.push(row(b'B', 1, sign * 100_000_000).into());
-        if with_names {
-            for n in 0..9 {
-                let part = row(b'B', 1, sign * 100_000_000);
-                records.push(part.condition(&format!("N{n}")).into());
-            }
-        } else {
-            records.push(row(b'X', 0, 90_000).into());
+        let mut tenth = row(b'B', 1, sign * 100_000_000);
+        match way {
+            0 | 1 => records.extend((0..9).map(|n| tenth.clone().condition(&format!("N{n}")).into())),
+            // Comes to the bound by itself, if the name is granted with the greatest factor.
+            2 | 3 => tenth.condition = name,
+            _ => records.push(row(b'X', 0, 90_000).into()),
         }
+        records.push(tenth.into());
         records.push(row(b'D', 1, sign * last).into());
     }
 
@@ -782,9 +812,12 @@ impl Scene {
     }
 
     fn basket_question(&mut self) -> Question {
-        let granted = self.granted();
-        let properties = if self.random.percent(20) { self.properties() } else { Vec::new() };
-        Question { granted, properties, ..self.short_question() }
+        let mut question = self.short_question();
+        question.granted = self.granted(question.version);
+        if self.random.percent(20) {
+            question.properties = self.properties();
+        }
+        question
     }
 
     /// A question about the case's rows, or next to them, that grants one name at most.
@@ -792,13 +825,15 @@ impl Scene {
         let sort = if self.random.percent(95) { self.sort } else { self.random.pick(b"SP") };
         let date = if self.random.percent(50) { self.date } else { self.random.pick(&self.days) };
         let quantity = if self.random.percent(60) { self.quantity } else { self.random.pick(&[1, 2, 9, 10, 11, 99_999, 100_000]) };
+        let version = self.version();
         Question {
+            version,
             article: self.row_article(),
             sort,
             currency: self.asked_currency(),
             date,
             quantity,
-            granted: (0..self.random.below(2)).map(|_| self.granted_name()).collect(),
+            granted: (0..self.random.below(2)).map(|_| self.granted_name(version)).collect(),
             properties: Vec::new(),
         }
     }
@@ -808,7 +843,7 @@ impl Scene {
         if self.random.percent(8) {
             return Room::Any(questions * ANSWER_LENGTH);
         }
-        self.room(6 * ANSWER_LENGTH + 14 * 40)
+        self.room(6 * ANSWER_LENGTH + LINE_LENGTH * 40)
     }
 
     // Damage.
@@ -889,7 +924,7 @@ impl Scene {
             4 | 5 => Damage::Change { place, mask: 1 << self.random.below(8) },
             6 => Damage::Insert { place, byte },
             7 => Damage::Remove { place },
-            8 => Damage::SetVersion(self.random.pick(&[0, 2, 255])),
+            8 => Damage::SetVersion(self.random.pick(&[0, 1, 2, 2, 3, 255])),
             _ => {
                 let small = self.random.below(64) as u32;
                 let lengths = [small, 0, 4, 5, u32::MAX, 1 << 31, 1 << 24, 4_194_304];
@@ -1024,7 +1059,11 @@ impl Scene {
     }
 
     fn spoil_question(&mut self, question: &mut Question) {
-        match self.random.below(12) {
+        if question.version == 2 && !question.granted.is_empty() && self.random.percent(50) {
+            self.spoil_factor(&mut question.granted);
+            return;
+        }
+        match self.random.below(13) {
             0 => self.spoil_name(&mut question.article, 1, 40),
             1 => question.sort = self.random.pick(b"sB\0"),
             2 => {
@@ -1033,20 +1072,33 @@ impl Scene {
             }
             3 => question.date = self.random.pick(&NO_DAYS),
             4 => question.quantity = self.random.pick(&[0, 100_001, 100_000, u32::MAX]),
-            5 => question.granted = vec![latin1("OAK"); self.random.between(32, 34)],
+            5 => question.granted = vec![Granted::new(latin1("OAK")); self.random.between(32, 34)],
             6 => {
                 let property = self.property();
                 question.properties = vec![property; self.random.between(32, 34)];
             }
             7 if !question.granted.is_empty() => {
                 let place = self.random.below(question.granted.len());
-                self.spoil_name(&mut question.granted[place], 1, 20);
+                self.spoil_name(&mut question.granted[place].name, 1, 20);
             }
+            8 => question.version = self.random.pick(&[0, 3, 255]),
             _ if !question.properties.is_empty() => {
                 let place = self.random.below(question.properties.len());
                 self.spoil_property(&mut question.properties[place]);
             }
             _ => question.date = self.random.pick(&NO_DAYS),
+        }
+    }
+
+    /// Puts a factor out of range, or at its end, behind one of the names, or behind a repeat of it, which has to be looked at as well.
+    fn spoil_factor(&mut self, granted: &mut Vec<Granted>) {
+        let place = self.random.below(granted.len());
+        let factor = self.random.pick(&[10_000, 10_001, 10_001, 10_002, 1 << 14, i16::MAX as u16, 1 << 15, u16::MAX]);
+        if granted.len() < 32 && self.random.percent(40) {
+            let name = self.recased(&granted[place].name);
+            granted.insert(self.random.between(place + 1, granted.len()), Granted { name, factor });
+        } else {
+            granted[place].factor = factor;
         }
     }
 

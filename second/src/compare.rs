@@ -5,6 +5,7 @@ use crate::basket::{parts, Part, ANSWER_LENGTH};
 use crate::calendar::{stretches, STRETCH_LENGTH};
 use crate::calls::{Calls, Second};
 use crate::cases::{Case, Inputs};
+use crate::price::LINE_LENGTH;
 use crate::refusal::BAD_ROW;
 
 #[derive(Debug, Clone, Copy, PartialEq, Eq)]
@@ -141,8 +142,8 @@ impl Plan {
         let mut out = [0; ROOM_FOR_ALL];
         let priced = Second.price(&inputs.book, &inputs.question, &mut out);
         let lines = match priced.number {
-            0 => priced.lines as usize * 14,
-            _ => ROOM_OF_THE_REFUSED * 14,
+            0 => priced.lines as usize * LINE_LENGTH,
+            _ => ROOM_OF_THE_REFUSED * LINE_LENGTH,
         };
         let written = Second.final_number(&inputs.book, &inputs.question, &mut out);
         let number = match written.number {
@@ -235,7 +236,7 @@ pub fn run(call: Call, calls: &dyn Calls, inputs: &Inputs, sizes: Sizes) -> Outc
 pub fn broken_promise(outcome: &Outcome) -> Option<&'static str> {
     let number = outcome.answer.number();
     let (empty, bytes_written, records_written) = match outcome.answer {
-        Answer::Price(answer) => (answer == PriceAnswer::refused(number), answer.lines as usize * 14, 0),
+        Answer::Price(answer) => (answer == PriceAnswer::refused(number), answer.lines as usize * LINE_LENGTH, 0),
         Answer::Calendar(answer) => (answer == CalendarAnswer::refused(number), answer.length as usize, answer.length as usize),
         Answer::Written(answer) => (answer == Written::refused(number), answer.length as usize, 0),
         Answer::Placed(answer) => (answer == placed_beside(&answer), answer.length as usize, 0),

@@ -25,6 +25,10 @@ impl Fraction {
         )
     }
 
+    pub fn times(self, factor: i128) -> Self {
+        Fraction::over(self.numerator * factor, self.denominator)
+    }
+
     pub fn divided_by(self, divisor: i128) -> Self {
         Fraction::over(self.numerator, self.denominator * divisor)
     }

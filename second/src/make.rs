@@ -3,6 +3,8 @@
 //! Nothing is checked here: a test may ask for a value that breaks the layout and gets it
 //! written all the same.
 
+use crate::question::FACTOR_OF_ONE;
+
 /// One record of a price book.
 #[derive(Debug, Clone, PartialEq, Eq)]
 pub enum Record {
@@ -69,13 +71,21 @@ pub struct Scheme {
 
 #[derive(Debug, Clone, PartialEq, Eq)]
 pub struct Question {
+    pub version: u8,
     pub article: Vec<u8>,
     pub sort: u8,
     pub currency: [u8; 3],
     pub date: u32,
     pub quantity: u32,
-    pub granted: Vec<Vec<u8>>,
+    pub granted: Vec<Granted>,
     pub properties: Vec<Property>,
+}
+
+/// A granted name, and the factor that version 2 writes behind it.
+#[derive(Debug, Clone, PartialEq, Eq)]
+pub struct Granted {
+    pub name: Vec<u8>,
+    pub factor: u16,
 }
 
 #[derive(Debug, Clone, PartialEq, Eq)]
@@ -103,17 +113,17 @@ fn put_name(bytes: &mut Vec<u8>, name: &[u8]) {
 }
 
 /// Puts the length of the whole and the version in front.
-fn whole(content: &[u8]) -> Vec<u8> {
+fn whole(version: u8, content: &[u8]) -> Vec<u8> {
     let mut bytes = Vec::with_capacity(content.len() + 5);
     bytes.extend((content.len() as u32 + 5).to_be_bytes());
-    bytes.push(1);
+    bytes.push(version);
     bytes.extend(content);
     bytes
 }
 
 pub fn book(records: &[Record]) -> Vec<u8> {
     let content: Vec<u8> = records.iter().flat_map(Record::bytes).collect();
-    whole(&content)
+    whole(1, &content)
 }
 
 pub fn question(question: &Question) -> Vec<u8> {
@@ -124,8 +134,11 @@ pub fn question(question: &Question) -> Vec<u8> {
     content.extend(question.date.to_be_bytes());
     content.extend(question.quantity.to_be_bytes());
     content.push(question.granted.len() as u8);
-    for name in &question.granted {
-        put_name(&mut content, name);
+    for granted in &question.granted {
+        put_name(&mut content, &granted.name);
+        if question.version != 1 {
+            content.extend(granted.factor.to_be_bytes());
+        }
     }
     content.push(question.properties.len() as u8);
     for property in &question.properties {
@@ -133,7 +146,7 @@ pub fn question(question: &Question) -> Vec<u8> {
         content.push(property.state);
         put_name(&mut content, &property.value);
     }
-    whole(&content)
+    whole(question.version, &content)
 }
 
 /// Questions laid end to end.
@@ -148,7 +161,7 @@ pub fn text_book(records: &[TextRecord]) -> Vec<u8> {
         content.extend((record.text.len() as u16).to_be_bytes());
         content.extend(&record.text);
     }
-    whole(&content)
+    whole(1, &content)
 }
 
 impl Record {
@@ -354,9 +367,10 @@ impl Scheme {
 }
 
 impl Question {
-    /// Asks for one piece in euros at the sale price, with nothing granted.
+    /// Asks for one piece in euros at the sale price, with nothing granted, in version 1.
     pub fn new(article: &str, date: u32) -> Self {
         Question {
+            version: 1,
             article: latin1(article),
             sort: b'S',
             currency: *b"EUR",
@@ -382,9 +396,20 @@ impl Question {
         self
     }
 
-    pub fn granted(mut self, names: &[&str]) -> Self {
-        self.granted = names.iter().map(|name| latin1(name)).collect();
+    pub fn version(mut self, version: u8) -> Self {
+        self.version = version;
         self
+    }
+
+    pub fn granted(mut self, names: &[&str]) -> Self {
+        self.granted = names.iter().map(|name| Granted::new(latin1(name))).collect();
+        self
+    }
+
+    /// Grants names with factors, which takes version 2.
+    pub fn factored(mut self, names: &[(&str, u16)]) -> Self {
+        self.granted = names.iter().map(|(name, factor)| Granted { name: latin1(name), factor: *factor }).collect();
+        self.version(2)
     }
 
     pub fn valued(self, width: u8, value: &str) -> Self {
@@ -406,6 +431,13 @@ impl Question {
 
     pub fn bytes(&self) -> Vec<u8> {
         question(self)
+    }
+}
+
+impl Granted {
+    /// A name whose factor changes nothing.
+    pub fn new(name: Vec<u8>) -> Self {
+        Granted { name, factor: FACTOR_OF_ONE }
     }
 }
 

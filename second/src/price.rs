@@ -4,10 +4,10 @@ use crate::answers::PriceAnswer;
 use crate::book::{Book, PriceRow, Rounding, Rule, Value, Way};
 use crate::days::is_day;
 use crate::fraction::Fraction;
-use crate::question::Question;
+use crate::question::{Question, FACTOR_OF_ONE};
 use crate::refusal::{BAD_BOOK, BAD_QUESTION, DONE, NO_ARTICLE, NO_BASE_LINE, OTHER_CURRENCY, TOO_LITTLE_ROOM, TOTAL_OUT_OF_RANGE};
 
-pub const LINE_LENGTH: usize = 14;
+pub const LINE_LENGTH: usize = 16;
 
 const GREATEST_TOTAL: i128 = 1_000_000_000;
 
@@ -17,6 +17,17 @@ struct Chosen<'a> {
     row: &'a PriceRow,
     /// Place of its granted name, 0 for none.
     place: u8,
+    /// Factor of its granted name, in thousandths.
+    factor: u16,
+}
+
+/// What the amount of a line is worked out from.
+#[derive(Debug, Clone, Copy)]
+pub struct Reckoning {
+    /// What the row comes to by itself.
+    pub of_row: Fraction,
+    pub factor: u16,
+    pub rounding: Rounding,
 }
 
 #[derive(Debug, Clone, Copy)]
@@ -25,6 +36,7 @@ pub struct Line {
     pub level: u8,
     pub place: u8,
     pub amount: i64,
+    pub factor: u16,
 }
 
 /// A day's price.
@@ -55,8 +67,13 @@ fn try_price(book: &[u8], question: &[u8], out: &mut [u8]) -> Result<PriceAnswer
 
 /// The answer to a question and the bytes of its lines, or one of the refusals 3 to 6.
 pub fn answered(book: &Book, question: &Question) -> Result<(PriceAnswer, Vec<u8>), u8> {
+    answered_by(Reckoning::amount, book, question)
+}
+
+/// The same with any way to come to an amount: tests have wrong ones, to see them noticed.
+pub fn answered_by(amount: fn(&Reckoning) -> i128, book: &Book, question: &Question) -> Result<(PriceAnswer, Vec<u8>), u8> {
     book.article(&question.article).ok_or(NO_ARTICLE)?;
-    let priced = price_on(book, question, question.date)?;
+    let priced = priced_by(amount, book, question, question.date)?;
     let lines = priced.lines.iter().flat_map(|line| line.bytes()).collect();
 
     let mut unused = 0;
@@ -86,6 +103,7 @@ impl Line {
         bytes.push(self.level);
         bytes.push(self.place);
         bytes.extend(self.amount.to_be_bytes());
+        bytes.extend(self.factor.to_be_bytes());
         bytes
     }
 }
@@ -93,6 +111,10 @@ impl Line {
 /// Prices the question's article as if the question's date were `date`. The book is known to
 /// have the article.
 pub fn price_on(book: &Book, question: &Question, date: u32) -> Result<Priced, u8> {
+    priced_by(Reckoning::amount, book, question, date)
+}
+
+fn priced_by(amount: fn(&Reckoning) -> i128, book: &Book, question: &Question, date: u32) -> Result<Priced, u8> {
     let listing = listing(book, question, date);
     let first_base = listing.iter().find(|chosen| chosen.row.level == b'B').ok_or(NO_BASE_LINE)?;
     let currency = first_base.row.currency;
@@ -109,13 +131,14 @@ pub fn price_on(book: &Book, question: &Question, date: u32) -> Result<Priced, u
     let mut running: i128 = 0;
     for chosen in &listing {
         let base_sum: i128 = lines.iter().filter(|line| line.level == b'B').map(|line| i128::from(line.amount)).sum();
-        let exact = exact_amount(chosen.row, base_sum, running);
-        let amount = round(exact, rounding_of(book, chosen.row));
+        let Chosen { row, place, factor } = *chosen;
+        let reckoning = Reckoning { of_row: amount_of_row(row, base_sum, running), factor, rounding: rounding_of(book, row) };
+        let amount = amount(&reckoning);
         running += amount;
         if !(-GREATEST_TOTAL..=GREATEST_TOTAL).contains(&running) {
             return Err(TOTAL_OUT_OF_RANGE);
         }
-        lines.push(Line { text: chosen.row.text, level: chosen.row.level, place: chosen.place, amount: amount as i64 });
+        lines.push(Line { text: row.text, level: row.level, place, amount: amount as i64, factor });
     }
     Ok(Priced { lines, unit: running as i64, currency })
 }
@@ -126,12 +149,11 @@ fn listing<'a>(book: &'a Book, question: &Question, date: u32) -> Vec<Chosen<'a>
     let mut listing = Vec::new();
     for level in *b"BXD" {
         if let Some(row) = choose(book, question, date, level, b"") {
-            listing.push(Chosen { row, place: 0 });
+            listing.push(Chosen { row, place: 0, factor: FACTOR_OF_ONE });
         }
         for name in &granted {
             if let Some(row) = choose(book, question, date, level, &name.name) {
-                let place = name.place;
-                listing.push(Chosen { row, place });
+                listing.push(Chosen { row, place: name.place, factor: name.factor });
             }
         }
     }
@@ -186,7 +208,7 @@ fn quantity_rank(row: &PriceRow) -> u64 {
     }
 }
 
-fn exact_amount(row: &PriceRow, base_sum: i128, running: i128) -> Fraction {
+fn amount_of_row(row: &PriceRow, base_sum: i128, running: i128) -> Fraction {
     match row.value {
         Value::Fixed(cents) => Fraction::whole(i128::from(cents)),
         Value::Percent(hundredths) => {
@@ -199,13 +221,26 @@ fn exact_amount(row: &PriceRow, base_sum: i128, running: i128) -> Fraction {
     }
 }
 
+/// To whole cents, with nothing added.
+pub const PLAIN: Rounding = Rounding { number: 0, way: Way::Commercial, step: 1, add_before: 0, add_after: 0 };
+
 fn rounding_of(book: &Book, row: &PriceRow) -> Rounding {
-    let plain = Rounding { number: 0, way: Way::Commercial, step: 1, add_before: 0, add_after: 0 };
     // Number 0 is in no book, so it finds nothing either.
-    book.rounding(row.rounding).copied().unwrap_or(plain)
+    book.rounding(row.rounding).copied().unwrap_or(PLAIN)
 }
 
-fn round(exact: Fraction, rounding: Rounding) -> i128 {
+impl Reckoning {
+    /// The amount before it is rounded.
+    pub fn exact(&self) -> Fraction {
+        self.of_row.times(i128::from(self.factor)).divided_by(i128::from(FACTOR_OF_ONE))
+    }
+
+    pub fn amount(&self) -> i128 {
+        round(self.exact(), self.rounding)
+    }
+}
+
+pub fn round(exact: Fraction, rounding: Rounding) -> i128 {
     let step = i128::from(rounding.step);
     let steps = exact.plus(Fraction::whole(i128::from(rounding.add_before))).divided_by(step);
     let whole_steps = match rounding.way {

@@ -1,7 +1,12 @@
 //! The question, read whole for every call.
 
 use crate::days::is_day;
-use crate::reader::{opened, Reader};
+use crate::reader::{begun, Reader};
+
+/// Factors are told in thousandths. This one leaves an amount as it is, and holds where none is told.
+pub const FACTOR_OF_ONE: u16 = 1_000;
+
+const GREATEST_FACTOR: u16 = 10_000;
 
 #[derive(Debug, Clone)]
 pub struct Question {
@@ -11,8 +16,7 @@ pub struct Question {
     pub currency: Option<[u8; 3]>,
     pub date: u32,
     pub quantity: u32,
-    /// As sent, capitals not yet raised.
-    pub granted: Vec<Vec<u8>>,
+    pub granted: Vec<Sent>,
     pub properties: Vec<Property>,
 }
 
@@ -29,6 +33,13 @@ pub enum State {
     Unselected,
 }
 
+/// A granted name as sent, its letters not yet raised.
+#[derive(Debug, Clone, PartialEq, Eq)]
+pub struct Sent {
+    pub name: Vec<u8>,
+    pub factor: u16,
+}
+
 /// A granted name that is not a repeat.
 #[derive(Debug, Clone, PartialEq, Eq)]
 pub struct Granted {
@@ -36,6 +47,8 @@ pub struct Granted {
     pub place: u8,
     /// With small letters raised.
     pub name: Vec<u8>,
+    /// The one at this place; those of its repeats count for nothing.
+    pub factor: u16,
 }
 
 pub fn question_ok(bytes: &[u8]) -> bool {
@@ -44,7 +57,8 @@ pub fn question_ok(bytes: &[u8]) -> bool {
 
 impl Question {
     pub fn read(bytes: &[u8]) -> Option<Question> {
-        let mut reader = opened(bytes)?;
+        let (mut reader, version) = begun(bytes)?;
+        let has_factors = has_factors(version)?;
         let article = reader.name(1, 40)?;
         let sort = reader.one_of(b"SP")?;
         let currency = match reader.array::<3>()? {
@@ -57,7 +71,7 @@ impl Question {
         if !is_day(date) || !(1..=100_000).contains(&quantity) {
             return None;
         }
-        let granted = read_list(&mut reader, |reader| reader.name(1, 20))?;
+        let granted = read_list(&mut reader, |reader| read_granted(reader, has_factors))?;
         let properties = read_list(&mut reader, read_property)?;
         reader.at_end().then_some(Question { article, sort, currency, date, quantity, granted, properties })
     }
@@ -66,10 +80,10 @@ impl Question {
     pub fn granted_once(&self) -> Vec<Granted> {
         let mut once: Vec<Granted> = Vec::new();
         for (index, sent) in self.granted.iter().enumerate() {
-            let name = sent.to_ascii_uppercase();
+            let name = sent.name.to_ascii_uppercase();
             if once.iter().all(|earlier| earlier.name != name) {
                 let place = index as u8 + 1;
-                once.push(Granted { place, name });
+                once.push(Granted { place, name, factor: sent.factor });
             }
         }
         once
@@ -83,6 +97,21 @@ fn read_list<T>(reader: &mut Reader, read_entry: impl Fn(&mut Reader) -> Option<
         return None;
     }
     (0..count).map(|_| read_entry(reader)).collect()
+}
+
+/// Whether each granted name of a question of this version has a factor behind it; `None` if there is no such version.
+fn has_factors(version: u8) -> Option<bool> {
+    match version {
+        1 => Some(false),
+        2 => Some(true),
+        _ => None,
+    }
+}
+
+fn read_granted(reader: &mut Reader, has_factor: bool) -> Option<Sent> {
+    let name = reader.name(1, 20)?;
+    let factor = if has_factor { reader.u16()? } else { FACTOR_OF_ONE };
+    (factor <= GREATEST_FACTOR).then_some(Sent { name, factor })
 }
 
 fn read_property(reader: &mut Reader) -> Option<Property> {

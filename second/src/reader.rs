@@ -78,13 +78,19 @@ pub fn is_name_byte(byte: u8) -> bool {
     (32..=126).contains(&byte) || (160..=255).contains(&byte)
 }
 
-/// Reads what books, questions and text books begin with: the length of the whole and the
-/// version. The reader then stands behind the version.
-pub fn opened(bytes: &[u8]) -> Option<Reader<'_>> {
+/// Reads what books, questions and text books begin with: the length of the whole and the version,
+/// which is handed back. The reader then stands behind it.
+pub fn begun(bytes: &[u8]) -> Option<(Reader<'_>, u8)> {
     let mut reader = Reader::new(bytes);
     let length = reader.u32()?;
     let version = reader.byte()?;
-    (u64::from(length) == bytes.len() as u64 && version == 1).then_some(reader)
+    (u64::from(length) == bytes.len() as u64).then_some((reader, version))
+}
+
+/// The same for books and text books, which have one version only.
+pub fn opened(bytes: &[u8]) -> Option<Reader<'_>> {
+    let (reader, version) = begun(bytes)?;
+    (version == 1).then_some(reader)
 }
 
 /// Splits off the front part that begins with its own length; `None` if it is cut.

@@ -4,11 +4,13 @@ use std::time::{Duration, Instant};
 
 use crate::cases::Case;
 use crate::file_cases::FileCase;
+use crate::make::Question;
+use crate::question::FACTOR_OF_ONE;
 
 /// Very big cases take long to try; what is reached after this time is small enough.
 const LONGEST: Duration = Duration::from_secs(10);
 
-/// Leaves out records, names, properties, texts, questions of the basket and damages while `still` holds.
+/// Leaves out records, names, properties, texts, questions of the basket, damages and factors while `still` holds.
 pub fn shrunk(case: &Case, still: &dyn Fn(&Case) -> bool) -> Case {
     let started = Instant::now();
     let late = || started.elapsed() >= LONGEST;
@@ -25,14 +27,11 @@ pub fn shrunk(case: &Case, still: &dyn Fn(&Case) -> bool) -> Case {
         for place in 0..best.basket.len() {
             smaller |= drop_parts(&mut best, |case| &mut case.basket[place].granted, still, &late);
             smaller |= drop_parts(&mut best, |case| &mut case.basket[place].properties, still, &late);
+            smaller |= drop_factors(&mut best, |case| &mut case.basket[place], still);
         }
+        smaller |= drop_factors(&mut best, |case| &mut case.question, still);
         if best.end != best.question.date {
-            let mut one_day = best.clone();
-            one_day.end = one_day.question.date;
-            if still(&one_day) {
-                best = one_day;
-                smaller = true;
-            }
+            smaller |= change(&mut best, |case| case.end = case.question.date, still);
         }
         if !smaller || late() {
             return best;
@@ -55,6 +54,39 @@ pub fn shrunk_file(case: &FileCase, still: &dyn Fn(&FileCase) -> bool) -> FileCa
             return best;
         }
     }
+}
+
+/// Tries to do without the factors of a question: all at once, in version 1, else one by one.
+fn drop_factors(best: &mut Case, question: impl Fn(&mut Case) -> &mut Question, still: &dyn Fn(&Case) -> bool) -> bool {
+    if question(best).version == 1 {
+        return false;
+    }
+    let plainer = |case: &mut Case| {
+        let question = question(case);
+        question.version = 1;
+        question.granted.iter_mut().for_each(|granted| granted.factor = FACTOR_OF_ONE);
+    };
+    if change(best, plainer, still) {
+        return true;
+    }
+    let mut smaller = false;
+    for place in 0..question(best).granted.len() {
+        if question(best).granted[place].factor != FACTOR_OF_ONE {
+            smaller |= change(best, |case| question(case).granted[place].factor = FACTOR_OF_ONE, still);
+        }
+    }
+    smaller
+}
+
+/// Tries one change, and keeps it if `still` holds.
+fn change(best: &mut Case, change: impl Fn(&mut Case), still: &dyn Fn(&Case) -> bool) -> bool {
+    let mut candidate = best.clone();
+    change(&mut candidate);
+    let kept = still(&candidate);
+    if kept {
+        *best = candidate;
+    }
+    kept
 }
 
 /// Tries to leave out pieces of one list, great pieces first.

@@ -1,6 +1,7 @@
 //! Many questions at once: what stands where in the lent bytes, and what refuses the whole.
 
 use second::make::{self, Article, Price, Question, Record};
+use second::price::LINE_LENGTH;
 use second::{basket, price, Written};
 
 const PATTERN: u8 = 0xA5;
@@ -9,6 +10,9 @@ const DAY: u32 = 20240615;
 
 /// A question of an article with one letter, without names and properties.
 const SHORTEST: usize = 21;
+
+/// What the greatest basket takes: as many questions as may be, each with as many lines as there are.
+const GREATEST: usize = 200 * (33 + 99 * LINE_LENGTH);
 
 fn book(records: &[Record]) -> Vec<u8> {
     make::book(records)
@@ -46,7 +50,7 @@ fn joined(parts: &[&str]) -> String {
 
 /// What is written into ample room; the bytes behind it must be untouched.
 fn written(book: &[u8], questions: &[u8]) -> Result<Vec<u8>, u8> {
-    let mut out = vec![PATTERN; 300_000];
+    let mut out = vec![PATTERN; GREATEST + 5];
     let answer = basket(book, questions, &mut out);
     let end = answer.length as usize;
     assert!(out[end..].iter().all(|&byte| byte == PATTERN));
@@ -70,14 +74,16 @@ fn number(book: &[u8], questions: &[u8]) -> u8 {
 // The bytes of P1 with quantity 3, of P2, P3 and P4.
 
 const P1: &str = "00 0000000000002a7b 0000000000007f71 455552 0000000000000003 00000000 00";
-const P1_LINES: &str = "0000000b 42 00 0000000000002710  0000000d 58 01 00000000000004e2  0000000e 44 00 fffffffffffffe89";
+const P1_LINES: &str =
+    "0000000b 42 00 0000000000002710 03e8  0000000d 58 01 00000000000004e2 03e8  0000000e 44 00 fffffffffffffe89 03e8";
 
 /// With `ash` in front of `oak`, so that place 1 is unused and the surcharge has place 2.
 const P2: &str = "00 0000000000002c9c 0000000000002c9c 455552 0000000000000003 00000001 01";
-const P2_LINES: &str = "0000000c 42 00 0000000000002904  0000000d 58 02 0000000000000521  0000000e 44 00 fffffffffffffe77";
+const P2_LINES: &str =
+    "0000000c 42 00 0000000000002904 03e8  0000000d 58 02 0000000000000521 03e8  0000000e 44 00 fffffffffffffe77 03e8";
 
 const P3: &str = "00 00000000000025c3 00000000000025c3 455552 0000000000000002 00000000 00";
-const P3_LINES: &str = "0000000b 42 00 0000000000002710  0000000e 44 00 fffffffffffffeb3";
+const P3_LINES: &str = "0000000b 42 00 0000000000002710 03e8  0000000e 44 00 fffffffffffffeb3 03e8";
 
 const P4: &str = "04 0000000000000000 0000000000000000 000000 0000000000000000 00000000 00";
 
@@ -145,7 +151,7 @@ fn every_refusal_that_a_question_can_have() {
         Price::percent("BIG", b'X', 1, 90_001).into(),
     ]);
     let good = "00 0000000000000064 00000000000000c8 455552 0000000000000001 00000000 00";
-    let line = "00000001 42 00 0000000000000064";
+    let line = "00000001 42 00 0000000000000064 03e8";
     let zeros = "00".repeat(32);
     for (asked, refusal) in [("NIL", "03"), ("GAP", "04"), ("FAR", "05"), ("BIG", "06")] {
         // A name that brings no line is not told beside a refusal.
@@ -247,16 +253,16 @@ fn the_greatest_basket() {
     let names: Vec<&str> = names.iter().map(String::as_str).collect();
     let questions = vec![ask(DAY).granted(&names); 200];
     let bytes = written(&book(&records), &make::basket(&questions)).unwrap();
-    assert_eq!(bytes.len(), 200 * (33 + 99 * 14));
+    assert_eq!(bytes.len(), GREATEST);
 }
 
 #[test]
 fn room_for_all_answers_and_lines_together() {
     let k = book_k();
-    // Three answers, one of them of a refused question, and lines of 42 and 28 bytes.
+    // Three answers, one of them of a refused question, and lines of 48 and 32 bytes.
     let questions = make::basket(&[p1(), p4(), p3()]);
-    let needed = 3 * 33 + 42 + 28;
-    for room in [0, 1, 33, 99, 100, 141, needed - 1] {
+    let needed = 3 * 33 + 48 + 32;
+    for room in [0, 1, 33, 99, 100, 147, needed - 1] {
         let mut out = vec![PATTERN; room];
         assert_eq!(basket(&k, &questions, &mut out), refused(7), "{room}");
         assert!(out.iter().all(|&byte| byte == PATTERN));
@@ -295,7 +301,7 @@ fn each_answer_is_that_of_the_single_call() {
     let bytes = written(&book_k(), &make::basket(&questions)).unwrap();
     let mut lines_at = questions.len() * 33;
     for (question, told) in questions.iter().zip(bytes.chunks_exact(33)) {
-        let mut lines = [PATTERN; 99 * 14];
+        let mut lines = [PATTERN; 99 * LINE_LENGTH];
         let alone = price(&book_k(), &question.bytes(), &mut lines);
         assert_eq!(told[0], alone.number);
         assert_eq!(told[1..9], alone.unit.to_be_bytes());
@@ -304,7 +310,7 @@ fn each_answer_is_that_of_the_single_call() {
         assert_eq!(told[20..28], alone.lines.to_be_bytes());
         assert_eq!(told[28..32], alone.unused.to_be_bytes());
         assert_eq!(told[32], alone.unused_count);
-        let length = alone.lines as usize * 14;
+        let length = alone.lines as usize * LINE_LENGTH;
         assert_eq!(bytes[lines_at..lines_at + length], lines[..length]);
         lines_at += length;
     }

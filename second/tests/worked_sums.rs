@@ -1,15 +1,13 @@
 //! The sums worked by hand, the traps, and the edges of the layouts.
 
+mod lines;
+
+use lines::{amounts, lines_of, refused, unit, PATTERN};
 use second::make::{self, latin1, Article, Packaging, Price, Question, Record, Rounding, Scheme, TextRecord};
 use second::{
     book_ok, calendar, calendar_list, final_number, packaging, price, program, question_ok, text, text_book_ok, CalendarAnswer,
     PackagingAnswer, PriceAnswer, Stretch, TextAnswer, Written,
 };
-
-const PATTERN: u8 = 0xA5;
-
-/// A line as the tests read it: text number, level, place, amount.
-type Line = (u32, char, u8, i64);
 
 fn book<const N: usize>(records: [Record; N]) -> Vec<u8> {
     make::book(&records)
@@ -33,45 +31,6 @@ fn ask(date: u32) -> Question {
 
 const DAY: u32 = 20240615;
 
-/// Prices with a long buffer and reads back the lines; bytes behind them must be untouched.
-fn lines_of(book: &[u8], question: &Question) -> (PriceAnswer, Vec<Line>) {
-    let mut out = [PATTERN; 99 * 14 + 5];
-    let answer = price(book, &question.bytes(), &mut out);
-    let end = answer.lines as usize * 14;
-    assert!(out[end..].iter().all(|&byte| byte == PATTERN));
-    let lines = out[..end]
-        .chunks_exact(14)
-        .map(|line| {
-            (
-                u32::from_be_bytes(line[0..4].try_into().unwrap()),
-                char::from(line[4]),
-                line[5],
-                i64::from_be_bytes(line[6..14].try_into().unwrap()),
-            )
-        })
-        .collect();
-    (answer, lines)
-}
-
-fn amounts(book: &[u8], question: &Question) -> Vec<i64> {
-    lines_of(book, question).1.iter().map(|l| l.3).collect()
-}
-
-/// The unit total or the refusal.
-fn unit(book: &[u8], question: &Question) -> Result<i64, u8> {
-    let (answer, _) = lines_of(book, question);
-    if answer.number == 0 {
-        Ok(answer.unit)
-    } else {
-        assert_eq!(answer, refused(answer.number));
-        Err(answer.number)
-    }
-}
-
-fn refused(number: u8) -> PriceAnswer {
-    PriceAnswer { number, ..PriceAnswer::default() }
-}
-
 fn book_k() -> Vec<u8> {
     book([
         article("A1"),
@@ -88,16 +47,16 @@ fn book_k() -> Vec<u8> {
 fn p1_to_p4_book_k() {
     let k = book_k();
     let (answer, lines) = lines_of(&k, &ask(20240630).granted(&["oak"]).quantity(3));
-    assert_eq!(lines, [(11, 'B', 0, 10000), (13, 'X', 1, 1250), (14, 'D', 0, -375)]);
+    assert_eq!(lines, [(11, 'B', 0, 10000, 1000), (13, 'X', 1, 1250, 1000), (14, 'D', 0, -375, 1000)]);
     assert_eq!(
         answer,
         PriceAnswer { unit: 10875, total: 32625, lines: 3, unused: 0, unused_count: 0, number: 0, currency: *b"EUR" }
     );
     let (answer, lines) = lines_of(&k, &ask(20240701).granted(&["oak"]));
-    assert_eq!(lines, [(12, 'B', 0, 10500), (13, 'X', 1, 1313), (14, 'D', 0, -393)]);
+    assert_eq!(lines, [(12, 'B', 0, 10500, 1000), (13, 'X', 1, 1313, 1000), (14, 'D', 0, -393, 1000)]);
     assert_eq!(answer.unit, 11420);
     let (answer, lines) = lines_of(&k, &ask(20240630));
-    assert_eq!(lines, [(11, 'B', 0, 10000), (14, 'D', 0, -333)]);
+    assert_eq!(lines, [(11, 'B', 0, 10000, 1000), (14, 'D', 0, -333, 1000)]);
     assert_eq!(answer.unit, 9667);
     assert_eq!(unit(&k, &ask(20250101)), Err(4));
     assert_eq!(unit(&k, &ask(20250101).granted(&["oak"])), Err(4));
@@ -397,7 +356,8 @@ fn granted_names_are_raised_and_counted_once() {
     ]);
     let names = ["elm", "oak", "OAK", "Oak", "Ash", "elm", "\u{e4}", "\u{c4}", "nil"];
     let (answer, lines) = lines_of(&b, &ask(DAY).granted(&names));
-    assert_eq!(lines, [(0, 'B', 0, 100), (0, 'X', 2, 1), (0, 'X', 5, 3), (0, 'X', 8, 5), (0, 'X', 9, 0),]);
+    let shown: Vec<_> = lines.iter().map(|line| (line.1, line.2, line.3)).collect();
+    assert_eq!(shown, [('B', 0, 100), ('X', 2, 1), ('X', 5, 3), ('X', 8, 5), ('X', 9, 0)]);
     // The small umlaut is not raised, so it stays a name of its own without a line.
     assert_eq!(answer.unused, 0b0_0100_0001);
     assert_eq!(answer.unused_count, 2);
@@ -499,7 +459,7 @@ fn sort_and_article_keep_rows_apart() {
 fn room_for_lines() {
     let k = book_k();
     let question = ask(20240630).granted(&["oak"]).bytes();
-    for (room, number) in [(0, 7), (41, 7), (42, 0), (43, 0)] {
+    for (room, number) in [(0, 7), (42, 7), (47, 7), (48, 0), (49, 0)] {
         let mut out = vec![PATTERN; room];
         let answer = price(&k, &question, &mut out);
         assert_eq!(answer.number, number);
@@ -636,7 +596,7 @@ fn cut_program_input() {
     broken[4] = 2;
     assert_eq!(program(&broken[..k.len() + 2]), b"refusal 1\n");
     let mut broken = whole.clone();
-    broken[k.len() + 4] = 2;
+    broken[k.len() + 4] = 3;
     assert_eq!(program(&broken[..question_end + 1]), b"refusal 2\n");
     let mut short = whole.clone();
     short[k.len()..k.len() + 4].copy_from_slice(&4u32.to_be_bytes());
@@ -1096,7 +1056,7 @@ fn question_fields() {
         assert_eq!(with(&|q| q.date = date), expected, "{date}");
     }
     for (count, expected) in [(32, true), (33, false), (255, false)] {
-        assert_eq!(with(&|q| q.granted = vec![latin1("N"); count]), expected);
+        assert_eq!(with(&|q| q.granted = vec![make::Granted::new(latin1("N")); count]), expected);
         let property = make::Property { width: 1, state: 1, value: Vec::new() };
         assert_eq!(with(&|q| q.properties = vec![property.clone(); count]), expected);
     }

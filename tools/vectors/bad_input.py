@@ -19,6 +19,7 @@ from packer import article, book, number, price, property_, question, record, te
 
 FIRST_RECORD = (2, 5, 7)  # the length fields of the first record in a book, and of the first text in a text book
 FIRST_TEXT = (2, 9, 11)
+QUESTIONS = ("question", "least-question", "question-of-version-2", "least-question-of-version-2")
 
 
 def changed_everywhere():
@@ -29,6 +30,9 @@ def changed_everywhere():
     file.string("question", question(b"T\xfc100", granted=(b"oak", b"NIGHT BLUE"), properties=(
         property_(), property_(2, 1, b""), property_(3, 2, b""), property_(1, 0, b"\xd6"))))
     file.string("least-question", question(b"A", currency=bytes(3), date=10101, quantity=100_000))
+    file.string("question-of-version-2", question(b"A", granted=((b"oak", 10_000), (b"NIGHT BLUE", 0), (b"Oak", 999)), version=2,
+                                                  properties=(property_(), property_(2, 1, b""))))
+    file.string("least-question-of-version-2", question(b"A", version=2))
     file.string("texts", text_book(text_record(7, b"Table"), text_record(0, b""), text_record(TOP_32, bytes(range(250, 256)))))
     file.string("one-text", text_book(text_record(7, b"Eiche\nhell")))
 
@@ -39,7 +43,7 @@ def changed_everywhere():
         for one in KINDS:  # with both lengths right, only the body can tell
             file.change(kind, "book", one, (HEAD, FIRST_RECORD))
         file.sort(f"questions {words}")
-        for one in ("question", "least-question"):
+        for one in QUESTIONS:
             file.change(kind, "question", one)
             file.change(kind, "question", one, (HEAD,))
         file.sort(f"text books {words}")
@@ -50,8 +54,8 @@ def changed_everywhere():
     file.sort("books with one byte changed")
     file.each_byte("book", "five-kinds")
     file.sort("questions with one byte changed")
-    file.each_byte("question", "question")
-    file.each_byte("question", "least-question")
+    for one in QUESTIONS:
+        file.each_byte("question", one)
     file.sort("text books with one byte changed")
     file.each_byte("text_book", "texts")
 

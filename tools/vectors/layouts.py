@@ -1,12 +1,14 @@
 """Which bytes are a price book, a question or a text book, and what a text call answers.
 
-A second reading of the scope paper ("The price book", "Order number, cartons, line text"), made from the paper and the first
-part of docs/DECISIONS.md and from nothing else. It knows nothing of the library, and the library nothing of it: where the two
-differ on a case, one of them has misread the paper. It is plain rather than quick.
+A second reading of the scope paper ("The price book", "Order number, cartons, line text") and of the request for factors, made from
+the papers and the first part of docs/DECISIONS.md and from nothing else. It knows nothing of the library, and the library nothing of
+it: where the two differ on a case, one of them has misread the paper. It is plain rather than quick.
 """
 import datetime
 
 MOST_BYTES = 4_194_304
+
+MOST_FACTOR = 10_000  # in thousandths
 
 # What the text call answers with, beside 0.
 BROKEN_BOOK = 1
@@ -65,10 +67,10 @@ class Reader:
         need(allowed.issuperset(name), f"bytes of {what}")
         return name
 
-    def head(self):
-        """The length of the whole, which is that of the bytes lent, and version 1."""
+    def head(self, versions=(1,)):
+        """The length of the whole, which is that of the bytes lent, and the version, which is given back."""
         need(self.number(4) == len(self.data), "length of the whole")
-        need(self.number(1) == 1, "version")
+        return self.one_of(versions, "version")
 
     def done(self):
         need(self.left() == 0, "bytes left over")
@@ -172,7 +174,7 @@ def is_day(date):
 
 def question(data):
     reader = Reader(data)
-    reader.head()
+    version = reader.head(versions=(1, 2))
     reader.name(1, 40, "article")
     reader.one_of(b"SP", "sort")
     currency = reader.bytes(3)
@@ -183,6 +185,8 @@ def question(data):
     need(granted <= 32, "count of granted conditions")
     for _ in range(granted):
         reader.name(1, 20, "granted condition")
+        if version == 2:
+            need(reader.number(2) <= MOST_FACTOR, "factor of a granted condition")
     properties = reader.number(1)
     need(properties <= 32, "count of properties")
     for _ in range(properties):

@@ -5,6 +5,7 @@ A number given as `bytes` is put in as it stands; any other is written big-endia
 
 ALL_PRESENT = 0b11111111
 UNITS = b"MMT" b"MTQ" b"KGM"
+FACTOR = 1000
 
 
 def number(value, width):
@@ -58,10 +59,17 @@ def property_(width=4, state=0, value=b"OAK"):
     return number(width, 1) + number(state, 1) + name(value)
 
 
+def condition(value, factor=FACTOR):
+    """A granted condition of version 2: a name and its factor in thousandths."""
+    return name(value) + number(factor, 2)
+
+
 def question(article_=b"T100", sort=b"S", currency=b"EUR", date=20240630, quantity=1, granted=(), properties=(),
              granted_count=None, property_count=None, behind=b"", length=None, version=1):
+    """Each of `granted` is a name, which gets FACTOR in version 2, or a `condition` given as a tuple of name and factor."""
+    conditions = [condition(*one) if isinstance(one, tuple) else condition(one) if version == 2 else name(one) for one in granted]
     return whole([name(article_), sort, currency, number(date, 4), number(quantity, 4),
-                  number(len(granted) if granted_count is None else granted_count, 1), *map(name, granted),
+                  number(len(granted) if granted_count is None else granted_count, 1), *conditions,
                   number(len(properties) if property_count is None else property_count, 1), *properties, behind], length, version)
 
 

@@ -1,4 +1,4 @@
-"""Bounds of a question: its head, its fields, the granted conditions, the properties, and the calendar."""
+"""Bounds of a question: its head, its fields, the granted conditions and their factors, the properties, and the calendar."""
 from bounds import NAME_BYTES, TOP_32, capitals, file, length_field, names, numbers
 from packer import article, book, number, property_, question, whole
 
@@ -9,7 +9,10 @@ def question_frame():
     file.case("question", False, "no byte at all", b"")
     file.case("question", False, "a head alone", whole([]))
     file.case("question", True, "the shortest", question(b"A"))
-    file.choice("question", "version of a question", {1}, lambda v: question(version=v))
+    file.choice("question", "version of a question", {1, 2}, lambda v: question(version=v))
+    file.choice("question", "version where a condition has no factor", {1}, lambda v: with_version(question(granted=[b"OAK"]), v))
+    file.choice("question", "version where a condition has a factor", {2},
+                lambda v: with_version(question(granted=[(b"OAK", 1000)]), v))
     length_field("question", "length", good, 0, 4)
     length_field("question", "the shortest: length", question(b"A"), 0, 4)
     for more in (b"\0", b"\1", b"\0\0", b"\1\1\0", property_(), good):
@@ -18,6 +21,10 @@ def question_frame():
         file.case("question", False, f"{len(more)} bytes {more[:3].hex()} behind the whole", good + more)
     file.case("question", False, "a book", book(article()))
     file.case("question", False, "an empty book", book())
+
+
+def with_version(data, version):
+    return data[:4] + bytes([version]) + data[5:]
 
 
 def question_bounds():
@@ -45,6 +52,39 @@ def granted_bounds():
     file.choice("question", "count of 33 conditions", (), lambda v: question(granted=[b"OAK"] * 33, granted_count=v))
     file.choice("question", "count of no conditions", {0}, lambda v: question(granted_count=v))
     file.case("question", True, "32 conditions of 20 bytes", question(granted=[b"C" * 20] * 32))
+
+
+GOOD_FACTORS = (0, 1, 255, 256, 999, 1000, 1001, 9999, 10_000)
+BAD_FACTORS = (10_001, 10_002, 10_239, 10_240, 2 ** 14, 2 ** 15 - 1, 2 ** 15, 2 ** 15 + 1000, 2 ** 16 - 1)
+
+
+def factor_bounds():
+    file.sort("factors of granted conditions")
+
+    def of_version_2(*granted, **more):
+        return question(granted=granted, version=2, **more)
+
+    names("question", "the only condition with a factor", 1, 20, lambda n: of_version_2(n))
+    names("question", "the second condition with a factor", 1, 20, lambda n: of_version_2((b"A", 0), (n, 10_000), b"B"))
+    numbers("question", "the only factor", GOOD_FACTORS, BAD_FACTORS, lambda v: of_version_2((b"OAK", v)))
+    for place in range(3):
+        numbers("question", f"factor {place + 1} of three", GOOD_FACTORS, BAD_FACTORS,
+                lambda v: of_version_2(*[(b"%dC" % i, v if i == place else 10_000) for i in range(3)], properties=[property_()]))
+    numbers("question", "factor of a repeat", GOOD_FACTORS, BAD_FACTORS, lambda v: of_version_2((b"OAK", 500), (b"oak", v)))
+    file.choice("question", "first byte of a factor", range(40), lambda v: of_version_2((b"OAK", bytes([v, 0]))))
+    file.choice("question", "second byte of a factor", range(256), lambda v: of_version_2((b"OAK", bytes([38, v]))))
+    file.choice("question", "second byte of the greatest factors", range(17), lambda v: of_version_2((b"OAK", bytes([39, v]))))
+    for missing in (0, 1):
+        file.case("question", False, f"{missing} of the two bytes of the last factor", of_version_2((b"OAK", bytes(missing))))
+        file.case("question", False, f"{missing} of the two bytes of the first factor",
+                  of_version_2((b"OAK", bytes(missing)), b"ASH", properties=[property_()]))
+    file.case("question", False, "three bytes for a factor", of_version_2((b"OAK", bytes(3))))
+    for count in (0, 1, 2, 31, 32, 33, 34, 255):
+        file.case("question", count <= 32, f"{count} conditions with factors", of_version_2(*[b"C%d" % i for i in range(count)]))
+    file.choice("question", "count of 32 conditions with factors", {32}, lambda v: of_version_2(*[b"OAK"] * 32, granted_count=v))
+    file.choice("question", "count of no conditions in version 2", {0}, lambda v: of_version_2(granted_count=v))
+    file.case("question", True, "the longest question of version 2",
+              question(b"N" * 40, granted=[(b"C" * 20, 10_000)] * 32, properties=[property_(30, 0, b"V" * 30)] * 32, version=2))
 
 
 def with_property(width, state, value):
@@ -105,4 +145,4 @@ def dates():
     file.case("question", False, "date with its low byte first", question(date=number(20240630, 4)[::-1]))
 
 
-PARTS = (question_frame, question_bounds, granted_bounds, property_bounds, dates)
+PARTS = (question_frame, question_bounds, granted_bounds, factor_bounds, property_bounds, dates)

@@ -14,6 +14,17 @@ surcharge  no text  oak   12.50 EUR
 One piece                112.50 EUR
 No price line for castor
 
+A surcharge by the metre has the price of a metre in its row, and the metres are in the question; or whatever else is counted:
+
+>>> from rafttwine import Factor, Granted
+>>> metre = PriceRow("A1", Level.SURCHARGE, Cents(695), condition="EDGE")
+>>> edged = book(Article("A1"), PriceRow("A1", Level.BASE, Cents(10_000)), metre)
+>>> print(price(edged, question("A1", date(2024, 6, 30), granted=[Granted("edge", Factor("4.8"))])))
+base       no text              100.00 EUR
+surcharge  no text x 4.8  edge   33.36 EUR
+------------------------------------------
+One piece                       133.36 EUR
+
 A whole basket in one call, with the reason in the place of a price that there is not:
 
 >>> june, next_year = date(2024, 6, 30), date(2025, 1, 1)
@@ -46,6 +57,9 @@ Some rows are right by the layout and do what hardly anybody wants, so making on
 - a discount with a positive value raises the price: values are added with their sign;
 - a base price in percent never counts, and a row that ends before it begins never holds.
 
+And so do two things in a question: a factor of 0, which leaves the lines of its condition there, and a repeated name with another
+factor, which is not the one that counts.
+
 Reading a price file warns of the same, of days that are none, and of quantities: makers mean from how many pieces on a row counts,
 and a book means up to how many, so that 1 is for one piece alone and 0 for any number.
 
@@ -56,13 +70,14 @@ are allowed`. Bytes that cannot be read are `BrokenBytes`, a ValueError with rec
 not fit is an OSError.
 
 The library is looked for when it is first needed: the file that the environment variable RAFTTWINE_LIBRARY names; else
-librafttwine.so.1 in the package's folder, or beside that; else in target/lib of the tree that the package stands in, where
+librafttwine.so.2 in the package's folder, or beside that; else in target/lib of the tree that the package stands in, where
 tools/shared-library makes it; else in the system.
 """
 from .answers import Asked, Basket, DayPrice, Line, Packaging, Price, Source, Stretch, Text
 from .books import book, read_book
 from .calls import basket, calendar, calendar_list, final_number, packaging, price, text, version
 from .cartons import PackagingRow
+from .granting import Granted
 from .packing import BrokenBytes
 from .price_files import BadLine, BadRecord, read_prices, text_names, write_prices
 from .properties import Property
@@ -71,11 +86,11 @@ from .records import Article, PriceRow, Rounding, Scheme
 from .refusals import Refusal, Refused
 from .release import __version__
 from .texts import TextRow, read_text_book, text_book
-from .words import Cents, Level, NoDay, Percent, RowWarning, Rule, Sort, Way
+from .words import Cents, Factor, Level, NoDay, Percent, RowWarning, Rule, Sort, Way
 
 __all__ = [
-    "Article", "Asked", "BadLine", "BadRecord", "Basket", "BrokenBytes", "Cents", "DayPrice", "Level", "Line", "NoDay",
-    "Packaging", "PackagingRow", "Percent", "Price", "PriceRow", "Property", "Question", "Refusal", "Refused", "Rounding",
+    "Article", "Asked", "BadLine", "BadRecord", "Basket", "BrokenBytes", "Cents", "DayPrice", "Factor", "Granted", "Level", "Line",
+    "NoDay", "Packaging", "PackagingRow", "Percent", "Price", "PriceRow", "Property", "Question", "Refusal", "Refused", "Rounding",
     "RowWarning", "Rule", "Scheme", "Sort", "Source", "Stretch", "Text", "TextRow", "Way", "__version__", "basket", "book",
     "calendar", "calendar_list", "final_number", "packaging", "price", "question", "read_book", "read_prices", "read_question",
     "read_text_book", "text", "text_book", "text_names", "version", "write_prices",

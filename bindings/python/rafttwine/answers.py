@@ -8,19 +8,20 @@ from typing import Iterator, Optional, Sequence, Union, overload
 
 from .lending import Lent
 from .refusals import Refusal
-from .words import Level, money
+from .words import ONCE, Factor, Level, money
 
 
 @dataclass(frozen=True)
 class Line:
     """A line of a price. `text` is the number of its text; `place` that of the granted condition that brought it, 0 for none, and
-    `granted` that condition's name as it was asked."""
+    `granted` that condition's name as it was asked. `factor` is that condition's, and in the amount already."""
 
     text: int
     level: Level
     place: int
     amount: int
     granted: str = ""
+    factor: Factor = ONCE
 
 
 @dataclass(frozen=True)

@@ -13,11 +13,11 @@ from .lending import Lent, part
 from .library import StretchRecord, call, library
 from .questions import asked_for, asked_in, end_to_end
 from .refusals import Refusal, Refused
-from .words import Level, day_number, day_of
+from .words import Factor, Level, day_number, day_of
 
 # A line, an answer of a basket and a stretch as they are written, and the most that there can be of each.
-LINE = ">IcBq"
-LINE_BYTES = 14
+LINE = ">IcBqH"
+LINE_BYTES = 16
 MOST_LINES = 99
 ANSWER = ">Bqq3sQIB"
 ANSWER_BYTES = 33
@@ -101,7 +101,7 @@ def text(asked: Lent, fallback: Lent, number: int) -> Text:
 
 
 def version() -> str:
-    """The version of the library that is loaded, as 1.3.0. That of the package is `__version__`."""
+    """The version of the library that is loaded, as 2.0.0. That of the package is `__version__`."""
     return version_of(library())
 
 
@@ -111,8 +111,8 @@ def _price(question: Lent, unit: int, total: int, currency: Any, unused: int, li
     places = tuple(place for place in names if place and unused >> place - 1 & 1)
     return Price(
         unit=unit, total=total, currency=_letters(currency),
-        lines=tuple(Line(text, Level(level), place, amount, names[place])
-                    for text, level, place, amount in iter_unpack(LINE, lines)),
+        lines=tuple(Line(text, Level(level), place, amount, names[place], Factor.of_thousandths(factor))
+                    for text, level, place, amount, factor in iter_unpack(LINE, lines)),
         unused=places, quantity=quantity, unused_names=tuple(names[place] for place in places),
     )
 

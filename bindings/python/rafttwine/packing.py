@@ -46,10 +46,11 @@ class BrokenBytes(ValueError):
 
 
 class Cursor:
-    """A place in bytes that are read field by field, up to an end: that of the bytes, or that of a record."""
+    """A place in bytes that are read field by field, up to an end: that of the bytes, or that of a record. `version` is that of the
+    whole."""
 
     def __init__(self, data: bytes) -> None:
-        self.data, self.at, self.end = data, 0, len(data)
+        self.data, self.at, self.end, self.version = data, 0, len(data), 1
         self.record: Optional[int] = None
 
     def take(self, count: int) -> bytes:

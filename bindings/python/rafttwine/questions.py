@@ -3,19 +3,22 @@ from __future__ import annotations
 
 from dataclasses import dataclass
 from datetime import date
-from typing import Any, ClassVar, Optional, Sequence
+from typing import Any, ClassVar, Optional, Sequence, Union
 
 from .answers import Asked
-from .checks import counted, unfit
-from .fields import Day, Letters, Name, Number, Word
-from .laid import Laid, Layout
+from .checks import counted, unfit, whole_number
+from .fields import Day, Letters, Number, Word
+from .granting import FACTOR_BYTES, Condition, Granted
+from .laid import Clash, Laid, Layout
 from .lending import Lent, whole_bytes
 from .packing import Cursor, Field, unsigned
 from .properties import Property
 from .records import ARTICLE, CURRENCY
-from .wholes import VERSION, opened, whole
-from .words import Sort
+from .wholes import opened, whole
+from .words import ONCE, Factor, Sort, raised
 
+# What the versions of a question say: names alone, and each name with a factor.
+NAMES, FACTORS = VERSIONS = 1, 2
 MOST_LISTED = 32
 MOST_QUESTIONS = 200
 # In a question's bytes: how many tell its length, where its article stands, and how many bytes lie between that and the quantity.
@@ -60,26 +63,53 @@ class Several:
 
 @dataclass(frozen=True)
 class Question(Laid):
-    """A question by its values: what `read_question` reads. A granted condition's place is its position in `granted`, from 1."""
+    """A question by its values: what `read_question` reads. A granted condition's place is its position in `granted`, from 1. In
+    version 1 these are names, in version 2 each is `Granted`; if none is told, the version is 1 where every factor is 1."""
 
     article: str
     day: date
     quantity: int = 1
-    granted: Sequence[str] = ()
+    granted: Sequence[Union[str, Granted]] = ()
     properties: Sequence[Property] = ()
     sort: Sort = Sort.SALE
     currency: Optional[str] = None
+    version: Optional[int] = None
 
     LAYOUT: ClassVar[Layout] = (
         ("article", ARTICLE), ("sort", Word(Sort)), ("currency", Letters(f"{CURRENCY}, or None for any")), ("day", Day()),
-        ("quantity", Number(4, 1, 100_000)), ("granted", Several("name", "names", Name(1, 20))),
+        ("quantity", Number(4, 1, 100_000)), ("granted", Several("name", "names", Condition())),
         ("properties", Several("property", "properties", Part())),
     )
 
     def __post_init__(self) -> None:
+        if self.version is not None:
+            whole_number("question.version", self.version, *VERSIONS)
         super().__post_init__()
-        object.__setattr__(self, "granted", tuple(self.granted))
+        version = self.version or (FACTORS if self._multiplied() else NAMES)
+        in_version = _name if version == NAMES else _with_factor
+        object.__setattr__(self, "granted", tuple(map(in_version, self.granted)))
         object.__setattr__(self, "properties", tuple(self.properties))
+        object.__setattr__(self, "version", version)
+
+    def _multiplied(self) -> list[tuple[str, Factor]]:
+        """The granted names that have another factor than 1."""
+        return [(_name(one), _factor(one)) for one in self.granted if _factor(one) != ONCE]
+
+    def clash(self) -> Clash:
+        if self.version == NAMES and self._multiplied():
+            name, factor = self._multiplied()[0]
+            return "version", f"1 has no factors, and {name!r} has {factor}; None is for the version that fits"
+        return None
+
+    def doubts(self) -> list[tuple[str, str]]:
+        found: list[tuple[str, str]] = []
+        first: dict[str, tuple[int, Factor]] = {}
+        for place, one in enumerate(self.granted if self._multiplied() else (), 1):
+            there, counts = first.setdefault(raised(_name(one)), (place, _factor(one)))
+            if _factor(one) != counts:
+                sentence = f"{_name(one)!r} repeats name {there}, so that its factor is {counts} and not {_factor(one)}"
+                found.append(("granted", f"name {place}: {sentence}"))
+        return found
 
     @classmethod
     def called(cls) -> str:
@@ -88,19 +118,37 @@ class Question(Laid):
 
     def packed(self) -> bytes:
         """The bytes that are lent to a call."""
-        return whole("question", (self.body(),))
+        return whole("question", (self.body(),), self.version)
+
+    @classmethod
+    def read(cls, cursor: Cursor) -> Any:
+        found = super().read(cursor)
+        object.__setattr__(found, "version", cursor.version)
+        return found
 
 
-def question(article: str, day: date, quantity: int = 1, granted: Sequence[str] = (), properties: Sequence[Property] = (),
-             sort: Sort = Sort.SALE, currency: Optional[str] = None) -> bytes:
-    """Asks about an article on a day. A granted condition's place is its position in `granted`, from 1; small letters count as
-    capitals."""
+def _name(one: Union[str, Granted]) -> str:
+    return one if isinstance(one, str) else one.name
+
+
+def _factor(one: Union[str, Granted]) -> Factor:
+    return ONCE if isinstance(one, str) else one.factor
+
+
+def _with_factor(one: Union[str, Granted]) -> Granted:
+    return Granted(one) if isinstance(one, str) else one
+
+
+def question(article: str, day: date, quantity: int = 1, granted: Sequence[Union[str, Granted]] = (),
+             properties: Sequence[Property] = (), sort: Sort = Sort.SALE, currency: Optional[str] = None) -> bytes:
+    """Asks about an article on a day. A granted condition is a name, or `Granted` with a factor; its place is its position in
+    `granted`, from 1, and small letters count as capitals."""
     return Question(article, day, quantity, granted, properties, sort, currency).packed()
 
 
 def read_question(data: Lent) -> Question:
     """A question by its values; its `packed` gives the same bytes again. What is no question is BrokenBytes."""
-    cursor = opened("question", whole_bytes("read_question.data", data), most=None)
+    cursor = opened("question", whole_bytes("read_question.data", data), most=None, versions=VERSIONS)
     found: Question = Question.read(cursor)
     cursor.filled("question")
     return found
@@ -112,12 +160,13 @@ def asked_in(data: Lent) -> tuple[int, dict[int, str]]:
     data = whole_bytes("question", data)
     at = AT_ARTICLE + 1 + data[AT_ARTICLE] + BEFORE_QUANTITY
     quantity, names = int.from_bytes(data[at:at + 4], "big"), {0: ""}
-    if data[AT_ARTICLE - 1] != VERSION:
+    version = data[AT_ARTICLE - 1]
+    if version not in VERSIONS:
         return quantity, {**names, **{place: f"place {place}" for place in range(1, MOST_LISTED + 1)}}
     at += 5
     for place in range(1, data[at - 1] + 1):
         names[place] = data[at + 1:at + 1 + data[at]].decode("latin-1")
-        at += 1 + data[at]
+        at += 1 + data[at] + (FACTOR_BYTES if version == FACTORS else 0)
     return quantity, names
 
 

@@ -8,7 +8,7 @@ from .answers import Basket, Line, Price
 from .calls import text
 from .lending import Lent
 from .refusals import Refusal, Refused
-from .words import Level, money
+from .words import ONCE, Level, money
 
 LEVELS = {Level.BASE: "base", Level.SURCHARGE: "surcharge", Level.DISCOUNT: "discount"}
 
@@ -74,9 +74,13 @@ class Texts:
         self.trouble: list[str] = []
 
     def of(self, line: Line) -> str:
-        found = self._found(line.text)
+        """A line's text, and behind it the factor that its condition has, unless that is 1."""
+        return self._words(line.text) + (f" x {line.factor}" if line.factor != ONCE else "")
+
+    def _words(self, number: int) -> str:
+        found = self._found(number)
         if found is None:
-            return f"text {line.text}" if line.text else "no text"
+            return f"text {number}" if number else "no text"
         return "".join(character if character.isprintable() else " " for character in found)
 
     def _found(self, number: int) -> Optional[str]:

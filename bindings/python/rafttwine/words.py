@@ -4,19 +4,20 @@ from __future__ import annotations
 import re
 from dataclasses import dataclass
 from datetime import date
-from decimal import Context, Decimal
+from decimal import Decimal
 from enum import Enum, IntEnum
 from functools import lru_cache
 from typing import Union
 
-from .checks import TOP_32, told, unfit, whole_number
+from .checks import TOP_32, whole_number
+from .decimals import Decimals
 
 MOST_CENTS = 100_000_000
 MOST_HUNDREDTHS = 100_000
+MOST_FACTOR = 10_000
 
-_WRITTEN_SHARE = re.compile(r"[+-]?[0-9]+(\.[0-9]+)?")
-# Of its own, so that a program's decimal context changes nothing here.
-_TWO_DECIMALS, _EXACT = Decimal("0.01"), Context(prec=28)
+_PERCENT = Decimals("Percent.share", "percentage", "12.50", -MOST_HUNDREDTHS // 100, MOST_HUNDREDTHS // 100, 2)
+_FACTOR = Decimals("Factor.times", "factor", "2.5", 0, MOST_FACTOR // 1000, 3)
 
 
 class Sort(Enum):
@@ -50,7 +51,7 @@ class Way(IntEnum):
 
 
 class RowWarning(UserWarning):
-    """A row that is right by its layout and does what hardly anybody wants."""
+    """A row, or a granted condition, that is right by its layout and does what hardly anybody wants."""
 
 
 @dataclass(frozen=True)
@@ -74,13 +75,7 @@ class Percent:
     share: Union[str, int, Decimal]
 
     def __post_init__(self) -> None:
-        share = _share(self.share)
-        if share.copy_abs() > MOST_HUNDREDTHS // 100:
-            raise ValueError(f"Percent.share: {told(self.share)} is out of range, -1,000 to 1,000 is allowed")
-        kept = share.quantize(_TWO_DECIMALS, context=_EXACT)
-        if kept != share:
-            raise ValueError(f"Percent.share: {told(self.share)} has more than two decimals")
-        object.__setattr__(self, "share", kept)
+        object.__setattr__(self, "share", _PERCENT.kept(self.share))
 
     @classmethod
     def of_hundredths(cls, hundredths: int) -> Percent:
@@ -89,7 +84,7 @@ class Percent:
         return cls(money(hundredths, ""))
 
     def hundredths(self) -> int:
-        return int(Decimal(self.share).scaleb(2, _EXACT))
+        return _PERCENT.counted(Decimal(self.share))
 
     def __repr__(self) -> str:
         return f"Percent('{self.share}')"
@@ -99,6 +94,42 @@ class Percent:
 
 
 Value = Union[Cents, Percent]
+
+
+@dataclass(frozen=True, repr=False)
+class Factor:
+    """How many times a granted condition counts, as "2.5" or 3, from 0 to 10 with at most three decimals. `times` is kept as a
+    Decimal with three decimals, whatever it was made of."""
+
+    times: Union[str, int, Decimal]
+
+    def __post_init__(self) -> None:
+        object.__setattr__(self, "times", _FACTOR.kept(self.times).copy_abs())  # of zero too, which has a sign here
+
+    @classmethod
+    def of_thousandths(cls, thousandths: int) -> Factor:
+        """The factor of so many thousandths: 2500 is two and a half times."""
+        whole_number("Factor.thousandths", thousandths, 0, MOST_FACTOR)
+        return _factor(thousandths)
+
+    def thousandths(self) -> int:
+        return _FACTOR.counted(Decimal(self.times))
+
+    def __repr__(self) -> str:
+        return f"Factor('{self}')"
+
+    def __str__(self) -> str:
+        """Without decimals that say nothing: 2.5, 3."""
+        return str(self.times).rstrip("0").rstrip(".")
+
+
+@lru_cache(maxsize=None)
+def _factor(thousandths: int) -> Factor:
+    return Factor(f"{thousandths // 1000}.{thousandths % 1000:03}")
+
+
+# What a condition has that is granted by its name alone.
+ONCE = _factor(1000)
 
 
 @dataclass(frozen=True)
@@ -147,14 +178,3 @@ def money(hundredths: int, between: str = ",") -> str:
     """An amount of cents in whole units with two decimals, as 1,234.50."""
     whole, cents = divmod(abs(hundredths), 100)
     return f"{'-' if hundredths < 0 else ''}{whole:{between}}.{cents:02}"
-
-
-def _share(share: object) -> Decimal:
-    """The exact number that is meant."""
-    if isinstance(share, bool) or not isinstance(share, (str, int, Decimal)):
-        raise unfit("Percent.share", "a whole number, a Decimal, or a text as '12.50' is wanted", share)
-    if isinstance(share, str) and not _WRITTEN_SHARE.fullmatch(share):
-        raise ValueError(f"Percent.share: {told(share)} is no percentage; digits are wanted, with a point before the decimals")
-    if isinstance(share, Decimal) and not share.is_finite():
-        raise ValueError(f"Percent.share: {share} is no number")
-    return Decimal(share)

@@ -27,6 +27,13 @@ STRETCHES = (
     Stretch(JULY, DECEMBER, DayPrice(11_420, "EUR")),
     Stretch(date(2025, 1, 1), YEAR_END, Refusal.NO_BASE_LINE),
 )
+# With 2.5 times oak: in July 3281.25 on top of 10500, and 3.33 % of 13781 are 458.9073.
+CALENDAR_FACTORS = (BOOK, QUESTIONS["calendar_factors"], YEAR_END)
+STRETCHES_FACTORS = (
+    Stretch(date(2024, 6, 29), JUNE, DayPrice(12_688, "EUR")),
+    Stretch(JULY, DECEMBER, DayPrice(13_322, "EUR")),
+    Stretch(date(2025, 1, 1), YEAR_END, Refusal.NO_BASE_LINE),
+)
 REFUSED_CALENDARS = (
     (Refusal.BROKEN_BOOK, (b"", QUESTIONS["calendar"], YEAR_END)),
     (Refusal.BROKEN_QUESTION, (BOOK, b"", YEAR_END)),

@@ -8,8 +8,8 @@ import pathlib
 import sys
 from datetime import date
 
-from rafttwine import (Article, Cents, Level, PackagingRow, Percent, PriceRow, Property, Rounding, Rule, Scheme, Way, book,
-                       question, text_book)
+from rafttwine import (Article, Cents, Factor, Granted, Level, PackagingRow, Percent, PriceRow, Property, Rounding, Rule, Scheme,
+                       Way, book, question, text_book)
 
 JANUARY, JUNE, JULY, DECEMBER = date(2024, 1, 1), date(2024, 6, 30), date(2024, 7, 1), date(2024, 12, 31)
 YEAR_END = date(2025, 1, 2)
@@ -51,13 +51,16 @@ BOOK = book(*A1, *ROUNDED, *REFUSED, *NUMBERED, *PACKED)
 ASKED = text_book({TABLE: b"table", OAK: b""})
 FALLBACK = text_book({TABLE: b"Tisch", DISCOUNT: b"Nachlass"})
 
+TWICE_AND_A_HALF = Granted("oak", Factor("2.5"))
 PROPERTIES = (Property(4, "OAK"), Property(2, hidden=True), Property(3))
 QUESTIONS = {
     "june_oak": question("A1", JUNE, quantity=3, granted=("oak", "ash"), currency="EUR"),
+    "june_factors": question("A1", JUNE, granted=("ash", TWICE_AND_A_HALF)),
     "july_oak": question("A1", JULY, granted=("oak",), currency="EUR"),
     "june": question("A1", JUNE),
     "next_year": question("A1", YEAR_END),
     "calendar": question("A1", date(2024, 6, 29), granted=("oak",), currency="EUR"),
+    "calendar_factors": question("A1", date(2024, 6, 29), granted=(TWICE_AND_A_HALF,)),
     "missing": question("NONE", JUNE),
     "fives": question("R5", JUNE),
     "euros": question("R100", JUNE),
@@ -67,6 +70,7 @@ QUESTIONS = {
     "trimmed": question("T200", JUNE, properties=PROPERTIES),
     "carton": question("T100", JUNE),
     "carton_oak": question("T100", JUNE, granted=("oak",)),
+    "carton_factor": question("T100", JUNE, granted=(TWICE_AND_A_HALF,)),
     "carton_pounds": question("T100", JUNE, granted=("pounds",)),
     "carton_below": question("T200", JUNE),
     "carton_wide": question("T200", JUNE, granted=("wide",)),

@@ -7,7 +7,7 @@ from checks import CallTest
 from samples import BOOK, JUNE, QUESTIONS
 from rafttwine import Article, Asked, Cents, Level, Price, PriceRow, Refusal, Refused, basket, book, price, question
 
-NAMES = ("june_oak", "missing", "july_oak", "next_year", "mixed", "fives", "huge", "june")
+NAMES = ("june_oak", "missing", "june_factors", "july_oak", "next_year", "mixed", "fives", "huge", "june")
 
 
 def alone(name: str) -> Union[Price, Refusal]:
@@ -22,8 +22,8 @@ class BasketTest(CallTest):
         found = basket(BOOK, [QUESTIONS[name] for name in NAMES])
         self.assertEqual(list(found), [alone(name) for name in NAMES])
         self.assertEqual([one.unit if isinstance(one, Price) else one.value for one in found],
-                         [10_875, 3, 11_420, 4, 5, 11_815, 6, 9_667])
-        self.assertEqual(found.totals, {"EUR": 3 * 10_875 + 11_420 + 11_815 + 9_667})
+                         [10_875, 3, 12_688, 11_420, 4, 5, 11_815, 6, 9_667])
+        self.assertEqual(found.totals, {"EUR": 3 * 10_875 + 12_688 + 11_420 + 11_815 + 9_667})
 
     def test_it_is_a_sequence(self) -> None:
         found = basket(BOOK, (QUESTIONS["missing"], QUESTIONS["june_oak"], QUESTIONS["next_year"]))

@@ -1,4 +1,4 @@
-"""Rows that are right by the layout and hardly meant: making one warns, at the line of whoever makes it."""
+"""Rows and granted conditions that are right by the layout and hardly meant: making one warns, at the line of whoever makes it."""
 from __future__ import annotations
 
 import dataclasses
@@ -8,8 +8,10 @@ import warnings
 from datetime import date
 from typing import Callable
 
-from rafttwine import Article, Cents, Level, PackagingRow, Percent, PriceRow, RowWarning, book, price, question, read_book
+from rafttwine import (Article, Cents, Factor, Granted, Level, PackagingRow, Percent, PriceRow, RowWarning, book, price, question,
+                       read_book, read_question)
 
+TWICE_AND_A_HALF = Granted("oak", Factor("2.5"))
 RAISES = "raises the price; what lowers it is below zero"
 NEVER = "is never granted: granted names are raised to capitals, so write"
 DOUBTFUL: list[tuple[list[str], Callable[[], object]]] = [
@@ -24,6 +26,12 @@ DOUBTFUL: list[tuple[list[str], Callable[[], object]]] = [
      lambda: PriceRow("A1", Level.BASE, Percent(10))),
     (["PriceRow.last: 2024-06-30 is before 2024-07-01, the first day, so the row never holds"],
      lambda: PriceRow("A1", Level.BASE, Cents(1), first=date(2024, 7, 1), last=date(2024, 6, 30))),
+    (["Granted.factor: with 0 its lines are there, and of nothing; what is not to count is not granted"],
+     lambda: Granted("oak", Factor(0))),
+    (["question.granted: name 3: 'Oak' repeats name 1, so that its factor is 2.5 and not 4",
+      "question.granted: name 4: 'oak' repeats name 1, so that its factor is 2.5 and not 1"],
+     lambda: question("A1", date.max, granted=[TWICE_AND_A_HALF, "ash", Granted("Oak", Factor(4)), "oak"])),
+    ([], lambda: question("A1", date.max, granted=[TWICE_AND_A_HALF, TWICE_AND_A_HALF, "ash", "ASH", Granted("ash")])),
     ([], lambda: PriceRow("A1", Level.BASE, Cents(1), first=date(2024, 7, 1), last=date(2024, 7, 1))),
     ([], lambda: PriceRow("a1", Level.BASE, Cents(1), condition="OAK 2")),
     ([], lambda: PriceRow("A1", Level.DISCOUNT, Cents(0))),
@@ -59,10 +67,22 @@ class DoubtfulRowsTest(unittest.TestCase):
         answer = price(book(*rows), question("A1", date(2024, 1, 1), granted=["oak", "OAK"]))
         self.assertEqual(([line.amount for line in answer.lines], answer.unused), ([1000, 10], (1,)))
 
+    def test_what_is_said_of_factors_is_true_of_the_library(self) -> None:
+        rows = Article("A1"), PriceRow("A1", Level.BASE, Cents(1000)), PriceRow("A1", Level.SURCHARGE, Cents(100), condition="OAK")
+        with warnings.catch_warnings():
+            warnings.simplefilter("ignore", RowWarning)
+            nothing = question("A1", date(2024, 1, 1), granted=[Granted("oak", Factor(0))])
+            repeated = question("A1", date(2024, 1, 1), granted=[TWICE_AND_A_HALF, Granted("OAK", Factor(4))])
+        for asked, amounts in ((nothing, [1000, 0]), (repeated, [1000, 250])):
+            answer = price(book(*rows), asked)
+            self.assertEqual(([line.amount for line in answer.lines], answer.unused), (amounts, ()))
+
     def test_reading_does_not_warn(self) -> None:
         with warnings.catch_warnings():
             warnings.simplefilter("ignore", RowWarning)
             rows = (PriceRow("A1", Level.DISCOUNT, Cents(10), condition="oak"), PackagingRow("A1", "oak"))
+            asked = question("A1", date.max, granted=["oak", Granted("oak", Factor(0))])
         with warnings.catch_warnings():
             warnings.simplefilter("error")
             self.assertEqual(read_book(book(*rows)), rows)
+            self.assertEqual(read_question(asked).packed(), asked)

@@ -6,7 +6,7 @@ from rafttwine import Refusal, final_number
 
 class FinalNumberTest(CallTest):
     def test_values_behind_the_base_number(self) -> None:
-        for name, number in {"padded": "T100 OAK _--_XXX", "trimmed": "T200 OAK_--_XXX", "june": "A1"}.items():
+        for name, number in {"padded": "T100 OAK _--_XXX", "trimmed": "T200 OAK_--_XXX", "june": "A1", "june_factors": "A1"}.items():
             with self.subTest(name):
                 self.assertEqual(final_number(BOOK, QUESTIONS[name]), number)
 

@@ -83,8 +83,8 @@ class FindingTest(unittest.TestCase):
                 self.assertIn(f"rafttwine: {file} cannot be loaded as the library, and RAFTTWINE_LIBRARY names it: ", said)
 
     def test_another_version(self) -> None:
-        other = self.compiled("unsigned rafttwine_version(void) { return 20305; }")
-        self.assertIn(f"{other} has the version 2.3.5, and this package, {rafttwine.__version__}, needs 1.x; tools/shared-library",
+        other = self.compiled("unsigned rafttwine_version(void) { return 10305; }")
+        self.assertIn(f"{other} has the version 1.3.5, and this package, {rafttwine.__version__}, needs 2.x; tools/shared-library",
                       self.asked(RAFTTWINE_LIBRARY=other))
 
     def test_no_version(self) -> None:
@@ -94,6 +94,6 @@ class FindingTest(unittest.TestCase):
 
     def test_a_call_is_missing(self) -> None:
         there = "".join(f"void rafttwine_{name}(void) {{}}\n" for name in library.CALLS if name not in ("version", "packaging"))
-        other = self.compiled(f"unsigned rafttwine_version(void) {{ return 10100; }}\n{there}")
-        self.assertIn(f"{other}, version 1.1.0, has no rafttwine_packaging, which this package needs; ",
+        other = self.compiled(f"unsigned rafttwine_version(void) {{ return 20100; }}\n{there}")
+        self.assertIn(f"{other}, version 2.1.0, has no rafttwine_packaging, which this package needs; ",
                       self.asked(RAFTTWINE_LIBRARY=other))

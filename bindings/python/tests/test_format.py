@@ -8,8 +8,9 @@ import warnings
 from ctypes import c_uint8
 from datetime import date
 
-from rafttwine import (Article, BadLine, Cents, Level, PackagingRow, PriceRow, Property, Rounding, RowWarning, Scheme, Way, book,
-                       packaging, question, read_prices, text, text_book, write_prices)
+from rafttwine import (Article, BadLine, Cents, Factor, Granted, Level, PackagingRow, PriceRow, Property, Rounding, RowWarning,
+                       Scheme, Way, book, packaging, question, read_prices, text, text_book, write_prices)
+from rafttwine.calls import LINE_BYTES
 from rafttwine.library import call
 from rafttwine.price_lines import FIELDS
 
@@ -19,12 +20,13 @@ EXAMPLE, NEXT = 3, 4
 
 BOOK = book(
     Article("T1", "S"),
-    PriceRow("T1", Level.BASE, Cents(12_345), first=date(2026, 1, 1), last=date(2026, 6, 30), rounding=1, text=7),
+    PriceRow("T1", Level.BASE, Cents(12_345), condition="OAK", first=date(2026, 1, 1), last=date(2026, 6, 30), rounding=1, text=7),
     Rounding(1, Way.COMMERCIAL, 10, after=-1),
     PackagingRow("T1", tare=500, net=2000, items=2, weight_unit="KGM"),
     Scheme("S", between_values="/", trim=True),
 )
 QUESTION = question("T1", date(2026, 6, 29), 2, ["oak"], [Property(4, "ASH")], currency="EUR")
+WITH_FACTOR = question("T1", date(2026, 6, 29), 2, [Granted("oak", Factor("2.5"))], [Property(4, "ASH")], currency="EUR")
 NEXT_QUESTION = question("T1", date(2026, 7, 1))
 TEXTS = text_book({7: b"Table"})
 CALENDAR_END = 20260701
@@ -60,7 +62,7 @@ def written(name: str, size: int, *words: object, asked: bytes = QUESTION) -> by
 
 class FormatTest(unittest.TestCase):
     def test_each_example_has_the_size_of_its_row(self) -> None:
-        self.assertEqual(len(TABLES), 12)
+        self.assertEqual(len(TABLES), 13)
         for heading, rows in TABLES.items():
             for field, size, _, *examples in rows:
                 for one in map(bytes.fromhex, examples):
@@ -80,10 +82,12 @@ class FormatTest(unittest.TestCase):
     def test_the_package_packs_the_examples(self) -> None:
         self.assertEqual(example("Price book", *RECORDS), BOOK)
         self.assertEqual(example("Question"), QUESTION)
+        self.assertEqual(example("Question of version 2"), WITH_FACTOR)
         self.assertEqual(example("Text book"), TEXTS)
 
     def test_the_library_writes_the_examples(self) -> None:
-        self.assertEqual(written("price", 14), example("Line of a price"))
+        self.assertEqual(written("price", LINE_BYTES), example("Line of a price"))
+        self.assertEqual(written("price", LINE_BYTES, asked=WITH_FACTOR), example("Line of a price", column=NEXT))
         answers = example("Answer of a basket") + example("Answer of a basket", column=NEXT)
         basket = answers + example("Line of a price")
         self.assertEqual(written("basket", len(basket), asked=QUESTION + NEXT_QUESTION), basket)

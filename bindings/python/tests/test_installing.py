@@ -40,7 +40,7 @@ class InstallingTest(unittest.TestCase):
     def works(self, there: pathlib.Path) -> None:
         package = there / "rafttwine"
         said = self.run_in("-c", ASKED, PYTHONPATH=str(there)).split()
-        self.assertEqual(said, [rafttwine.__version__] * 2 + [str(package / "__init__.py"), str(package / "librafttwine.so.1")])
+        self.assertEqual(said, [rafttwine.__version__] * 2 + [str(package / "__init__.py"), str(package / "librafttwine.so.2")])
         self.assertTrue((package / "py.typed").exists())
 
     @unittest.skipUnless(importlib.util.find_spec("pip"), "there is no pip")
@@ -63,7 +63,7 @@ class InstallingTest(unittest.TestCase):
                 digest = base64.urlsafe_b64decode(said[len("sha256="):] + "=").hex()
                 self.assertEqual((digest, int(size)), (hashlib.sha256(wheel.read(name)).hexdigest(), len(wheel.read(name))))
         self.works(self.folder / "there")
-        installed = {file.name for file in (self.folder / "there" / "rafttwine").iterdir()} - {"librafttwine.so.1"}
+        installed = {file.name for file in (self.folder / "there" / "rafttwine").iterdir()} - {"librafttwine.so.2"}
         self.assertEqual(installed, {file.name for file in (FOLDER / "rafttwine").iterdir() if file.is_file()})
 
     def test_the_editable_wheel_leads_to_this_folder(self) -> None:

@@ -12,9 +12,11 @@ NOTHING = Packaging(*(None,) * 12)
 
 class PackagingTest(CallTest):
     def test_plain_article_and_what_conditions_add(self) -> None:
+        """A factor is for prices: a carton weighs what it weighs."""
         for name, answer in {
             "carton": PLAIN,
             "carton_oak": replace(PLAIN, net=18_000, gross=38_000),
+            "carton_factor": replace(PLAIN, net=18_000, gross=38_000),
             "carton_wide": replace(NOTHING, width=2, length_unit="CMT"),
         }.items():
             with self.subTest(name):

@@ -7,8 +7,9 @@ from datetime import date
 from typing import Callable
 
 import damage
-from rafttwine import (Article, BrokenBytes, Cents, Level, NoDay, PackagingRow, Percent, PriceRow, Property, Question, Rounding,
-                       Rule, Scheme, Sort, TextRow, Way, book, question, read_book, read_question, read_text_book, text_book)
+from rafttwine import (Article, BrokenBytes, Cents, Factor, Granted, Level, NoDay, PackagingRow, Percent, PriceRow, Property,
+                       Question, Rounding, Rule, Scheme, Sort, TextRow, Way, book, question, read_book, read_question,
+                       read_text_book, text_book)
 
 from samples import A1, ASKED, BOOK, FALLBACK, NUMBERED, PACKED, QUESTIONS, REFUSED, ROUNDED
 from sizes import MOST_BYTES, articles_of, texts_of
@@ -25,6 +26,8 @@ KINDS = (
 )
 ASKED_ABOUT = Question("T\xfc100", date(2024, 6, 30), 3, ("oak", "NIGHT BLUE"),
                        (Property(4, "OAK"), Property(2, hidden=True), Property(3)), Sort.PURCHASE, "EUR")
+WITH_FACTORS = Question("T1", date(2024, 6, 30), granted=(Granted("oak", Factor("2.5")), Granted("NIGHT BLUE"),
+                                                          Granted("edge", Factor(10))), properties=(Property(4, "OAK"),))
 TEXTS = (TextRow(7, b"Table"), TextRow(7, b""), TextRow(2**32 - 1, bytes(range(256))))
 
 PACKED_AGAIN: dict[str, Callable[[bytes], bytes]] = {
@@ -42,7 +45,9 @@ class ReadingTest(unittest.TestCase):
     def test_what_was_packed_is_read(self) -> None:
         self.assertEqual(read_book(book(*KINDS)), KINDS)
         self.assertEqual(read_book(BOOK), (*A1, *ROUNDED, *REFUSED, *NUMBERED, *PACKED))
-        self.assertEqual(read_question(ASKED_ABOUT.packed()), ASKED_ABOUT)
+        for asked in (ASKED_ABOUT, WITH_FACTORS, Question("A1", date.max, version=2)):
+            self.assertEqual(read_question(asked.packed()), asked)
+        self.assertEqual((ASKED_ABOUT.version, WITH_FACTORS.version), (1, 2))
         self.assertEqual(read_text_book(text_book(TEXTS)), TEXTS)
         self.assertEqual(read_question(question("A1", date.max, granted=["oak"])), Question("A1", date.max, granted=["oak"]))
 
@@ -75,6 +80,7 @@ class ReadingTest(unittest.TestCase):
     def test_reader_and_library_agree_on_damaged_bytes(self) -> None:
         lone = [("book", book(kind), True) for kind in KINDS]
         for layout, whole, record_length in (*lone, ("question", ASKED_ABOUT.packed(), False),
+                                             ("question", WITH_FACTORS.packed(), False),
                                              ("text_book", text_book(TEXTS[:2]), False)):
             with self.subTest(layout, whole=whole):
                 good = [self.agrees(layout, data) for data in damage.changed(whole)]
@@ -104,6 +110,7 @@ BROKEN: list[tuple[str, Callable[[bytes], object], bytes]] = [
     ("byte 0, book.length: 4 bytes should follow, and only 0 bytes can", read_book, b""),
     ("byte 0, book.length: 6 bytes are said, and 5 are there", read_book, bytes.fromhex("0000000601")),
     ("byte 4, book.version: 2, and only 1 is known", read_book, bytes.fromhex("0000000502")),
+    ("byte 4, question.version: 3, and only 1 and 2 are known", read_question, bytes.fromhex("0000000503")),
     ("record 1, byte 5, record.length: 9 bytes should follow, and only 1 byte can", read_book, bytes.fromhex("0000000801000901")),
     ("record 1, byte 7, record.kind: 6 is out of range, 1 to 5 is allowed", read_book, bytes.fromhex("0000000801000106")),
     ("record 2, byte 16, Article.number: character 2 is '\\x7f' (U+007F), and only the printable characters of Latin-1 are allowed",
@@ -126,6 +133,10 @@ BROKEN: list[tuple[str, Callable[[bytes], object], bytes]] = [
      question("A", date(2024, 2, 29)).replace((20240229).to_bytes(4, "big"), (20230229).to_bytes(4, "big"))),
     ("byte 24, question.granted: name 2: it is empty, and 1 to 20 bytes are allowed", read_question,
      bytes.fromhex("0000001a010141530000000134d6e50000000102") + b"\3OAK\0\0"),
+    ("byte 24, Granted.factor: 10,001 thousandths, and at most 10,000 are allowed", read_question,
+     bytes.fromhex("0000001b020141530000000134d6e50000000101") + b"\3OAK\x27\x11\0"),
+    ("byte 24, Granted.factor: 2 bytes should follow, and only 1 byte can", read_question,
+     bytes.fromhex("00000019020141530000000134d6e50000000101") + b"\3OAK\0"),
     ("byte 23, Property.value: the text 'OAK' stands there, and by its state the property has none", read_question,
      question("A", date.max, properties=[Property(3, "OAK")]).replace(b"\3\0\3OAK", b"\3\2\3OAK")),
     ("record 2, byte 15, TextRow.content: 5 bytes should follow, and only 1 byte can", read_text_book,

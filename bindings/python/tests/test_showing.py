@@ -39,6 +39,15 @@ def words(table: str) -> list[list[str]]:
     return [line.split() for line in table.splitlines()]
 
 
+FACTORS = """\
+base       text 100            100.00 EUR
+surcharge  text 200 x 2.5  oak   31.25 EUR
+discount   text 300             -4.37 EUR
+------------------------------------------
+One piece                      126.88 EUR
+No price line for ash"""
+
+
 class ShowingTest(unittest.TestCase):
     maxDiff = None
 
@@ -62,6 +71,12 @@ class ShowingTest(unittest.TestCase):
     def test_without_text_books(self) -> None:
         self.assertEqual(str(self.price), NUMBERS)
         self.assertEqual(self.price.table(), NUMBERS)
+
+    def test_a_factor_stands_behind_the_text(self) -> None:
+        shown = price(BOOK, QUESTIONS["june_factors"])
+        self.assertEqual(words(str(shown)), words(FACTORS))
+        self.assertEqual(words(shown.table(text_book({OAK: b"Edge, per metre"})))[1][:6],
+                         ["surcharge", "Edge,", "per", "metre", "x", "2.5"])
 
     def test_with_text_books(self) -> None:
         asked = text_book({TABLE: b"table", OAK: b"Top,\nEiche"})

@@ -9,9 +9,9 @@ from decimal import Decimal
 from typing import Any, Callable
 
 import rafttwine
-from rafttwine import (Article, Cents, Level, NoDay, PackagingRow, Percent, PriceRow, Property, Rounding, Rule, Scheme, Sort,
-                       TextRow, Way, basket, book, calendar, calendar_list, final_number, packaging, price, question, read_book,
-                       read_prices, read_question, read_text_book, text, text_book, text_names, write_prices)
+from rafttwine import (Article, Cents, Factor, Granted, Level, NoDay, PackagingRow, Percent, PriceRow, Property, Rounding, Rule,
+                       Scheme, Sort, TextRow, Way, basket, book, calendar, calendar_list, final_number, packaging, price, question,
+                       read_book, read_prices, read_question, read_text_book, text, text_book, text_names, write_prices)
 from samples import ASKED, BOOK, FALLBACK, QUESTIONS, TABLE, YEAR_END
 
 # One value of each type that somebody could come with.
@@ -20,7 +20,7 @@ VALUES: dict[str, Any] = {
     "tuple": ("oak",), "set": {"oak"}, "dict": {1: b"oak"}, "generator": (one for one in "oak"), "day": date(2024, 1, 1),
     "moment": datetime(2024, 1, 1), "no day": NoDay(0), "cents": Cents(1), "percent": Percent(1), "level": Level.BASE,
     "sort": Sort.SALE, "rule": Rule.OF_BASE, "way": Way.UP, "path": pathlib.Path("book"), "class": Article, "object": object(),
-    "numbers": memoryview(b"oaks").cast("I"),
+    "numbers": memoryview(b"oaks").cast("I"), "factor": Factor(1),
 }
 TEXT, NUMBER, DAY, BUFFER = ("text",), ("number", "rule", "way"), ("day",), ("bytes",)
 MAYBE_TEXT, MAYBE_NUMBER = (*TEXT, "none"), (*NUMBER, "none")
@@ -30,6 +30,7 @@ ROW_DAY, SEVERAL = (*DAY, "no day"), ("list", "tuple")
 TABLE_OF_TYPES: list[tuple[Callable[..., object], dict[str, Any], dict[str, tuple[str, ...]]]] = [
     (Cents, {"amount": 1}, {"amount": NUMBER}),
     (Percent, {"share": 1}, {"share": (*TEXT, *NUMBER, "decimal")}),
+    (Factor, {"times": 1}, {"times": (*TEXT, *NUMBER, "decimal")}),
     (NoDay, {"number": 0}, {"number": NUMBER}),
     (Article, {"number": "A1"}, {"number": TEXT, "scheme": TEXT}),
     (PriceRow, {"article": "A1", "level": Level.BASE, "value": Cents(1)}, {
@@ -45,6 +46,7 @@ TABLE_OF_TYPES: list[tuple[Callable[..., object], dict[str, Any], dict[str, tupl
     (Scheme, {"id": "S"}, {
         "id": TEXT, "before_values": TEXT, "between_values": TEXT, "hidden_shown": ("bool",), "hidden": MAYBE_TEXT,
         "unselected": MAYBE_TEXT, "trim": ("bool",)}),
+    (Granted, {"name": "oak"}, {"name": TEXT, "factor": ("factor",)}),
     (Property, {"width": 3}, {"width": NUMBER, "value": MAYBE_TEXT, "hidden": ("bool",)}),
     (TextRow, {"number": 1, "content": b""}, {"number": NUMBER, "content": BUFFER}),
     (text_book, {"texts": {}}, {"texts": ("dict", *SEVERAL)}),
@@ -86,6 +88,12 @@ class WrongTypesTest(unittest.TestCase):
         for make, good, _ in TABLE_OF_TYPES:
             with self.subTest(make.__name__):
                 make(**good)
+
+    def test_granted_names_of_a_question(self) -> None:
+        for kind in VALUES.keys() - TEXT:
+            sentence = r"^question\.granted: name 2: a text or Granted is wanted, not "
+            with self.subTest(kind), self.assertRaisesRegex(TypeError, sentence):
+                question("A1", date.max, granted=["oak", VALUES[kind]])
 
     def test_records_of_a_book(self) -> None:
         for kind in VALUES:

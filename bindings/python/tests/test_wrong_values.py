@@ -6,8 +6,8 @@ from datetime import date, datetime
 from decimal import Decimal
 from typing import Callable
 
-from rafttwine import (Article, Cents, Level, NoDay, PackagingRow, Percent, PriceRow, Property, Rounding, Scheme, TextRow, Way,
-                       basket, book, calendar, price, question, text, text_book)
+from rafttwine import (Article, Cents, Factor, Granted, Level, NoDay, PackagingRow, Percent, PriceRow, Property, Question, Rounding,
+                       Scheme, TextRow, Way, basket, book, calendar, price, question, text, text_book)
 from samples import ASKED, BOOK, FALLBACK, QUESTIONS
 from sizes import MOST_BYTES, articles_of, texts_of
 
@@ -32,7 +32,12 @@ WRONG: list[tuple[type[Exception], str, Callable[[], object]]] = [
     (TypeError, "question.granted: a list of names is wanted, not the text 'oak'", asked(granted="oak")),
     (TypeError, "question.granted: a list of names is wanted, not bytes", asked(granted=b"oak")),
     (TypeError, "question.granted: a list of names is wanted, not a set", asked(granted={"oak"})),
-    (TypeError, "question.granted: name 2: a text is wanted, not the number 7", asked(granted=["oak", 7])),
+    (TypeError, "question.granted: name 2: a text or Granted is wanted, not the number 7", asked(granted=["oak", 7])),
+    (TypeError, "question.granted: name 1: a text or Granted is wanted, not a tuple", asked(granted=[("oak", 2)])),
+    (TypeError, "Granted.factor: Factor is wanted, not the number 2.5", lambda: Granted("oak", 2.5)),
+    (TypeError, "Granted.factor: Factor is wanted, not the text '2.5'", lambda: Granted("oak", "2.5")),
+    (TypeError, "Granted.name: a text is wanted, not bytes", lambda: Granted(b"oak")),
+    (TypeError, "Factor.times: a whole number, a Decimal, or a text as '2.5' is wanted, not the number 2.5", lambda: Factor(2.5)),
     (TypeError, "question.properties: a list of properties is wanted, not the text 'oak'", asked(properties="oak")),
     (TypeError, "question.properties: property 1: Property is wanted, not the text 'oak'", asked(properties=["oak"])),
     (TypeError, "question.quantity: a whole number is wanted, not the number 1.5", asked(quantity=1.5)),
@@ -86,6 +91,15 @@ WRONG: list[tuple[type[Exception], str, Callable[[], object]]] = [
     (ValueError, "Percent.share: the text '12,5' is no percentage; digits are wanted, with a point before the decimals",
      lambda: Percent("12,5")),
     (ValueError, "Percent.share: NaN is no number", lambda: Percent(Decimal("nan"))),
+    (ValueError, "Factor.times: the text '10.001' is out of range, 0 to 10 is allowed", lambda: Factor("10.001")),
+    (ValueError, "Factor.times: the number 2500 is out of range, 0 to 10 is allowed", lambda: Factor(2500)),
+    (ValueError, "Factor.times: the text '-0.5' is out of range, 0 to 10 is allowed", lambda: Factor("-0.5")),
+    (ValueError, "Factor.times: the text '0.0005' has more than three decimals", lambda: Factor("0.0005")),
+    (ValueError, "Factor.times: the text '2,5' is no factor; digits are wanted, with a point before the decimals",
+     lambda: Factor("2,5")),
+    (ValueError, "Factor.times: Infinity is no number", lambda: Factor(Decimal("inf"))),
+    (ValueError, "Factor.thousandths: 10,001 is out of range, 0 to 10,000 is allowed", lambda: Factor.of_thousandths(10_001)),
+    (ValueError, "question.version: 3 is out of range, 1 to 2 is allowed", lambda: Question("A1", DAY, version=3)),
     (ValueError, "Rounding.number: 0 is out of range, 1 to 65,535 is allowed", lambda: Rounding(0, Way.UP, 1)),
     (ValueError, "Rounding.step: 0 is out of range, 1 to 1,000,000 is allowed", lambda: Rounding(1, Way.UP, 0)),
     (ValueError, "Rounding.before: -1,000,001 is out of range, -1,000,000 to 1,000,000 is allowed",
@@ -112,6 +126,8 @@ WRONG: list[tuple[type[Exception], str, Callable[[], object]]] = [
     (ValueError, "Scheme.before_values: 9 bytes, and at most 8 are allowed", lambda: Scheme("S", before_values="-" * 9)),
     (ValueError, "Scheme.hidden: 2 bytes, and at most 1 are allowed", lambda: Scheme("S", hidden="--")),
     (ValueError, "question.granted: name 2: it is empty, and 1 to 20 bytes are allowed", asked(granted=["oak", ""])),
+    (ValueError, "Granted.name: 21 bytes, and at most 20 are allowed", lambda: Granted("O" * 21, Factor(2))),
+    (ValueError, "Granted.name: it is empty, and 1 to 20 bytes are allowed", lambda: Granted("")),
     (ValueError, "question.granted: 33 names, and at most 32 are allowed", asked(granted=["oak"] * 33)),
     (ValueError, "question.properties: 33 properties, and at most 32 are allowed", asked(properties=[Property(1)] * 33)),
     (ValueError, "question.currency: a currency of three capitals, or None for any is wanted, not the text 'eur'",
@@ -119,6 +135,8 @@ WRONG: list[tuple[type[Exception], str, Callable[[], object]]] = [
     (ValueError, "PriceRow.currency: a currency of three capitals is wanted, not the text 'EURO'", row(currency="EURO")),
     (ValueError, "basket.questions: 201 questions, and at most 200 are allowed", lambda: basket(BOOK, [QUESTIONS["june"]] * 201)),
     # What does not go together.
+    (ValueError, "question.version: 1 has no factors, and 'oak' has 2.5; None is for the version that fits",
+     lambda: Question("A1", DAY, granted=["ash", Granted("oak", Factor("2.5"))], version=1)),
     (ValueError, "Property.value: a hidden property has none, and the text 'OAK' is given",
      lambda: Property(3, "OAK", hidden=True)),
     (ValueError, "Property.value: 4 bytes, and its width is 3", lambda: Property(3, "OAKS")),
@@ -153,6 +171,8 @@ WRONG: list[tuple[type[Exception], str, Callable[[], object]]] = [
 
 RIGHT: list[Callable[[], object]] = [
     lambda: (basket(BOOK, [QUESTIONS["june"]] * 200), basket(BOOK, ())),
+    asked(granted=[Granted("O" * 20, Factor(10))] * 32),
+    lambda: (Factor(10), Factor("0.001"), Factor(Decimal("2.5000")), Factor.of_thousandths(0)),
     asked(quantity=100_000, granted=["oak"] * 32, properties=[Property(30, "V" * 30)] * 32, currency="EUR"),
     row(article="A" * 40, condition="\xc4" * 20, up_to=2**32 - 1, rounding=65_535, text=2**32 - 1, first=NoDay(20240230)),
     lambda: (Cents(-100_000_000), Percent(Decimal("-1000.00")), Percent("+12.500"), NoDay(0)),

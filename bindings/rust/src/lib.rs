@@ -22,6 +22,10 @@
 //! [`warnings`](Book::warnings): a condition with small letters never counts, since granted names are raised to capitals and those
 //! of rows are not, and a discount above zero raises the price.
 //!
+//! **A condition that is counted**, as a surcharge by the metre, is granted with a [`Factor`]:
+//! `Question::new("A1", day).granted_times("EDGE", "4.8".parse()?)`. The amounts of its lines are multiplied before they are rounded,
+//! and each [`Line`] says its factor.
+//!
 //! **A maker's own price file**, `ocd_price.csv`, becomes the price records of a book by [`Book::add_price_file`], and
 //! [`write_prices`] makes such a file of a book. A bad line is told by its number.
 //!
@@ -44,6 +48,7 @@ mod calendar;
 mod calendar_list;
 mod currency;
 mod day;
+mod factor;
 mod final_number;
 mod latin_1;
 // build.rs sets a condition that newer compilers have not been told of, and older ones do not know what this allows.
@@ -69,6 +74,7 @@ pub use calendar::{calendar, Stretches, CALENDAR_ROOM};
 pub use calendar_list::{calendar_list, StretchRecord};
 pub use currency::Currency;
 pub use day::Day;
+pub use factor::Factor;
 pub use final_number::{final_number, NUMBER_ROOM};
 pub use making::{
     Article, Book, FieldError, PackagingRow, PriceRow, Property, Question, Record, Rounding, Scheme, TextBook, Warning,

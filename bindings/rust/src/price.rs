@@ -1,10 +1,10 @@
 //! The price of an article, line by line.
 
 use crate::refusal::accepted;
-use crate::{raw, Currency, Level, OwnedPrice, Refusal};
+use crate::{raw, Currency, Factor, Level, OwnedPrice, Refusal};
 use std::fmt;
 
-pub(crate) const LINE_BYTES: usize = 14;
+pub(crate) const LINE_BYTES: usize = 16;
 pub(crate) const MOST_LINES: usize = 99;
 
 /// Room for the lines of any price, in bytes.
@@ -51,8 +51,10 @@ pub struct Line {
     pub level: Level,
     /// The place, from 1, of the granted condition that brought it.
     pub place: Option<u8>,
-    /// Its amount in cents.
+    /// Its amount in cents, with the factor in it.
     pub amount: i64,
+    /// How many times that condition counts; [`Factor::ONE`] for a line without a condition.
+    pub factor: Factor,
 }
 
 impl fmt::Display for Price<'_> {
@@ -81,12 +83,14 @@ impl ExactSizeIterator for Lines<'_> {}
 
 fn line_of(bytes: &[u8]) -> Line {
     let (text, rest) = bytes.split_at(4);
-    let (kind, amount) = rest.split_at(2);
+    let (kind, rest) = rest.split_at(2);
+    let (amount, factor) = rest.split_at(8);
     Line {
         text: u32::from_be_bytes(text.try_into().expect("four bytes")),
         level: Level::of(kind[0]),
         place: Some(kind[1]).filter(|place| *place != 0),
         amount: i64::from_be_bytes(amount.try_into().expect("eight bytes")),
+        factor: Factor::of(factor.try_into().expect("two bytes")),
     }
 }
 

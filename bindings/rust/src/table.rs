@@ -1,10 +1,11 @@
 //! A price as the table that a salesperson reads.
 
-use crate::{text, Cents, Line, OwnedPrice};
+use crate::{text, Cents, Factor, Line, OwnedPrice};
 use std::fmt;
 
 /// Lines, a rule, what one piece costs and what all cost, and the granted names that brought no line. Without text books a line is
-/// called by its level, and without names a condition by its place.
+/// called by its level, and without names a condition by its place. Behind a line whose condition has another factor than 1 stands
+/// that factor, as `x 2.5`.
 ///
 /// ```
 /// # use rafttwine::{Article, Book, Cents, Day, Percent, PriceRow, Question, TextBook};
@@ -59,10 +60,14 @@ impl<'a> PriceTable<'a> {
             Some(place) => format!("{} for {}", line.level, self.condition(place)),
             None => line.level.to_string(),
         };
-        match self.texts.map(|[asked, fallback]| text(asked, fallback, line.text)) {
+        let called = match self.texts.map(|[asked, fallback]| text(asked, fallback, line.text)) {
             None => plain,
             Some(Ok(text)) => text.to_string(),
             Some(Err(reason)) => format!("{plain} (text {}: {reason})", line.text),
+        };
+        match line.factor {
+            Factor::ONE => called,
+            factor => format!("{called} x {factor}"),
         }
     }
 

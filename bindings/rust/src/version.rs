@@ -3,7 +3,7 @@
 use crate::raw;
 use std::fmt;
 
-/// A version of the library. It is shown as `1.3.0`.
+/// A version of the library. It is shown as `2.0.0`.
 #[derive(Clone, Copy, Debug, PartialEq, Eq, PartialOrd, Ord, Hash)]
 pub struct Version {
     /// Changes when a program has to be compiled anew.

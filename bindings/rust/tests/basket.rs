@@ -8,7 +8,7 @@ use rafttwine::{
 };
 use samples::{day, sample};
 
-const NAMES: [&str; 8] = ["june_oak", "missing", "july_oak", "next_year", "mixed", "fives", "huge", "june"];
+const NAMES: [&str; 9] = ["june_oak", "missing", "june_factors", "july_oak", "next_year", "mixed", "fives", "huge", "june"];
 
 fn questions() -> Vec<Vec<u8>> {
     NAMES.iter().map(|name| sample(&format!("{name}.question"))).collect()
@@ -24,7 +24,7 @@ fn each_gets_what_its_question_gets_alone() {
     let alone: Vec<Result<OwnedPrice, Refusal>> = asked.iter().map(|question| price_of(&book, question)).collect();
     let units: Vec<Result<i64, u8>> =
         alone.iter().map(|one| one.as_ref().map(|price| price.unit).map_err(|why| why.number())).collect();
-    assert_eq!(units, [Ok(10_875), Err(3), Ok(11_420), Err(4), Err(5), Ok(11_815), Err(6), Ok(9_667)]);
+    assert_eq!(units, [Ok(10_875), Err(3), Ok(12_688), Ok(11_420), Err(4), Err(5), Ok(11_815), Err(6), Ok(9_667)]);
     assert_eq!(basket_of(&book, &asked), Ok(alone.clone()));
     let mut room = [0; BASKET_ROOM];
     let lent = basket(&book, &asked.concat(), &mut room).unwrap();
@@ -64,7 +64,7 @@ fn the_fullest_basket_has_room() {
 fn refusals() {
     let (book, asked) = (sample("sample.book"), questions().concat());
     let line = PRICE_ROOM / 99;
-    let written = NAMES.len() * 33 + (3 + 3 + 2 + 2) * line;
+    let written = NAMES.len() * 33 + (3 + 3 + 3 + 2 + 2) * line;
     assert_eq!(refusal(&[], &asked, BASKET_ROOM), Some(Refusal::BrokenBook));
     assert_eq!(refusal(&book, &asked[..asked.len() - 1], BASKET_ROOM), Some(Refusal::BrokenQuestion));
     assert_eq!(refusal(&book, &asked, written - 1), Some(Refusal::ShortOutput));

@@ -26,6 +26,14 @@ fn every_longest_stretch_to_be_kept() {
     assert_eq!(calendar_of(&book, &question, day(20240628)), Err(Refusal::BadPeriod));
 }
 
+/// With 2.5 times oak: in July 3281.25 on top of 10500, and 3.33 % of 13781 are 458.9073.
+#[test]
+fn a_factor_counts_on_every_day() {
+    let stretches = calendar_of(&sample("sample.book"), &sample("calendar_factors.question"), end()).unwrap();
+    let units: Vec<_> = stretches.iter().map(|stretch| stretch.outcome.map(|price| price.unit)).collect();
+    assert_eq!(units, [Ok(12_688), Ok(13_322), Err(Refusal::NoBaseLine)]);
+}
+
 #[test]
 fn the_longest_calendar_has_room() {
     let days = (20240101..=20261231).filter_map(|number| Day::of_number(number).ok());

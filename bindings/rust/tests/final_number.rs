@@ -16,6 +16,7 @@ fn values_behind_the_base_number() {
         ("padded.question", &b"T100 OAK _--_XXX"[..]),
         ("trimmed.question", &b"T200 OAK_--_XXX"[..]),
         ("june.question", &b"A1"[..]),
+        ("june_factors.question", &b"A1"[..]),
     ] {
         assert_eq!(final_number(&book, &sample(name), &mut [0; NUMBER_ROOM]), Ok(number));
     }

@@ -2,7 +2,9 @@
 
 mod samples;
 
-use rafttwine::{Article, Book, Cents, FieldError, PackagingRow, PriceRow, Property, Question, Rounding, Scheme, TextBook, Way};
+use rafttwine::{
+    Article, Book, Cents, Factor, FieldError, PackagingRow, PriceRow, Property, Question, Rounding, Scheme, TextBook, Way,
+};
 use samples::day;
 use std::path::Path;
 
@@ -35,7 +37,7 @@ fn hex(cell: &str) -> Vec<u8> {
 fn book() -> Result<(), FieldError> {
     let mut book = Book::new();
     book.add(Article::new("T1").scheme("S"))?;
-    book.add(PriceRow::base("T1", Cents(12_345)).days(day(20260101), day(20260630)).rounding(1).text(7))?;
+    book.add(PriceRow::base("T1", Cents(12_345)).condition("OAK").days(day(20260101), day(20260630)).rounding(1).text(7))?;
     book.add(Rounding::new(1, Way::Commercial, 10).add_after(Cents(-1)))?;
     book.add(PackagingRow::new("T1").tare(500).net(2_000).items(2).weight_unit("KGM"))?;
     book.add(Scheme::new("S").between_values("/").trim())?;
@@ -47,8 +49,10 @@ fn book() -> Result<(), FieldError> {
 
 #[test]
 fn question() -> Result<(), FieldError> {
-    let question = Question::new("T1", day(20260629)).quantity(2).granted(["oak"]).properties([Property::valued(4, "ASH")]);
-    assert_eq!(question.currency("EUR").bytes()?, examples(&["Question"]));
+    let question = Question::new("T1", day(20260629)).quantity(2).properties([Property::valued(4, "ASH")]).currency("EUR");
+    assert_eq!(question.clone().granted(["oak"]).bytes()?, examples(&["Question"]));
+    let factor = Factor::thousandths(2_500)?;
+    assert_eq!(question.granted_times("oak", factor).bytes()?, examples(&["Question of version 2"]));
     Ok(())
 }
 

@@ -57,7 +57,7 @@ fn the_calls_take_nothing() {
         assert_eq!(read_prices(b"A1;;S;B;1;;1;1;EUR;;;0;", &mut records).unwrap().len(), 36);
         assert_eq!(write_prices(&records, &mut []).unwrap_err().refusal, Refusal::BrokenBook);
         assert!(price(&[], &[], &mut []).is_err());
-        assert_eq!(version().major, 1);
+        assert_eq!(version().major, 2);
     });
     assert_eq!(taken, 0);
 }

@@ -19,6 +19,8 @@ fn plain_article_and_what_conditions_add() {
     for (name, values, units) in [
         ("carton.question", [800, 720, 45, 26, 2_000, 15_000, 2, 1, 32_000].map(Some), known),
         ("carton_oak.question", [800, 720, 45, 26, 2_000, 18_000, 2, 1, 38_000].map(Some), known),
+        // A factor is for prices: a carton weighs what it weighs.
+        ("carton_factor.question", [800, 720, 45, 26, 2_000, 18_000, 2, 1, 38_000].map(Some), known),
         ("carton_wide.question", [Some(2), None, None, None, None, None, None, None, None], [Some("CMT"), None, None]),
     ] {
         assert_eq!(shown(&packaging(&book, &sample(name)).unwrap()), (values, units));

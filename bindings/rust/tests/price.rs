@@ -2,8 +2,10 @@
 
 mod samples;
 
-use rafttwine::{price, price_of, Article, Book, Cents, Level, Line, OwnedPrice, PriceRow, Question, Refusal, PRICE_ROOM};
+use rafttwine::{price, price_of, Article, Book, Cents, Factor, Level, Line, OwnedPrice, PriceRow, Question, Refusal, PRICE_ROOM};
 use samples::{day, sample};
+
+const LINE: usize = PRICE_ROOM / 99;
 
 fn refusal(book: &[u8], question: &[u8], room: usize) -> Option<Refusal> {
     price(book, question, &mut vec![0; room]).err()
@@ -14,14 +16,37 @@ fn lines_total_and_unused_names() {
     let mut room = [0; PRICE_ROOM];
     let answer = price(&sample("sample.book"), &sample("june_oak.question"), &mut room).unwrap();
     let lines = [
-        Line { text: 100, level: Level::Base, place: None, amount: 10_000 },
-        Line { text: 200, level: Level::Surcharge, place: Some(1), amount: 1_250 },
-        Line { text: 300, level: Level::Discount, place: None, amount: -375 },
+        Line { text: 100, level: Level::Base, place: None, amount: 10_000, factor: Factor::ONE },
+        Line { text: 200, level: Level::Surcharge, place: Some(1), amount: 1_250, factor: Factor::ONE },
+        Line { text: 300, level: Level::Discount, place: None, amount: -375, factor: Factor::ONE },
     ];
     assert_eq!(answer.lines().len(), 3);
     assert!(answer.lines().eq(lines));
     assert_eq!((answer.unit, answer.total, answer.currency.as_str(), answer.unused), (10_875, 3 * 10_875, "EUR", 0b10));
     assert!(answer.unused_places().eq([2]));
+}
+
+/// 2.5 times oak are 3125; 3.33 % of 13125 are 437.0625.
+#[test]
+fn lines_with_factors() {
+    let kept = price_of(&sample("sample.book"), &sample("june_factors.question")).unwrap();
+    let lines = [
+        Line { text: 100, level: Level::Base, place: None, amount: 10_000, factor: Factor::ONE },
+        Line { text: 200, level: Level::Surcharge, place: Some(2), amount: 3_125, factor: "2.5".parse().unwrap() },
+        Line { text: 300, level: Level::Discount, place: None, amount: -437, factor: Factor::ONE },
+    ];
+    assert_eq!((&kept.lines[..], kept.unit, &kept.unused[..]), (&lines[..], 12_688, &[1][..]));
+}
+
+/// A factor at its bound, and one past it, which no question of this crate has.
+#[test]
+fn a_factor_out_of_range_is_refused() {
+    let (book, mut question) = (sample("sample.book"), sample("june_factors.question"));
+    let last = question.len() - 3;
+    for (factor, reason) in [(10_000_u16, None), (10_001, Some(Refusal::BrokenQuestion))] {
+        question[last..last + 2].copy_from_slice(&factor.to_be_bytes());
+        assert_eq!(refusal(&book, &question, PRICE_ROOM), reason);
+    }
 }
 
 #[test]
@@ -81,6 +106,7 @@ fn refusals() {
     ] {
         assert_eq!(refusal(&book, &sample(name), PRICE_ROOM), Some(reason));
     }
-    assert_eq!(refusal(&book, &question, 3 * 14 - 1), Some(Refusal::ShortOutput));
-    assert_eq!(refusal(&book, &question, 3 * 14), None);
+    assert_eq!(LINE, 16);
+    assert_eq!(refusal(&book, &question, 3 * LINE - 1), Some(Refusal::ShortOutput));
+    assert_eq!(refusal(&book, &question, 3 * LINE), None);
 }

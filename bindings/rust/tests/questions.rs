@@ -2,7 +2,7 @@
 
 mod samples;
 
-use rafttwine::{price_of, Book, Day, Property, Question, Refusal, Sort};
+use rafttwine::{price_of, Book, Day, Factor, Property, Question, Refusal, Sort};
 use samples::day;
 
 #[test]
@@ -14,6 +14,20 @@ fn bytes_of_a_question() {
     assert_eq!(question.bytes().unwrap(), due);
 }
 
+/// Version 2, unless every factor is 1.
+#[test]
+fn bytes_of_a_question_with_factors() {
+    let asked = || Question::new("A1", day(20240102)).granted(["oak"]);
+    let once = b"\0\0\0\x1a\x01\x02A1S\0\0\0\x01\x34\xd6\xe6\0\0\0\x01\x01\x03oak\0";
+    assert_eq!(asked().bytes().unwrap(), once);
+    let twice = b"\0\0\0\x1f\x01\x02A1S\0\0\0\x01\x34\xd6\xe6\0\0\0\x01\x02\x03oak\x04edge\0";
+    assert_eq!(asked().granted_times("edge", Factor::ONE).bytes().unwrap(), twice);
+    let factors = b"\0\0\0\x23\x02\x02A1S\0\0\0\x01\x34\xd6\xe6\0\0\0\x01\x02\x03oak\x03\xe8\x04edge\x09\xc4\0";
+    let question = asked().granted_times("edge", "2.5".parse().unwrap());
+    assert_eq!(question.bytes().unwrap(), factors);
+    assert_eq!(question.granted(["oak"]).bytes().unwrap(), once);
+}
+
 #[test]
 fn questions_that_are_not_in_their_layout() {
     let asked = || Question::new("A1", day(20240630));
@@ -21,6 +35,11 @@ fn questions_that_are_not_in_their_layout() {
         (asked().quantity(100_001), "Question.quantity: 100001, and 1 to 100000 are allowed"),
         (asked().currency("€UR"), "Question.currency: \"€UR\", and three capitals are needed"),
         (asked().granted(["oak", ""]), "Question.granted of place 2: empty, and at least 1 byte is needed"),
+        (asked().granted_times("", Factor::ONE), "Question.granted of place 1: empty, and at least 1 byte is needed"),
+        (
+            asked().granted(["oak"; 32]).granted_times("edge", Factor::ONE),
+            "Question.granted: 33 of them, and at most 32 are allowed",
+        ),
         (asked().granted(["oak"; 33]), "Question.granted: 33 of them, and at most 32 are allowed"),
         (asked().properties([Property::hidden(1); 33]), "Question.properties: 33 of them, and at most 32 are allowed"),
         (asked().properties([Property::hidden(0)]), "Property.width of place 1: 0, and 1 to 30 are allowed"),
@@ -37,7 +56,9 @@ fn the_library_accepts_questions_at_their_bounds() {
     let (article, name, value) = ("A".repeat(40), "ä".repeat(20), "ÿ".repeat(30));
     let most = Question::new(&article, Day::LAST).quantity(100_000).currency("AAA").granted([name.as_str(); 32]);
     let most = most.properties([Property::valued(30, &value); 32]);
-    for question in [most, Question::new("~", Day::FIRST).properties([Property::unselected(1)])] {
+    let ten = Factor::thousandths(10_000).unwrap();
+    let factors = (0..32).fold(Question::new("~", Day::FIRST), |asked, _| asked.granted_times(&name, ten));
+    for question in [most, factors, Question::new("~", Day::FIRST).properties([Property::unselected(1)])] {
         assert_eq!(price_of(&Book::new(), &question.bytes().unwrap()), Err(Refusal::NoArticle));
     }
 }

@@ -36,6 +36,22 @@ No price line for ash";
 }
 
 #[test]
+fn a_factor_stands_behind_its_line() {
+    let price = price_of(&sample("sample.book"), &sample("june_factors.question")).unwrap();
+    let due = "\
+Base price                               100.00 EUR
+Surcharge for granted condition 2 x 2.5   31.25 EUR
+Discount                                  -4.37 EUR
+---------------------------------------------------
+One piece                                126.88 EUR
+No price line for granted condition 1";
+    assert_eq!(price.to_string(), due);
+    let asked = sample("asked.texts");
+    let lacking = price.table().texts(&asked, &asked).granted(&["ash", "oak"]).to_string();
+    assert!(lacking.contains("\n x 2.5 "), "{lacking}");
+}
+
+#[test]
 fn a_text_that_is_not_there_is_told() {
     let (asked, price) = (sample("asked.texts"), price_of(&sample("sample.book"), &sample("june.question")).unwrap());
     let lacking = price.table().texts(&asked, &asked).to_string();

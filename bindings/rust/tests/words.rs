@@ -1,6 +1,6 @@
-//! Percentages and days, checked when they are made.
+//! Percentages, factors and days, checked when they are made.
 
-use rafttwine::{Day, Percent};
+use rafttwine::{Day, Factor, Percent};
 
 #[test]
 fn percentages_read() {
@@ -16,6 +16,35 @@ fn percentages_read() {
         "\"9223372036854775807\" is too great a percentage"
     );
     assert_eq!("1.000".parse::<Percent>().unwrap_err().sentence(), "\"1.000\" has more than two decimals");
+}
+
+#[test]
+fn factors_read() {
+    for (text, thousandths, shown) in [
+        ("2.5", 2_500, "2.5"),
+        ("3", 3_000, "3"),
+        ("0.001", 1, "0.001"),
+        ("10.000", 10_000, "10"),
+        ("0", 0, "0"),
+        ("01.20", 1_200, "1.2"),
+    ] {
+        let factor: Factor = text.parse().unwrap();
+        assert_eq!(
+            (factor, factor.as_thousandths(), factor.to_string().as_str()),
+            (Factor::thousandths(thousandths).unwrap(), thousandths, shown)
+        );
+    }
+    for text in ["", ".5", "5.", "2,5", "-1", "+1", "1e1", "x2", "1.-5", "99999999999"] {
+        let sentence = format!("Factor: {text:?} is no factor, as 2.5 or 3 would be");
+        assert_eq!(text.parse::<Factor>().unwrap_err().to_string(), sentence);
+    }
+    for text in ["10.001", "11", "2500", "65.536", "4294967295"] {
+        let sentence = format!("Factor: {text:?} is too great a factor: 0 to 10 are allowed");
+        assert_eq!(text.parse::<Factor>().unwrap_err().to_string(), sentence);
+    }
+    assert_eq!("1.0000".parse::<Factor>().unwrap_err().sentence(), "\"1.0000\" has more than three decimals");
+    assert_eq!(Factor::thousandths(u16::MAX).unwrap_err().sentence(), "65535 thousandths, and 0 to 10000 are allowed");
+    assert_eq!((Factor::ONE.to_string(), Factor::ONE.as_thousandths()), ("1".to_string(), 1_000));
 }
 
 #[test]

@@ -1,4 +1,5 @@
 pub mod ExactLaws
+pub mod FactoredLaws
 pub mod Steps
 pub mod RoundedLaws
 pub mod TotalLaws

@@ -1,9 +1,13 @@
--- What the functions of amounts ask and give. The bounds leave room for an amount of up to a million million million parts, ten million to a cent.
+-- What the functions of amounts ask and give. The bounds, on paper: a percentage of up to 10^5 is of up to 10^9 cents, that is 10^14 parts of which
+-- 10^4 are a cent; by a factor of up to 10^4 thousandths it has 10^18 parts, 10^7 to a cent. A fixed amount stays far below, 10^8 times 10^4. What is
+-- added before is up to 10^6 cents, 10^13 parts, and a step up to 10^6 cents, 10^13 parts too: so nothing that is counted in steps is over 1.00001
+-- times 10^18 parts, twice a begun step is at most 2 times 10^13, and 64 bits hold 9 times 10^18.
 use Prim.Native.Nat.{ℕ, _+_, _<_, _≤_}
 use mathlib.Core.Path.{_≡_}
 use mathlib.Core.Bool.{true, cond}
 use lib.IntN.{ℤ, natAbs, _+ℤ_}
-use Rattle.rules.specs.Amounts.{exact, rounded, SoundRounding}
+use Rattle.rules.specs.Amounts.{exact, factored, rounded, SoundRounding}
+use Rattle.rules.specs.Question.{mostFactor}
 use Rattle.rules.specs.Bytes.{eitherSide}
 use Rattle.rules.specs.BookLayout.{inBounds}
 use Rattle.rules.specs.Lines.{mostTotal}
@@ -26,6 +30,22 @@ pub record ExactAmount (value : Value) (of : ℤ) (r : Fraction) : Type 0 where
   pub top-in : natAbs (r .top) ≤ 100_000_000_000_000
   pub low : 1 ≤ r .bottom
   pub high : r .bottom ≤ 10_000
+
+-- ---- its factor
+
+-- a factor as a question may have it, and the exact amount of a row
+pub record Factorable (factor : ℕ) (x : Fraction) : Type 0 where
+  pub factor-in : factor ≤ mostFactor
+  pub top-in : natAbs (x .top) ≤ 100_000_000_000_000
+  pub low : 1 ≤ x .bottom
+  pub high : x .bottom ≤ 10_000
+
+-- whatever the rounding, `r` is rounded as the amount times the factor is
+pub record FactoredAmount (factor : ℕ) (x r : Fraction) : Type 0 where
+  pub rounds : (rounding : Rounding) → rounded rounding r ≡ rounded rounding (factored factor x)
+  pub top-in : natAbs (r .top) ≤ 1_000_000_000_000_000_000
+  pub low : 1 ≤ r .bottom
+  pub high : r .bottom ≤ 10_000_000
 
 -- ---- rounding
 

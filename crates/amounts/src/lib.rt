@@ -3,6 +3,7 @@ use rules::Cents;
 use rules::Fraction;
 use rules::LEAST_TOTAL;
 use rules::MOST_TOTAL;
+use rules::PLAIN_FACTOR;
 use rules::Rounding;
 use rules::Total;
 use rules::Value;
@@ -11,7 +12,7 @@ ghost use mathlib.Core.Path.{_≡_};
 ghost use Prim.Native.Nat.{_<_};
 ghost use Rattle.integers.specs.Floor.{floor};
 ghost use Rattle.rules.specs.Amounts.{ceiling, nearest, stepsBy};
-ghost use Rattle.amounts.specs.Contracts.{BookValue, ExactAmount, InSteps, Roundable, RoundedCents, Addable, totalAfter};
+ghost use Rattle.amounts.specs.Contracts.{BookValue, ExactAmount, Factorable, FactoredAmount, InSteps, Roundable, RoundedCents, Addable, totalAfter};
 
 // ---- the exact amount
 
@@ -29,6 +30,20 @@ pub fn exact(value: Value, of: Cents) -> Fraction
             top: share.0 * of.0,
             bottom: 10_000,
         },
+    }
+}
+
+// So many thousandths of it. A thousand of them are the amount as it is, and it is rounded alike.
+pub fn factored(factor: u16, x: Fraction) -> Fraction
+    requires { ⌜ Factorable factor x ⌝ }
+    ensures { λ r. ⌜ FactoredAmount factor x r ⌝ }
+{
+    if factor == PLAIN_FACTOR {
+        return x;
+    }
+    Fraction {
+        top: x.top * (factor as i64),
+        bottom: x.bottom * 1_000,
     }
 }
 

@@ -169,7 +169,7 @@ module _ (b s : List ℕ) (end : ℕ) (lent : List ℕ) {r : CalendarAnswer} {af
     -- The stretches read back from the bytes start on the question's day, each next one on the day after the one before, and the last ends on
     -- the end date; they stand in date order; neighbours differ; and on every day from a stretch's first to its last the price call, asked with
     -- the question whose date bytes are that day's and with any output lent, answers with the stretch's number, currency and unit total, unless
-    -- it says 7 (which `room-enough` of the price call rules out for 1,386 bytes).
+    -- it says 7 (which `room-enough` of the price call rules out for 1,584 bytes).
     pub each-day-by-the-price-call : r .number ≡ 0 → RightBy (PricedAs b s q) (q .date) end (readStretches (r .length / 20) after)
     unfolding shownBytes lentAfter
     each-day-by-the-price-call z = go (calendar b s end (length lent)) refl

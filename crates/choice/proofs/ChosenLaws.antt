@@ -24,7 +24,7 @@ use Rattle.grants.specs.Places as Grants
 use Rattle.grants.proofs.FillLaws as Fill
 use Rattle.choice.specs.declared.hands.Hand.{Hand}
 use Rattle.choice.specs.declared.hands.Seen.{Seen}
-use Rattle.choice.specs.Slots.{inSlot, slotChosen}
+use Rattle.choice.specs.Slots.{inSlot, placedRow, slotChosen}
 use Rattle.choice.specs.Hands.{isEmpty, takenOf, TakenIs, RowThere, Holds, HandIs, NoRow, OneRow, SeenIs}
 use Rattle.choice.specs.Walk.{unseen, seenOf, Chooses, SlotsHold}
 use Rattle.choice.proofs.PassingLaws.{same-row}
@@ -59,7 +59,7 @@ module _ {w : List ℕ} {rs : List Row} {q : Question} {slots : List Seen} (hold
     unfolding slotChosen
     slot-empty z = go here
       where
-        go : {o : Option Row} → HandIs w hand o → Option·map {B = Chosen} (λ x. record { place = i % 33; row = x }) o ≡ none
+        go : {o : Option Row} → HandIs w hand o → Option·map {B = Chosen} (placedRow q (i % 33)) o ≡ none
         go (NoRow e) = refl
         go (OneRow b h) = absurd (omega (arith, eqb-true (hand .at) 0 z, h .there .low))
 
@@ -71,7 +71,7 @@ module _ {w : List ℕ} {rs : List Row} {q : Question} {slots : List Seen} (hold
         go : {o : Option Row} → HandIs w hand o → choose (q .date) (q .quantity) (q .currency) (keep (inSlot q (i / 33) (i % 33)) rs) ≡ o
             → (x : Row) × Holds w hand x × Chooses q rs i x
         go (NoRow z) e = absurd (false≢true (sym n ∙ z))
-        go (OneRow b h) e = (b, h, record { is = ap (Option·map (λ y. record { place = i % 33; row = y })) e })
+        go (OneRow b h) e = (b, h, record { is = ap (Option·map (placedRow q (i % 33))) e })
 
 -- ---- the row in hand can be read
 

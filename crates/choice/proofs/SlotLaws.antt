@@ -1,6 +1,6 @@
 -- The rows that the 99 slots choose, slot after slot, are the chosen rows of the definition.
 use Prim.Native.Nat.{ℕ, suc, _+_, _/_, _%_, _≤_, _<_}
-use mathlib.Core.Path.{_≡_, refl, sym, _∙_, ap}
+use mathlib.Core.Path.{_≡_, refl, sym, _∙_, ap, subst}
 use mathlib.Core.Bool.{Bool, true, false, _&&_, cond}
 use mathlib.Core.List.{List, [], _∷_, _++_, map}
 use mathlib.Core.Option.{Option, some, none, Option·map}
@@ -11,16 +11,16 @@ use borrow.Author.Tests.{eqb-true, ne-eqb}
 use Rattle.rules.specs.Lists.{same, keep, consIf, consSome, gather}
 use Rattle.rules.specs.Bytes.{raise}
 use Rattle.rules.specs.Book.{Row, base, surcharge, discount}
-use Rattle.rules.specs.Question.{Question, Grant, grants}
+use Rattle.rules.specs.Question.{Granted, Question, grants, plainFactor}
 use Rattle.rules.specs.Choice.{component, choose, step₁, step₂, step₃, step₄, step₅, surviving}
-use Rattle.rules.specs.Lines.{Slot, slotsAt, slots, Chosen, rowsAt, chosenAt, chosen}
+use Rattle.rules.specs.Lines.{namedSlot, slotsAt, slots, Chosen, rowsAt, chosenAt, chosen}
 use Rattle.rules.proofs.TestLaws.{and-false}
 use Rattle.rules.proofs.ListLaws.{All, gather-append}
 use Rattle.grants.specs.Table.{GrantsAre}
 use Rattle.grants.specs.Places as Grants
 use Rattle.grants.proofs.GatherLaws as Gathered
 use Rattle.grants.proofs.FirstLaws.{firstFrom, place-first}
-use Rattle.choice.specs.Slots.{levelOf, inSlot, slotChosen, slotsChosen}
+use Rattle.choice.specs.Slots.{levelOf, inSlot, placedRow, slotChosen, slotsChosen}
 
 -- ---- lists
 
@@ -87,8 +87,8 @@ level-is Discount x = go (eqb x base) (eqb x surcharge) (eqb x discount) refl re
 empty-slot : (q : Question) (rs : List Row) (l place : ℕ) → ((c : List ℕ) → eqb (Grants.placeOf (q .granted) c) place ≡ false) → slotChosen rs q l place ≡ none
 unfolding slotChosen inSlot
 empty-slot q rs l place h =
-    ap (λ (xs : List Row). Option·map (λ r. record { place = place; row = r }) (choose (q .date) (q .quantity) (q .currency) xs)) (keep-none (inSlot q l place) rs (all-of none-in rs))
-    ∙ ap (Option·map (λ r. record { place = place; row = r })) (nothing (q .currency))
+    ap (λ (xs : List Row). Option·map (placedRow q place) (choose (q .date) (q .quantity) (q .currency) xs)) (keep-none (inSlot q l place) rs (all-of none-in rs))
+    ∙ ap (Option·map (placedRow q place)) (nothing (q .currency))
   where
     none-in : (r : Row) → inSlot q l place r ≡ false
     none-in r =
@@ -99,10 +99,10 @@ empty-slot q rs l place h =
     nothing (some c) = unfold choose surviving step₁ step₂ step₃ step₄ step₅ in refl
 
 -- no condition is at a place behind the last granted name
-behind-names : (k : ℕ) (names : List (List ℕ)) (c : List ℕ) (place : ℕ) → k + length names ≤ place → place < 33 → eqb (firstFrom k names c) place ≡ false
+behind-names : (k : ℕ) (names : List Granted) (c : List ℕ) (place : ℕ) → k + length names ≤ place → place < 33 → eqb (firstFrom k names c) place ≡ false
 unfolding firstFrom
 behind-names k [] c place h l = ne-eqb 33 place (λ e. omega arith)
-behind-names k (g ∷ gs) c place h l = go (same (map raise g) c) (behind-names (suc k) gs c place (omega arith) l)
+behind-names k (g ∷ gs) c place h l = go (same (map raise (g .name)) c) (behind-names (suc k) gs c place (omega arith) l)
   where
     go : (b : Bool) → eqb (firstFrom (suc k) gs c) place ≡ false → eqb (cond b k (firstFrom (suc k) gs c)) place ≡ false
     go true f = ne-eqb k place (λ e. omega arith)
@@ -124,19 +124,21 @@ module _ (q : Question) {table : List ℕ} (ok : GrantsAre (q .granted) table) {
       keep-same _ _ rs (all-of (λ r. λ i. same (r .article) (q .article) && (eqb (r .sort) (q .sort) && (level-is level (r .level) i && h (r .condition) i))) rs)
 
   slot-component : (place : ℕ) (name : List ℕ) → ((c : List ℕ) → eqb (Grants.placeOf (q .granted) c) place ≡ same c name)
-      → slotChosen rs q l place ≡ chosenAt rs q (record { level = letter; place = place; condition = name })
+      → (factor : ℕ) → Grants.factorOf (q .granted) place ≡ factor → slotChosen rs q l place ≡ chosenAt rs q (record { level = letter; place = place; condition = name; factor = factor })
   unfolding slotChosen chosenAt rowsAt
-  slot-component place name h =
-      ap (λ (xs : List Row). Option·map (λ r. record { place = place; row = r }) (choose (q .date) (q .quantity) (q .currency) xs)) (in-component place name h)
+  slot-component place name h factor f =
+      λ i. Option·map (λ r. record { place = place; factor = f i; row = r }) (choose (q .date) (q .quantity) (q .currency) (in-component place name h i))
 
   -- all places of a level
   level-chosen : gather (slotChosen rs q l) (Grants.upFrom 0 33) ≡ gather (chosenAt rs q) (slotsAt (grants (q .granted)) letter)
   level-chosen =
-      let of : Grant → Slot = λ g. record { level = letter; place = g .place; condition = g .name } in
-      let rest : gather (slotChosen rs q l) (Grants.upFrom 1 32) ≡ gather (chosenAt rs q) (map of (grants (q .granted))) =
-      Gathered.places-gathered ok (slotChosen rs q l) (λ g. chosenAt rs q (of g)) (λ g h. slot-component (g .place) (g .name) h) (empty-slot q rs l)
-      ∙ sym (gather-map (chosenAt rs q) of (grants (q .granted))) in
-      (λ i. consSome (slot-component 0 [] (Gathered.none-is ok) i) (rest i))
+      let rest : gather (slotChosen rs q l) (Grants.upFrom 1 32) ≡ gather (chosenAt rs q) (map (namedSlot letter) (grants (q .granted))) =
+      Gathered.places-gathered ok (slotChosen rs q l) (λ g. chosenAt rs q (namedSlot letter g)) (λ g h f. slot-component (g .place) (g .name) h (g .factor) f) (empty-slot q rs l)
+      ∙ sym (gather-map (chosenAt rs q) (namedSlot letter) (grants (q .granted))) in
+      (λ i. consSome (slot-component 0 [] (Gathered.none-is ok) plainFactor plain i) (rest i))
+    where
+      plain : Grants.factorOf (q .granted) 0 ≡ plainFactor
+      plain = unfold Grants.factorOf in refl
 
 -- ---- all three levels
 
@@ -152,3 +154,18 @@ slots-choose q ok rs =
   where
     at : ℕ → Option Chosen
     at i = slotChosen rs q (i / 33) (i % 33)
+
+-- each of them has the factor of its place
+pub chosen-factors : (q : Question) {table : List ℕ} → GrantsAre (q .granted) table → (rs : List Row)
+    → All (λ c. c .factor ≡ Grants.factorOf (q .granted) (c .place)) (chosen rs q)
+unfolding slotsChosen slotChosen
+chosen-factors q ok rs = subst (All (λ c. c .factor ≡ Grants.factorOf (q .granted) (c .place))) (slots-choose q ok rs) (each (Grants.upFrom 0 99))
+  where
+    one : (place : ℕ) (o : Option Row) (cs : List Chosen) → All (λ c. c .factor ≡ Grants.factorOf (q .granted) (c .place)) cs
+        → All (λ c. c .factor ≡ Grants.factorOf (q .granted) (c .place)) (consSome (Option·map (placedRow q place) o) cs)
+    one place none cs h = h
+    one place (some r) cs h = (refl, h)
+
+    each : (is : List ℕ) → All (λ c. c .factor ≡ Grants.factorOf (q .granted) (c .place)) (gather (λ i. slotChosen rs q (i / 33) (i % 33)) is)
+    each [] = tt
+    each (i ∷ is) = one (i % 33) (choose (q .date) (q .quantity) (q .currency) (keep (inSlot q (i / 33) (i % 33)) rs)) (gather (λ i. slotChosen rs q (i / 33) (i % 33)) is) (each is)

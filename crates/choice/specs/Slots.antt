@@ -27,9 +27,13 @@ inSlot q level place r =
 
 -- ---- what the slots choose
 
+-- a row that is chosen at a place has the factor of the place
+abbrev pub placedRow : Question → ℕ → Row → Chosen
+placedRow q place r = record { place = place; factor = Grants.factorOf (q .granted) place; row = r }
+
 unfoldable pub slotChosen : List Row → Question → ℕ → ℕ → Option Chosen
 slotChosen rs q level place =
-    Option·map (λ r. record { place = place; row = r }) (choose (q .date) (q .quantity) (q .currency) (keep (inSlot q level place) rs))
+    Option·map (placedRow q place) (choose (q .date) (q .quantity) (q .currency) (keep (inSlot q level place) rs))
 
 -- slot i is of level i / 33 and place i % 33
 unfoldable pub slotsChosen : List Row → Question → List Chosen

@@ -17,7 +17,7 @@ use Rattle.grants.specs.Asks.{Asks}
 use Rattle.choice.specs.declared.hands.Hand.{Hand}
 use Rattle.choice.specs.declared.hands.Seen.{Seen}
 use Rattle.choice.specs.declared.hands.Passing.{Passing}
-use Rattle.choice.specs.Slots.{noLevel, levelOf, inSlot, slotChosen}
+use Rattle.choice.specs.Slots.{noLevel, levelOf, inSlot, placedRow, slotChosen}
 use Rattle.choice.specs.Hands.{SeenIs}
 
 -- ---- a record that goes by
@@ -97,7 +97,7 @@ seenOf q rs level place = Choice.walk (q .date) (q .quantity) (q .currency) Choi
 
 -- of these rows slot i chooses r
 pub record Chooses (q : Question) (rs : List Row) (i : ℕ) (r : Row) : Type 0 where
-  pub is : slotChosen rs q (i / 33) (i % 33) ≡ some (record { place = i % 33; row = r })
+  pub is : slotChosen rs q (i / 33) (i % 33) ≡ some (placedRow q (i % 33) r)
 
 -- the slots hold what the question sees of these rows; the rows in hand stand in w
 pub record SlotsHold (w : List ℕ) (rs : List Row) (q : Question) (slots : List Seen) : Type 0 where

@@ -15,13 +15,13 @@ use Rattle.grants.specs.Asks.{TermsAre, termsOn, Asks, Tabled, Asked, ar
 use Rattle.grants.proofs.FillLaws.{names-count}
 
 module _ {s : List ℕ} {ask : Ask} (a : AskIs s ask) where
-  pub names-there : NamesStand s (ask .granted) (ask .conditions) × (ask .conditions ≤ 32)
+  pub names-there : NamesStand (ask .version) s (ask .granted) (ask .conditions) × (ask .conditions ≤ 32)
   names-there = (a .names, a .conditions)
 
   pub article-inside : ask .article .at + ask .article .size ≤ length s
   article-inside = a .inside
 
-  pub wanted-is : {terms : Terms} → TermsAre ask terms → {table : List ℕ} → length table ≡ tableSize → GrantsAre (namesAt s (ask .granted) (ask .conditions)) table
+  pub wanted-is : {terms : Terms} → TermsAre ask terms → {table : List ℕ} → length table ≡ tableSize → GrantsAre (namesAt (ask .version) s (ask .granted) (ask .conditions)) table
       → WantedIs s ask (record { table = table; terms = terms })
   wanted-is {terms} t {table} long g =
       let k : ask .article .size ≡ ask .article .at + ask .article .size - ask .article .at = omega arith in
@@ -34,7 +34,7 @@ module _ {s : List ℕ} {ask : Ask} (a : AskIs s ask) where
           date = ap (λ (x : Terms). x .date .0) (sym (t .is));
           quantity = ap (λ (x : Terms). x .quantity) (sym (t .is));
           granted = g;
-          count = names-count s (ask .granted) (ask .conditions) ∙ ap (λ (x : Terms). x .names) (sym (t .is));
+          count = names-count (ask .version) s (ask .granted) (ask .conditions) ∙ ap (λ (x : Terms). x .names) (sym (t .is));
         };
       }
 

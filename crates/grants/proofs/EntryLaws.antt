@@ -13,14 +13,14 @@ use Rattle.grants.specs.Table.{entryIs, lookFrom}
 -- ---- one entry
 
 module _ (t : List ℕ) (i : ℕ) (c : List ℕ) where
-  pub entry-other : {n top : ℕ} → Number (getD t (21 * i) 0) top n → (n ≡ length c → ⊥) → Says (entryIs t i c) false
+  pub entry-other : {n top : ℕ} → Number (getD t (23 * i) 0) top n → (n ≡ length c → ⊥) → Says (entryIs t i c) false
   unfolding entryIs
-  entry-other p h = record { is = rw (ne-eqb (getD t (21 * i) 0) (length c) (λ e. h (p .is ∙ e))) }
+  entry-other p h = record { is = rw (ne-eqb (getD t (23 * i) 0) (length c) (λ e. h (p .is ∙ e))) }
 
-  pub entry-same : {n top : ℕ} {r : Bool} → Number (getD t (21 * i) 0) top n → n ≡ length c
-      → Says (same (take (21 * i + 1 + length c - (21 * i + 1)) (drop (21 * i + 1) t)) c) r → Says (entryIs t i c) r
+  pub entry-same : {n top : ℕ} {r : Bool} → Number (getD t (23 * i) 0) top n → n ≡ length c
+      → Says (same (take (23 * i + 3 + length c - (23 * i + 3)) (drop (23 * i + 3) t)) c) r → Says (entryIs t i c) r
   unfolding entryIs
-  entry-same p h s = record { is = rw (eq-eqb (getD t (21 * i) 0) (length c) (sym (p .is) ∙ h)) (s .is) }
+  entry-same p h s = record { is = rw (eq-eqb (getD t (23 * i) 0) (length c) (sym (p .is) ∙ h)) (s .is) }
 
 -- ---- one after the other
 

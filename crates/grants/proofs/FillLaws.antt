@@ -8,43 +8,55 @@ use lib.Dec.{ltb}
 use lib.ListN.{length, getD, take, drop, replicate, length-append, length-map, length-drop, length-replicate, replicate-append-replicate}
 use lib.Seq.{take-at, drop-append-add, length-take-le}
 use Rattle.rules.specs.Lists.{same, all, between}
-use Rattle.rules.specs.Bytes.{name, raise}
+use Rattle.rules.specs.Bytes.{bytesOf, raise}
+use Rattle.rules.specs.Question.{Granted, mostFactor}
 use Rattle.rules.proofs.ListLaws.{All, same-eq, same-refl, any-append}
 use Rattle.rules.proofs.TestLaws.{both, is-between}
-use Rattle.layout.specs.Reads.{part, nameStop, nameAt}
-use Rattle.layout.specs.Counted.{valuesAt, Stands}
+use Rattle.layout.specs.Reads.{part, nameStop}
+use Rattle.layout.specs.Counted.{valuesAt}
 use Rattle.layout.specs.Ensures.{Number, Puts}
 use Rattle.layout.proofs.CountedLaws.{walk-step, walk-here}
-use Rattle.question.specs.Parts.{namesAt, NamesStand}
-use Rattle.question.specs.Asked.{NameStop}
-use Rattle.question.proofs.PartLaws.{granted-stop}
+use Rattle.question.specs.Parts.{grantedAt, grantedStop, GrantStands, namesAt, NamesStand}
+use Rattle.question.specs.Asked.{NameStop, FactorIs, NextIs}
+use Rattle.question.proofs.PartLaws.{granted-stop, factor-most}
 use Rattle.grants.specs.Table.{entry, lookFrom, Entered, GrantsAre}
 use Rattle.grants.specs.Places.{placeOf, PlaceIs}
-use Rattle.grants.proofs.NamedLaws.{fresh, named, entries, table-named}
+use Rattle.grants.proofs.NamedLaws.{fresh, counted, named, entries, table-named}
 use Rattle.grants.proofs.TableLaws.{entries-long, entries-append, look-entries, hits, found-hits}
 
 -- ---- the names that stand in a question
 
-pub names-count : (q : List ℕ) (at n : ℕ) → length (namesAt q at n) ≡ n
+pub names-count : (version : ℕ) (q : List ℕ) (at n : ℕ) → length (namesAt version q at n) ≡ n
 unfolding valuesAt
-names-count q at zero = refl
-names-count q at (suc n) = ap suc (names-count q (nameStop q at) n)
+names-count version q at zero = refl
+names-count version q at (suc n) = ap suc (names-count version q (grantedStop version q at) n)
 
 -- the bytes of a name, by where it ends
-name-size : {q : List ℕ} {at stop : ℕ} → NameStop q at stop → length (part q (at + 1) stop) ≡ stop - (at + 1)
-name-size {q} {at} {stop} s = length-take-le (stop - (at + 1)) (drop (at + 1) q) (rw length-drop (omega (arith, s .fits, s .low)))
+name-size : {version : ℕ} {q : List ℕ} {at stop : ℕ} → NameStop version q at stop → length (part q (at + 1) stop) ≡ stop - (at + 1)
+name-size {q = q} {at} {stop} s = length-take-le (stop - (at + 1)) (drop (at + 1) q) (rw length-drop (omega (arith, s .fits, s .low)))
 
-pub names-sized : (q : List ℕ) (at n : ℕ) → NamesStand q at n → all (λ c. between 1 20 (length c)) (namesAt q at n) ≡ true
-unfolding valuesAt
-names-sized q at zero p = refl
-names-sized q at (suc n) p =
-    let s = walk-step p (omega arith) in
-    let e : suc n - 1 ≡ n = omega arith in
-    let stop : NameStop q at (nameStop q at) = granted-stop {n = getD q at 0} {top = getD q at 0 + 1} (s .here) (record { is = refl; below = omega arith }) in
-    let size = name-size stop in
-    both (between 1 20 (length (nameAt q at))) (all (λ c. between 1 20 (length c)) (namesAt q (nameStop q at) n))
-    (is-between 1 20 (length (nameAt q at)) (omega (arith, size, stop .low)) (omega (arith, size, stop .high)))
-    (names-sized q (nameStop q at) n (rw e at (s .rest)))
+module _ (version : ℕ) (q : List ℕ) where
+  -- each of them has 1 to 20 bytes ..
+  pub names-sized : (at n : ℕ) → NamesStand version q at n → all (λ c. between 1 20 (length (c .name))) (namesAt version q at n) ≡ true
+  unfolding valuesAt
+  names-sized at zero p = refl
+  names-sized at (suc n) p =
+      let s = walk-step p (omega arith) in
+      let e : suc n - 1 ≡ n = omega arith in
+      let stop : NameStop version q at (nameStop q at) = granted-stop version (s .here) {n = getD q at 0} {top = getD q at 0 + 1} (record { is = refl; below = omega arith }) in
+      let size : length (grantedAt version q at .name) ≡ nameStop q at - (at + 1) = ap length (stop .bytes) ∙ name-size stop in
+      both (between 1 20 (length (grantedAt version q at .name))) (all (λ c. between 1 20 (length (c .name))) (namesAt version q (grantedStop version q at) n))
+      (is-between 1 20 (length (grantedAt version q at .name)) (omega (arith, size, stop .low)) (omega (arith, size, stop .high)))
+      (names-sized (grantedStop version q at) n (rw e at (s .rest)))
+
+  -- .. and a factor of at most 10,000
+  pub names-most : (at n : ℕ) → NamesStand version q at n → All (λ c. c .factor ≤ mostFactor) (namesAt version q at n)
+  unfolding valuesAt
+  names-most at zero p = tt
+  names-most at (suc n) p =
+      let s = walk-step p (omega arith) in
+      let e : suc n - 1 ≡ n = omega arith in
+      (factor-most version (s .here), names-most (grantedStop version q at) n (rw e at (s .rest)))
 
 -- ---- an entry more
 
@@ -61,33 +73,34 @@ drop-zeros (suc n) (suc m) =
 
 -- k entries and zeros behind them
 abbrev Filled : List ℕ → ℕ → List ℕ → Type 0
-Filled done k t = t ≡ done ++ replicate (672 - 21 * k) 0
+Filled done k t = t ≡ done ++ replicate (736 - 23 * k) 0
 
-module _ (done t : List ℕ) (k : ℕ) (long : length done ≡ 21 * k) (h : k < 32) (f : Filled done k t) where
-  fill-blank : Filled (done ++ entry []) (k + 1) t
+module _ (done t : List ℕ) (k : ℕ) (long : length done ≡ 23 * k) (h : k < 32) (f : Filled done k t) where
+  fill-blank : Filled (done ++ entry [] 0) (k + 1) t
   fill-blank =
-      let e : 672 - 21 * k ≡ 21 + (672 - 21 * (k + 1)) = omega arith in
+      let e : 736 - 23 * k ≡ 23 + (736 - 23 * (k + 1)) = omega arith in
       f
       ∙ ap (λ (j : ℕ). done ++ replicate j 0) e
-      ∙ ap (λ (l : List ℕ). done ++ l) (sym (replicate-append-replicate 21 (672 - 21 * (k + 1)) 0))
-      ∙ sym (append-assoc done (entry []) (replicate (672 - 21 * (k + 1)) 0))
+      ∙ ap (λ (l : List ℕ). done ++ l) (sym (replicate-append-replicate 23 (736 - 23 * (k + 1)) 0))
+      ∙ sym (append-assoc done (entry [] 0) (replicate (736 - 23 * (k + 1)) 0))
 
-  fill-name : (c new : List ℕ) → length c ≤ 20 → Puts t (21 * k) (length c ∷ c) new → Filled (done ++ entry c) (k + 1) new
-  fill-name c new l p =
-      let zeros : List ℕ = replicate (672 - 21 * (k + 1)) 0 in
-      let front : take (21 * k) t ≡ done = ap (take (21 * k)) f ∙ take-at done (replicate (672 - 21 * k) 0) (21 * k) long in
-      let i : 21 * k + suc (length c) ≡ length done + suc (length c) = omega (arith, long) in
-      let j : 672 - 21 * k - suc (length c) ≡ 20 - length c + (672 - 21 * (k + 1)) = omega arith in
-      let back : drop (21 * k + suc (length c)) t ≡ replicate (20 - length c) 0 ++ zeros =
+  fill-name : (c : List ℕ) (factor : ℕ) (new : List ℕ) → length c ≤ 20 → Puts t (23 * k) (length c ∷ (bytesOf 2 factor ++ c)) new → Filled (done ++ entry c factor) (k + 1) new
+  fill-name c factor new l p =
+      let zeros : List ℕ = replicate (736 - 23 * (k + 1)) 0 in
+      let front : take (23 * k) t ≡ done = ap (take (23 * k)) f ∙ take-at done (replicate (736 - 23 * k) 0) (23 * k) long in
+      let size : ℕ = suc (suc (suc (length c))) in
+      let i : 23 * k + size ≡ length done + size = omega (arith, long) in
+      let j : 736 - 23 * k - size ≡ 20 - length c + (736 - 23 * (k + 1)) = omega arith in
+      let back : drop (23 * k + size) t ≡ replicate (20 - length c) 0 ++ zeros =
       ap₂ (λ (m : ℕ) (u : List ℕ). drop m u) i f
-      ∙ drop-append-add done (replicate (672 - 21 * k) 0) (suc (length c))
-      ∙ drop-zeros (suc (length c)) (672 - 21 * k)
+      ∙ drop-append-add done (replicate (736 - 23 * k) 0) size
+      ∙ drop-zeros size (736 - 23 * k)
       ∙ ap (λ (m : ℕ). replicate m 0) j
-      ∙ sym (replicate-append-replicate (20 - length c) (672 - 21 * (k + 1)) 0) in
+      ∙ sym (replicate-append-replicate (20 - length c) (736 - 23 * (k + 1)) 0) in
       p .is
-      ∙ ap₂ (λ (u v : List ℕ). u ++ ((length c ∷ c) ++ v)) front back
-      ∙ ap (λ (u : List ℕ). done ++ (length c ∷ u)) (sym (append-assoc c (replicate (20 - length c) 0) zeros))
-      ∙ sym (append-assoc done (entry c) zeros)
+      ∙ ap₂ (λ (u v : List ℕ). u ++ ((length c ∷ (bytesOf 2 factor ++ c)) ++ v)) front back
+      ∙ ap (λ (u : List ℕ). done ++ (length c ∷ (bytesOf 2 factor ++ u))) (sym (append-assoc c (replicate (20 - length c) 0) zeros))
+      ∙ sym (append-assoc done (entry c factor) zeros)
 
 -- ---- which names the table knows
 
@@ -95,15 +108,19 @@ same-sym : (xs ys : List ℕ) → same xs ys ≡ true → same ys xs ≡ true
 same-sym xs ys e = subst (λ (zs : List ℕ). same zs xs ≡ true) (same-eq xs ys e) (same-refl xs)
 
 -- it knows those that were seen, and one more once that has come in
-abbrev Knows : List (List ℕ) → List (List ℕ) → Type 0
+abbrev Knows : List Granted → List (List ℕ) → Type 0
 Knows ms seen = (b : ℕ) (c : List ℕ) → hits ms (b ∷ c) ≡ not (fresh seen (b ∷ c))
 
-knows-more : (ms seen : List (List ℕ)) (r : List ℕ) → Knows ms seen → Knows (ms ++ (cond (fresh seen r) r [] ∷ [])) (r ∷ seen)
-knows-more ms seen r k b c =
-    any-append (λ m. same m (b ∷ c)) ms (cond (fresh seen r) r [] ∷ [])
+knows-more : (ms : List Granted) (seen : List (List ℕ)) (own : Granted) → Knows ms seen
+    → Knows (ms ++ (counted (fresh seen (map raise (own .name))) own ∷ [])) (map raise (own .name) ∷ seen)
+knows-more ms seen own k b c =
+    any-append (λ m. same (m .name) (b ∷ c)) ms (counted (fresh seen r) own ∷ [])
     ∙ ap (λ (t : Bool). t || (same (cond (fresh seen r) r []) (b ∷ c) || false)) (k b c)
     ∙ go (fresh seen r) refl (same r (b ∷ c)) refl (same (b ∷ c) r) refl
   where
+    r : List ℕ
+    r = map raise (own .name)
+
     bools : (f s : Bool) → (not f || (s || false)) ≡ not (not s && f)
     bools true true = refl
     bools true false = refl
@@ -126,28 +143,28 @@ knows-more ms seen r k b c =
 -- ---- name by name
 
 -- k of the n names from `at` on have come in, the next stands at `here`
-pub record Filling (q : List ℕ) (at n : ℕ) (t : List ℕ) (here k : ℕ) : Type 0 where
+pub record Filling (version : ℕ) (q : List ℕ) (at n : ℕ) (t : List ℕ) (here k : ℕ) : Type 0 where
   pub passed : k ≤ n
-  pub names : NamesStand q here (n - k)
-  pub held : List (List ℕ)
+  pub names : NamesStand version q here (n - k)
+  pub held : List Granted
   pub seen : List (List ℕ)
   pub count : length held ≡ k
-  pub short : All (λ m. length m ≤ 20) held
+  pub short : All (λ m. length (m .name) ≤ 20) held
   pub filled : Filled (entries held) k t
   pub known : Knows held seen
-  pub rest : held ++ named seen (namesAt q here (n - k)) ≡ named [] (namesAt q at n)
+  pub rest : held ++ named seen (namesAt version q here (n - k)) ≡ named [] (namesAt version q at n)
 
-short-more : (ms : List (List ℕ)) (c : List ℕ) → All (λ m. length m ≤ 20) ms → length c ≤ 20 → All (λ m. length m ≤ 20) (ms ++ (c ∷ []))
+short-more : (ms : List Granted) (c : Granted) → All (λ m. length (m .name) ≤ 20) ms → length (c .name) ≤ 20 → All (λ m. length (m .name) ≤ 20) (ms ++ (c ∷ []))
 short-more [] c h l = (l, tt)
 short-more (m ∷ ms) c h l = (h .0, short-more ms c (h .1) l)
 
-entries-more : (ms : List (List ℕ)) (c : List ℕ) → entries (ms ++ (c ∷ [])) ≡ entries ms ++ entry c
+entries-more : (ms : List Granted) (c : Granted) → entries (ms ++ (c ∷ [])) ≡ entries ms ++ entry (c .name) (c .factor)
 unfolding entries
-entries-more ms c = entries-append ms (c ∷ []) ∙ ap (λ (t : List ℕ). entries ms ++ t) (append-nil (entry c))
+entries-more ms c = entries-append ms (c ∷ []) ∙ ap (λ (t : List ℕ). entries ms ++ t) (append-nil (entry (c .name) (c .factor)))
 
-pub fill-start : {q : List ℕ} {at n : ℕ} → NamesStand q at n → Filling q at n (replicate 672 0) at 0
+pub fill-start : (version : ℕ) {q : List ℕ} {at n : ℕ} → NamesStand version q at n → Filling version q at n (replicate 736 0) at 0
 unfolding entries
-fill-start {q} {at} {n} p =
+fill-start version {q} {at} {n} p =
     let e : n - 0 ≡ n = omega arith in
     record {
       passed = omega arith;
@@ -161,39 +178,47 @@ fill-start {q} {at} {n} p =
       rest = rw e;
     }
 
-module _ {q : List ℕ} {at n : ℕ} {t : List ℕ} {here k : ℕ} (inv : Filling q at n t here k) where
-  pub fill-end : n ≤ k → n ≤ 32 → NamesStand q at n → GrantsAre (namesAt q at n) t
+module _ {version : ℕ} {q : List ℕ} {at n : ℕ} {t : List ℕ} {here k : ℕ} (inv : Filling version q at n t here k) where
+  pub fill-end : n ≤ k → n ≤ 32 → NamesStand version q at n → GrantsAre (namesAt version q at n) t
   unfolding named valuesAt
   fill-end h l p =
       let e : n - k ≡ 0 = omega arith in
-      let count = names-count q at n in
-      let all : inv .held ≡ named [] (namesAt q at n) =
-      sym (append-nil (inv .held)) ∙ ap (λ (j : ℕ). inv .held ++ named (inv .seen) (namesAt q here j)) (sym e) ∙ inv .rest in
-      let f : 672 - 21 * k ≡ 21 * (32 - length (namesAt q at n)) = omega (arith, count, inv .passed) in
+      let count = names-count version q at n in
+      let all : inv .held ≡ named [] (namesAt version q at n) =
+      sym (append-nil (inv .held)) ∙ ap (λ (j : ℕ). inv .held ++ named (inv .seen) (namesAt version q here j)) (sym e) ∙ inv .rest in
+      let f : 736 - 23 * k ≡ 23 * (32 - length (namesAt version q at n)) = omega (arith, count, inv .passed) in
       record {
-        is = inv .filled ∙ ap₂ (λ (ms : List (List ℕ)) (j : ℕ). entries ms ++ replicate j 0) all f ∙ sym (table-named (namesAt q at n) (omega (arith, count)));
+        is = inv .filled ∙ ap₂ (λ (ms : List Granted) (j : ℕ). entries ms ++ replicate j 0) all f ∙ sym (table-named (namesAt version q at n) (omega (arith, count)));
         few = omega (arith, count);
-        sizes = names-sized q at n p;
+        sizes = names-sized version q at n p;
+        factors = names-most version q at n p;
       }
 
   -- the table has its length
-  pub fill-long : n ≤ 32 → length t ≡ 672
+  pub fill-long : n ≤ 32 → length t ≡ 736
   fill-long l =
       ap length (inv .filled)
-      ∙ length-append (entries (inv .held)) (replicate (672 - 21 * k) 0)
-      ∙ omega (arith, entries-long (inv .held) (inv .short), inv .count, inv .passed, length-replicate {A = ℕ} (672 - 21 * k) 0)
+      ∙ length-append (entries (inv .held)) (replicate (736 - 23 * k) 0)
+      ∙ omega (arith, entries-long (inv .held) (inv .short), inv .count, inv .passed, length-replicate {A = ℕ} (736 - 23 * k) 0)
 
   module _ (h : k < n) where
-    pub fill-here : Stands (name 1 20) nameAt nameStop q here
+    pub fill-here : GrantStands version q here
     fill-here = walk-here (inv .names) (omega arith)
 
-    module _ {stop : ℕ} (s : NameStop q here stop) where
+    module _ {stop : ℕ} (s : NameStop version q here stop) where
       pub fill-short : length (take (stop - (here + 1)) (drop (here + 1) q)) ≤ 20
       fill-short = omega (arith, name-size s, s .high)
 
-      module _ (l : n ≤ 32) {new : List ℕ} (p : Entered t k (take (stop - (here + 1)) (drop (here + 1) q)) new) where
+      module _ (l : n ≤ 32) {factor : ℕ} (f : FactorIs version q here factor) {new : List ℕ} (p : Entered t k (take (stop - (here + 1)) (drop (here + 1) q)) factor new) where
         abbrev own : List ℕ
         own = part q (here + 1) stop
+
+        -- as it stands in the question
+        abbrev sent : Granted
+        sent = record { name = own; factor = factor }
+
+        sent-is : grantedAt version q here ≡ sent
+        sent-is = λ i. record { name = s .bytes i; factor = sym (f .is) i }
 
         raised-short : length (map raise own) ≤ 20
         raised-short = rw length-map fill-short
@@ -203,7 +228,7 @@ module _ {q : List ℕ} {at n : ℕ} {t : List ℕ} {here k : ℕ} (inv : Fillin
         tested =
             let full : 1 ≤ length (map raise own) = rw length-map (omega (arith, name-size s, s .low)) in
             ap (λ (j : ℕ). ltb (lookFrom t 0 j (map raise own)) 33) (sym (inv .count))
-            ∙ ap (λ (r : ℕ). ltb r 33) (look-entries t 0 (inv .held) (map raise own) (replicate (672 - 21 * k) 0) (inv .short) (inv .filled))
+            ∙ ap (λ (r : ℕ). ltb r 33) (look-entries t 0 (inv .held) (map raise own) (replicate (736 - 23 * k) 0) (inv .short) (inv .filled))
             ∙ found-hits 0 (inv .held) (map raise own) (omega (arith, inv .count))
             ∙ go (map raise own) full
           where
@@ -211,41 +236,44 @@ module _ {q : List ℕ} {at n : ℕ} {t : List ℕ} {here k : ℕ} (inv : Fillin
             go [] f = absurd (omega arith)
             go (b ∷ c) f = inv .known b c
 
-        came : (b : Bool) → fresh (inv .seen) (map raise own) ≡ b → Filled (entries (inv .held) ++ entry (cond b (map raise own) [])) (k + 1) new
+        came : (b : Bool) → fresh (inv .seen) (map raise own) ≡ b → Filled (entries (inv .held) ++ entry (cond b (map raise own) []) (cond b factor 0)) (k + 1) new
         came true e =
-            let put : Puts t (21 * k) (length own ∷ map raise own) new = p .new (tested ∙ rw e) in
-            fill-name (entries (inv .held)) t k (entries-long (inv .held) (inv .short) ∙ ap (λ (j : ℕ). 21 * j) (inv .count)) (omega arith) (inv .filled) (map raise own) new raised-short
-            (subst (λ (j : ℕ). Puts t (21 * k) (j ∷ map raise own) new) (sym (length-map own raise)) put)
+            let put : Puts t (23 * k) (length own ∷ (bytesOf 2 factor ++ map raise own)) new = p .new (tested ∙ rw e) in
+            fill-name (entries (inv .held)) t k (entries-long (inv .held) (inv .short) ∙ ap (λ (j : ℕ). 23 * j) (inv .count)) (omega arith) (inv .filled)
+            (map raise own) factor new raised-short
+            (subst (λ (j : ℕ). Puts t (23 * k) (j ∷ (bytesOf 2 factor ++ map raise own)) new) (sym (length-map own raise)) put)
         came false e =
             p .again (tested ∙ rw e)
-            ∙ fill-blank (entries (inv .held)) t k (entries-long (inv .held) (inv .short) ∙ ap (λ (j : ℕ). 21 * j) (inv .count)) (omega arith) (inv .filled)
+            ∙ fill-blank (entries (inv .held)) t k (entries-long (inv .held) (inv .short) ∙ ap (λ (j : ℕ). 23 * j) (inv .count)) (omega arith) (inv .filled)
 
         own-short : (b : Bool) → length (cond b (map raise own) []) ≤ 20
         own-short true = raised-short
         own-short false = omega arith
 
-        pub fill-again : Filling q at n new stop (k + 1)
+        pub fill-again : {next : ℕ} → NextIs version q here next → Filling version q at n new next (k + 1)
         unfolding named
-        fill-again =
+        fill-again {next} far =
             let e : n - k - 1 ≡ n - (k + 1) = omega arith in
-            let more : List ℕ = cond (fresh (inv .seen) (map raise own)) (map raise own) [] in
-            let step : namesAt q here (n - k) ≡ own ∷ namesAt q stop (n - (k + 1)) = rw (s .is, ← e) (walk-step (inv .names) (omega arith) .values) in
+            let more : Granted = counted (fresh (inv .seen) (map raise own)) sent in
+            let step : namesAt version q here (n - k) ≡ sent ∷ namesAt version q next (n - (k + 1)) =
+            rw (far .is, ← e, ← sent-is) (walk-step (inv .names) (omega arith) .values) in
             record {
               passed = omega arith;
-              names = rw (s .is, ← e) (walk-step (inv .names) (omega arith) .rest);
+              names = rw (far .is, ← e) (walk-step (inv .names) (omega arith) .rest);
               held = inv .held ++ (more ∷ []);
               seen = map raise own ∷ inv .seen;
               count = length-append (inv .held) (more ∷ []) ∙ ap (λ (j : ℕ). j + 1) (inv .count);
               short = short-more (inv .held) more (inv .short) (own-short (fresh (inv .seen) (map raise own)));
-              filled = came (fresh (inv .seen) (map raise own)) refl ∙ ap (λ (u : List ℕ). u ++ replicate (672 - 21 * (k + 1)) 0) (sym (entries-more (inv .held) more));
-              known = knows-more (inv .held) (inv .seen) (map raise own) (inv .known);
-              rest = append-assoc (inv .held) (more ∷ []) (named (map raise own ∷ inv .seen) (namesAt q stop (n - (k + 1))))
-                  ∙ ap (λ (ns : List (List ℕ)). inv .held ++ named (inv .seen) ns) (sym step)
+              filled = came (fresh (inv .seen) (map raise own)) refl ∙ ap (λ (u : List ℕ). u ++ replicate (736 - 23 * (k + 1)) 0) (sym (entries-more (inv .held) more));
+              known = knows-more (inv .held) (inv .seen) sent (inv .known);
+              rest = append-assoc (inv .held) (more ∷ []) (named (map raise own ∷ inv .seen) (namesAt version q next (n - (k + 1))))
+                  ∙ ap (λ (ns : List Granted). inv .held ++ named (inv .seen) ns) (sym step)
                   ∙ inv .rest;
             }
 
 -- ---- for a caller: the table is that of a question's names
 
 -- A condition's place, read off the table of the n names that stand from `at` on, is its place among them.
-pub place-among : (q : List ℕ) (at n : ℕ) {t c : List ℕ} {r : ℕ} → GrantsAre (namesAt q at n) t → PlaceIs t n c r → Number (placeOf (namesAt q at n) c) 34 r
-place-among q at n g p = p .of (namesAt q at n) g (names-count q at n)
+pub place-among : (version : ℕ) (q : List ℕ) (at n : ℕ) {t c : List ℕ} {r : ℕ} → GrantsAre (namesAt version q at n) t → PlaceIs t n c r
+    → Number (placeOf (namesAt version q at n) c) 34 r
+place-among version q at n g p = p .of (namesAt version q at n) g (names-count version q at n)

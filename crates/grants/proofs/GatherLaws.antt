@@ -9,12 +9,12 @@ use native.Mathlib.Decide.{ℕ-discrete}
 use lib.Dec.{eqb}
 use borrow.Author.Tests.{eqb-true, eqb-false, eq-eqb, ne-eqb}
 use Rattle.rules.specs.Lists.{same, keep, consIf, consSome, gather}
-use Rattle.rules.specs.Question.{Grant, placed, firsts, grants}
+use Rattle.rules.specs.Question.{Granted, Grant, placed, firsts, grants}
 use Rattle.rules.proofs.ListLaws.{All, same-eq, all-keep, kept}
 use Rattle.rules.proofs.TestLaws.{not-so}
 use Rattle.rules.proofs.UnusedLaws.{Rising, rising-room, rising-grants}
-use Rattle.grants.specs.Table.{GrantsAre}
-use Rattle.grants.specs.Places.{placeIn, placeOf, upFrom}
+use Rattle.grants.specs.Table.{GrantsAre, factorAmong}
+use Rattle.grants.specs.Places.{placeIn, placeOf, factorOf, upFrom}
 use Rattle.grants.proofs.PlaceLaws.{Sized, grants-sized}
 
 same-sym : (xs ys : List ℕ) → same xs ys ≡ same ys xs
@@ -103,6 +103,21 @@ at-grant k n (h ∷ hs) c l r a =
             ∙ sym (ap (same (g .name)) (sym (same-eq (h .name) c e)) ∙ not-so (same (g .name) (h .name)) (x .0))
         one false e = z .0
 
+-- the factor that is read at the place of a grant is its own
+factors-own : (k n : ℕ) (gs : List Grant) → Rising k n gs → All (λ g. factorAmong (g .place) gs ≡ g .factor) gs
+factors-own k n [] r = tt
+factors-own k n (h ∷ hs) r = (
+  rw (eq-eqb (h .place) (h .place) refl),
+  each hs (rising-above (h .place) (h .place) n hs (omega arith) (r .1)) (factors-own (h .place) n hs (r .1)),
+)
+  where
+    each : (gs : List Grant) → All (λ g. h .place < g .place) gs → All (λ g. factorAmong (g .place) hs ≡ g .factor) gs
+        → All (λ g. cond (eqb (h .place) (g .place)) (h .factor) (factorAmong (g .place) hs) ≡ g .factor) gs
+    each [] l f = tt
+    each (g ∷ gs) l f =
+        let m : h .place < g .place = l .0 in
+        (rw (ne-eqb (h .place) (g .place) (λ e. omega arith)) (f .0), each gs (l .1) (f .1))
+
 -- at the place of no grant stands none
 at-none : (gs : List Grant) (c : List ℕ) (i : ℕ) → i < 33 → All (λ g. g .place ≡ i → ⊥) gs → eqb (placeIn gs c) i ≡ false
 unfolding placeIn
@@ -164,7 +179,7 @@ module _ {B : Type 0} where
 
 -- ---- of the names that a table is of
 
-module _ {names : List (List ℕ)} {table : List ℕ} (ok : GrantsAre names table) where
+module _ {names : List Granted} {table : List ℕ} (ok : GrantsAre names table) where
   rising : Rising 0 32 (grants names)
   rising = rising-grants 32 names (ok .few)
 
@@ -196,6 +211,19 @@ module _ {names : List (List ℕ)} {table : List ℕ} (ok : GrantsAre names tabl
       turned [] h = tt
       turned (g ∷ gs) h = (h .0 ∙ same-sym (g .name) (b ∷ c), turned gs (h .1))
 
+  -- the factor of its place is its own
+  factors-are : All (λ g. factorOf names (g .place) ≡ g .factor) (grants names)
+  unfolding factorOf
+  factors-are = each (grants names) (rising-above 0 0 32 (grants names) (omega arith) rising) (factors-own 0 32 (grants names) rising)
+    where
+      one : (n : ℕ) → 0 < n → factorOf names n ≡ factorAmong n (grants names)
+      one zero h = absurd (omega arith)
+      one (suc i) h = refl
+
+      each : (gs : List Grant) → All (λ g. 0 < g .place) gs → All (λ g. factorAmong (g .place) (grants names) ≡ g .factor) gs → All (λ g. factorOf names (g .place) ≡ g .factor) gs
+      each [] h f = tt
+      each (g ∷ gs) h f = (one (g .place) (h .0) ∙ f .0, each gs (h .1) (f .1))
+
   -- at any other
   others-are : (i : ℕ) → 0 < i → i < 33 → All (λ g. g .place ≡ i → ⊥) (grants names) → (c : List ℕ) → eqb (placeOf names c) i ≡ false
   others-are i l m h [] = unfold placeOf in ne-eqb 0 i (λ e. omega arith)
@@ -203,13 +231,14 @@ module _ {names : List (List ℕ)} {table : List ℕ} (ok : GrantsAre names tabl
 
   -- Where a place gives what the name does that is granted there, and nothing where no condition is, all places give what the granted names do.
   pub places-gathered : {B : Type 0} (at : ℕ → Option B) (of : Grant → Option B)
-      → ((g : Grant) → ((c : List ℕ) → eqb (placeOf names c) (g .place) ≡ same c (g .name)) → at (g .place) ≡ of g)
+      → ((g : Grant) → ((c : List ℕ) → eqb (placeOf names c) (g .place) ≡ same c (g .name)) → factorOf names (g .place) ≡ g .factor → at (g .place) ≡ of g)
       → ((i : ℕ) → ((c : List ℕ) → eqb (placeOf names c) i ≡ false) → at i ≡ none) → gather at (upFrom 1 32) ≡ gather of (grants names)
   places-gathered at of named empty =
       rising-gathered at of 0 32 32 (grants names) refl rising
-      (each (grants names) (all-swap (λ g c. eqb (placeOf names c) (g .place) ≡ same c (g .name)) (grants names) names-are))
+      (each (grants names) (all-swap (λ g c. eqb (placeOf names c) (g .place) ≡ same c (g .name)) (grants names) names-are) factors-are)
       (λ i l m h. empty i (others-are i l (omega arith) h))
     where
-      each : (gs : List Grant) → All (λ g. (c : List ℕ) → eqb (placeOf names c) (g .place) ≡ same c (g .name)) gs → All (λ g. at (g .place) ≡ of g) gs
-      each [] h = tt
-      each (g ∷ gs) h = (named g (h .0), each gs (h .1))
+      each : (gs : List Grant) → All (λ g. (c : List ℕ) → eqb (placeOf names c) (g .place) ≡ same c (g .name)) gs → All (λ g. factorOf names (g .place) ≡ g .factor) gs
+          → All (λ g. at (g .place) ≡ of g) gs
+      each [] h f = tt
+      each (g ∷ gs) h f = (named g (h .0) (f .0), each gs (h .1) (f .1))

@@ -9,7 +9,7 @@ use lib.Dec.{eqb}
 use lib.ListN.{length, getD}
 use borrow.Author.Tests.{ne-eqb, eqb-true, eqb-false}
 use Rattle.rules.specs.Lists.{any, keep, consIf}
-use Rattle.rules.specs.Question.{Grant, grants}
+use Rattle.rules.specs.Question.{Granted, Grant, grants}
 use Rattle.rules.specs.Price.{setOf}
 use Rattle.rules.proofs.UnusedLaws.{Rising, rising-room, rising-grants}
 use Rattle.grants.specs.Table.{GrantsAre}
@@ -51,26 +51,26 @@ abbrev pub isIdle : List ℕ → Grant → Bool
 isIdle places g = not (any (λ p. eqb p (g .place)) places)
 
 -- the set has the idle places up to k, and with those of the grants that are left it is the whole
-pub record Left (names : List (List ℕ)) (places : List ℕ) (set k : ℕ) (gs : List Grant) : Type 0 where
+pub record Left (names : List Granted) (places : List ℕ) (set k : ℕ) (gs : List Grant) : Type 0 where
   pub is : set + setOf (keep (isIdle places) gs) ≡ setOf (idle names places)
   pub rising : Rising k 32 gs
   pub agree : (p : ℕ) → k < p → any (λ g. eqb (g .place) p) gs ≡ isFirst names p
 
-left-start : (names : List (List ℕ)) (places : List ℕ) → length names ≤ 32 → Left names places 0 0 (grants names)
+left-start : (names : List Granted) (places : List ℕ) → length names ≤ 32 → Left names places 0 0 (grants names)
 unfolding idle isFirst
 left-start names places h = record { is = omega arith; rising = rising-grants 32 names h; agree = λ p l. refl }
 
-left-end : {names : List (List ℕ)} {places : List ℕ} {set k : ℕ} (gs : List Grant) → Left names places set k gs → 32 ≤ k → set ≡ setOf (idle names places)
+left-end : {names : List Granted} {places : List ℕ} {set k : ℕ} (gs : List Grant) → Left names places set k gs → 32 ≤ k → set ≡ setOf (idle names places)
 left-end [] w h = omega (arith, w .is)
 left-end {k = k} (g ∷ gs) w h =
     let l : k < g .place = w .rising .0 in
     absurd (omega (arith, rising-room (g .place) 32 gs (w .rising .1)))
 
 -- the grants that are left behind the next place
-abbrev pub Next : List (List ℕ) → List ℕ → ℕ → ℕ → Type 0
+abbrev pub Next : List Granted → List ℕ → ℕ → ℕ → Type 0
 Next names places set k = (gs : List Grant) × Left names places set k gs
 
-module _ (names : List (List ℕ)) (places : List ℕ) (set k after : ℕ) (h : k < 32) where
+module _ (names : List Granted) (places : List ℕ) (set k after : ℕ) (h : k < 32) where
   -- nothing is granted at the place
   left-skip : (gs : List Grant) → Left names places set k gs → Rising (k + 1) 32 gs → after ≡ set → Left names places after (k + 1) gs
   left-skip gs w r e = record { is = rw e (w .is); rising = r; agree = λ p l. w .agree p (omega arith) }
@@ -114,7 +114,7 @@ module _ (names : List (List ℕ)) (places : List ℕ) (set k after : ℕ) (h : 
 pub record Idling (t : List ℕ) (flags : List Bool) (set passed : ℕ) : Type 0 where
   pub few : passed ≤ 32
   pub below : set < 2 ^ passed
-  pub left : (names : List (List ℕ)) → GrantsAre names t → (places : List ℕ) → Brought places flags → Next names places set passed
+  pub left : (names : List Granted) → GrantsAre names t → (places : List ℕ) → Brought places flags → Next names places set passed
 
 module _ {t : List ℕ} {flags : List Bool} where
   pub idle-start : Idling t flags 0 0

@@ -6,18 +6,19 @@ use mathlib.Core.List.{List, [], _∷_, _++_, map}
 use native.Mathlib.Omega.{arith}
 use native.Mathlib.Nat.{add-zero}
 use lib.Dec.{eqb, ltb}
-use lib.ListN.{length, getD, replicate, length-map}
-use lib.Seq.{getD-append-add}
+use lib.ListN.{length, getD, take, drop, replicate, length-map}
+use lib.Seq.{drop-append-add, drop-drop, getD-drop}
 use borrow.Author.Tests.{lt-ltb}
 use Rattle.rules.specs.Lists.{any, all, between}
-use Rattle.rules.specs.Bytes.{raise}
-use Rattle.rules.specs.Question.{Grant, placed, grants}
+use Rattle.rules.specs.Bytes.{big, bytesOf, raise}
+use Rattle.rules.specs.Question.{Granted, Grant, placed, firsts, grants, mostFactor}
 use Rattle.rules.proofs.ListLaws.{All}
 use Rattle.rules.proofs.TestLaws.{and-left, and-right, between-low, between-high}
 use Rattle.layout.specs.Ensures.{Number}
 use Rattle.layout.proofs.NameLaws.{compare-not}
-use Rattle.grants.specs.Table.{entry, nameOf, tableFrom, tableOf, lookFrom}
-use Rattle.grants.specs.Places.{placeIn, placeOf, isFirst, PlaceIs, FirstIs}
+use Rattle.layout.proofs.StoreLaws.{number-back}
+use Rattle.grants.specs.Table.{entry, nameOf, factorAmong, tableFrom, tableOf, GrantsAre, lookFrom}
+use Rattle.grants.specs.Places.{placeIn, placeOf, isFirst, factorOf, PlaceIs, FirstIs, Granting, FactorAt}
 use Rattle.rules.proofs.RowLaws.{firsts-all}
 use Rattle.grants.proofs.NamedLaws.{fresh, named, foundIn, table-named, place-named}
 use Rattle.grants.proofs.TableLaws.{entry-long, look-entries}
@@ -32,33 +33,33 @@ raise-sized : (c : List ℕ) → between 1 20 (length c) ≡ true → Sized (map
 raise-sized c e =
     record { low = rw length-map (between-low 1 20 (length c) e); high = rw length-map (between-high 1 20 (length c) e) }
 
-placed-sized : (n : ℕ) (names : List (List ℕ)) → all (λ c. between 1 20 (length c)) names ≡ true → All (λ g. Sized (g .name)) (placed n names)
+placed-sized : (n : ℕ) (names : List Granted) → all (λ c. between 1 20 (length (c .name))) names ≡ true → All (λ g. Sized (g .name)) (placed n names)
 placed-sized n [] e = tt
 placed-sized n (c ∷ cs) e = (
-  raise-sized c (and-left (between 1 20 (length c)) (all (λ c. between 1 20 (length c)) cs) e),
-  placed-sized (suc n) cs (and-right (between 1 20 (length c)) (all (λ c. between 1 20 (length c)) cs) e),
+  raise-sized (c .name) (and-left (between 1 20 (length (c .name))) (all (λ c. between 1 20 (length (c .name))) cs) e),
+  placed-sized (suc n) cs (and-right (between 1 20 (length (c .name))) (all (λ c. between 1 20 (length (c .name))) cs) e),
 )
 
-pub grants-sized : (names : List (List ℕ)) → all (λ c. between 1 20 (length c)) names ≡ true → All (λ g. Sized (g .name)) (grants names)
+pub grants-sized : (names : List Granted) → all (λ c. between 1 20 (length (c .name))) names ≡ true → All (λ g. Sized (g .name)) (grants names)
 unfolding grants
 grants-sized names e = firsts-all (λ g. Sized (g .name)) (placed 1 names) (placed-sized 1 names e)
 
-named-short : (seen names : List (List ℕ)) → all (λ c. between 1 20 (length c)) names ≡ true → All (λ c. length c ≤ 20) (named seen names)
+named-short : (seen : List (List ℕ)) (names : List Granted) → all (λ c. between 1 20 (length (c .name))) names ≡ true → All (λ c. length (c .name) ≤ 20) (named seen names)
 unfolding named
 named-short seen [] e = tt
 named-short seen (c ∷ cs) e = (
-  go (fresh seen (map raise c)) (raise-sized c (and-left (between 1 20 (length c)) (all (λ c. between 1 20 (length c)) cs) e)),
-  named-short (map raise c ∷ seen) cs (and-right (between 1 20 (length c)) (all (λ c. between 1 20 (length c)) cs) e),
+  go (fresh seen (map raise (c .name))) (raise-sized (c .name) (and-left (between 1 20 (length (c .name))) (all (λ c. between 1 20 (length (c .name))) cs) e)),
+  named-short (map raise (c .name) ∷ seen) cs (and-right (between 1 20 (length (c .name))) (all (λ c. between 1 20 (length (c .name))) cs) e),
 )
   where
-    go : (b : Bool) → Sized (map raise c) → length (cond b (map raise c) []) ≤ 20
+    go : (b : Bool) → Sized (map raise (c .name)) → length (cond b (map raise (c .name)) []) ≤ 20
     go true s = s .high
     go false s = omega arith
 
-named-long : (seen names : List (List ℕ)) → length (named seen names) ≡ length names
+named-long : (seen : List (List ℕ)) (names : List Granted) → length (named seen names) ≡ length names
 unfolding named
 named-long seen [] = refl
-named-long seen (c ∷ cs) = ap suc (named-long (map raise c ∷ seen) cs)
+named-long seen (c ∷ cs) = ap suc (named-long (map raise (c .name) ∷ seen) cs)
 
 -- ---- a condition's place
 
@@ -70,12 +71,12 @@ long-nowhere (g ∷ gs) c h l =
     let s : Sized (g .name) = h .0 in
     rw (compare-not (g .name) c (λ e. omega (arith, s .high)) .is) (long-nowhere gs c (h .1) l)
 
-place-full : (names : List (List ℕ)) (c : List ℕ) → 1 ≤ length c → placeOf names c ≡ placeIn (grants names) c
+place-full : (names : List Granted) (c : List ℕ) → 1 ≤ length c → placeOf names c ≡ placeIn (grants names) c
 unfolding placeOf
 place-full names [] h = absurd (omega arith)
 place-full names (b ∷ c) h = refl
 
-found-place : (names : List (List ℕ)) (c : List ℕ) → 1 ≤ length c → foundIn 0 (named [] names) c ≡ placeOf names c
+found-place : (names : List Granted) (c : List ℕ) → 1 ≤ length c → foundIn 0 (named [] names) c ≡ placeOf names c
 unfolding placeOf
 found-place names [] h = absurd (omega arith)
 found-place names (b ∷ c) h = place-named names b c
@@ -85,7 +86,7 @@ module _ (t : List ℕ) (n : ℕ) (c : List ℕ) where
   unfolding placeOf
   place-none h = record { below = omega arith; of = λ names g e. record { is = go names c h; below = omega arith } }
     where
-      go : (names : List (List ℕ)) (c : List ℕ) → length c < 1 → 0 ≡ placeOf names c
+      go : (names : List Granted) (c : List ℕ) → length c < 1 → 0 ≡ placeOf names c
       go names [] h = refl
       go names (b ∷ c) h = absurd (omega arith)
 
@@ -99,9 +100,9 @@ module _ (t : List ℕ) (n : ℕ) (c : List ℕ) where
   place-looked {r} h p = record {
     below = p .below;
     of = λ names g e.
-        let ms : List (List ℕ) = named [] names in
+        let ms : List Granted = named [] names in
         let found : lookFrom t 0 (length ms) c ≡ foundIn 0 ms c =
-        look-entries t 0 ms c (replicate (21 * (32 - length names)) 0) (named-short [] names (g .sizes)) (g .is ∙ table-named names (g .few)) in
+        look-entries t 0 ms c (replicate (23 * (32 - length names)) 0) (named-short [] names (g .sizes)) (g .is ∙ table-named names (g .few)) in
         record { is = p .is ∙ ap (λ (k : ℕ). lookFrom t 0 k c) (sym (named-long [] names ∙ e)) ∙ found ∙ found-place names c h; below = p .below };
   }
 
@@ -124,26 +125,87 @@ name-full p (g ∷ gs) h = go (eqb (g .place) p) (h .0) (name-full p gs (h .1))
     go true s l = lt-ltb 0 (length (g .name)) (s .low)
     go false s l = l
 
--- the length byte of an entry
-size-at : (p m i : ℕ) (gs : List Grant) → i < m → All (λ g. Sized (g .name)) gs → getD (tableFrom p m gs) (21 * i) 0 ≡ length (nameOf (p + i) gs)
+-- an entry stands behind those before it
+entry-from : (p m i : ℕ) (gs : List Grant) → i < m → All (λ g. Sized (g .name)) gs
+    → (rest : List ℕ) × (drop (23 * i) (tableFrom p m gs) ≡ entry (nameOf (p + i) gs) (factorAmong (p + i) gs) ++ rest)
 unfolding tableFrom
-size-at p zero i gs h s = absurd (omega arith)
-size-at p (suc m) zero gs h s = ap (λ (k : ℕ). length (nameOf k gs)) (sym (add-zero p))
-size-at p (suc m) (suc i) gs h s =
-    let e : 21 * suc i ≡ length (entry (nameOf p gs)) + 21 * i = omega (arith, entry-long (nameOf p gs) (name-short p gs s)) in
+entry-from p zero i gs h s = absurd (omega arith)
+entry-from p (suc m) zero gs h s = (tableFrom (suc p) m gs, ap (λ (k : ℕ). entry (nameOf k gs) (factorAmong k gs) ++ tableFrom (suc p) m gs) (sym (add-zero p)))
+entry-from p (suc m) (suc i) gs h s =
+    let own : List ℕ = entry (nameOf p gs) (factorAmong p gs) in
+    let e : 23 * suc i ≡ length own + 23 * i = omega (arith, entry-long (nameOf p gs) (factorAmong p gs) (name-short p gs s)) in
     let f : suc p + i ≡ p + suc i = omega arith in
-    ap (λ (k : ℕ). getD (entry (nameOf p gs) ++ tableFrom (suc p) m gs) k 0) e
-    ∙ getD-append-add (entry (nameOf p gs)) (tableFrom (suc p) m gs) (21 * i) 0
-    ∙ size-at (suc p) m i gs (omega arith) s
-    ∙ ap (λ (k : ℕ). length (nameOf k gs)) f
+    let x = entry-from (suc p) m i gs (omega arith) s in (
+      x .0,
+      ap (λ (k : ℕ). drop k (own ++ tableFrom (suc p) m gs)) e
+          ∙ drop-append-add own (tableFrom (suc p) m gs) (23 * i)
+          ∙ x .1
+          ∙ ap (λ (k : ℕ). entry (nameOf k gs) (factorAmong k gs) ++ x .0) f,
+    )
 
-pub first-is : (t : List ℕ) (place : ℕ) → 1 ≤ place → place ≤ 32 → FirstIs t place (ltb 0 (getD t (21 * (place - 1)) 0))
-unfolding isFirst tableOf
-first-is t place l h = record {
-  of = λ names g.
-      let s = grants-sized names (g .sizes) in
+module _ (t : List ℕ) (place : ℕ) (l : 1 ≤ place) (h : place ≤ 32) {names : List Granted} (g : GrantsAre names t) where
+  -- that of a place
+  own-entry : (rest : List ℕ) × (drop (23 * (place - 1)) t ≡ entry (nameOf place (grants names)) (factorAmong place (grants names)) ++ rest)
+  unfolding tableOf
+  own-entry =
       let e : 1 + (place - 1) ≡ place = omega arith in
-      let size : getD t (21 * (place - 1)) 0 ≡ length (nameOf place (grants names)) =
-      ap (λ (u : List ℕ). getD u (21 * (place - 1)) 0) (g .is) ∙ size-at 1 32 (place - 1) (grants names) (omega arith) s ∙ ap (λ (k : ℕ). length (nameOf k (grants names))) e in
-      record { is = sym (ap (ltb 0) size ∙ name-full place (grants names) s) };
+      let x = entry-from 1 32 (place - 1) (grants names) (omega arith) (grants-sized names (g .sizes)) in
+      (x .0, ap (drop (23 * (place - 1))) (g .is) ∙ x .1 ∙ ap (λ (k : ℕ). entry (nameOf k (grants names)) (factorAmong k (grants names)) ++ x .0) e)
+
+  size-at : getD t (23 * (place - 1)) 0 ≡ length (nameOf place (grants names))
+  size-at = ap (λ (k : ℕ). getD t k 0) (sym (add-zero (23 * (place - 1)))) ∙ sym (getD-drop (23 * (place - 1)) t 0 0) ∙ ap (λ (u : List ℕ). getD u 0 0) (own-entry .1)
+
+  factor-bytes : take 2 (drop (23 * (place - 1) + 1) t) ≡ bytesOf 2 (factorAmong place (grants names))
+  factor-bytes = ap (take 2) (sym (drop-drop 1 (23 * (place - 1)) t) ∙ ap (drop 1) (own-entry .1))
+
+pub first-is : (t : List ℕ) (place : ℕ) → 1 ≤ place → place ≤ 32 → FirstIs t place (ltb 0 (getD t (23 * (place - 1)) 0))
+unfolding isFirst
+first-is t place l h = record {
+  of = λ names g. record { is = sym (ap (ltb 0) (size-at t place l h g) ∙ name-full place (grants names) (grants-sized names (g .sizes))) };
 }
+
+-- ---- the factor of a place
+
+placed-most : (n : ℕ) (names : List Granted) → All (λ c. c .factor ≤ mostFactor) names → All (λ g. g .factor ≤ mostFactor) (placed n names)
+placed-most n [] h = tt
+placed-most n (c ∷ cs) h = (h .0, placed-most (suc n) cs (h .1))
+
+among-most : (p : ℕ) (gs : List Grant) → All (λ g. g .factor ≤ mostFactor) gs → factorAmong p gs ≤ mostFactor
+among-most p [] h = omega arith
+among-most p (g ∷ gs) h = go (eqb (g .place) p) (h .0) (among-most p gs (h .1))
+  where
+    go : (b : Bool) → g .factor ≤ mostFactor → factorAmong p gs ≤ mostFactor → cond b (g .factor) (factorAmong p gs) ≤ mostFactor
+    go true k l = k
+    go false k l = l
+
+grants-most : (names : List Granted) → All (λ c. c .factor ≤ mostFactor) names → (p : ℕ) → factorAmong p (grants names) ≤ mostFactor
+unfolding grants
+grants-most names h p = among-most p (firsts (placed 1 names)) (firsts-all (λ g. g .factor ≤ mostFactor) (placed 1 names) (placed-most 1 names h))
+
+pub factor-none : (t : List ℕ) (place : ℕ) → place < 1 → FactorAt t place 1000
+unfolding factorOf
+factor-none t place h = record { most = omega arith; of = λ names g. go names place h }
+  where
+    go : (names : List Granted) (p : ℕ) → p < 1 → 1000 ≡ factorOf names p
+    go names zero h = refl
+    go names (suc p) h = absurd (omega arith)
+
+pub factor-there : {t : List ℕ} {place n top : ℕ} → Granting t → 1 ≤ place → place ≤ 32 → Number (big (take 2 (drop (23 * (place - 1) + 1) t))) top n → FactorAt t place n
+unfolding factorOf
+factor-there {t} {place} {n} some l h x = record {
+  most = omega (arith, is (some .names) (some .are), grants-most (some .names) (some .are .factors) place);
+  of = λ names g. is names g ∙ here names place l;
+}
+  where
+    is : (names : List Granted) → GrantsAre names t → n ≡ factorAmong place (grants names)
+    is names g =
+        x .is ∙ ap big (factor-bytes t place l h g)
+        ∙ number-back 2 (factorAmong place (grants names)) (omega (arith, grants-most names (g .factors) place))
+
+    here : (names : List Granted) (p : ℕ) → 1 ≤ p → factorAmong p (grants names) ≡ factorOf names p
+    here names zero h = absurd (omega arith)
+    here names (suc p) h = refl
+
+-- there is a factor where a place is
+pub factor-inside : (t : List ℕ) (place : ℕ) → length t ≡ 736 → 1 ≤ place → place ≤ 32 → 23 * (place - 1) + 1 + 2 ≤ length t
+factor-inside t place e l h = omega arith

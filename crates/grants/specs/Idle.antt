@@ -6,15 +6,15 @@ use mathlib.Core.List.{List}
 use lib.Dec.{eqb}
 use lib.ListN.{length, getD}
 use Rattle.rules.specs.Lists.{any, keep}
-use Rattle.rules.specs.Question.{Grant, grants}
+use Rattle.rules.specs.Question.{Granted, Grant, grants}
 use Rattle.rules.specs.Price.{setOf}
 use Rattle.grants.specs.Table.{GrantsAre}
 
 -- the granted names of which no line has the place
-unfoldable pub idle : List (List ℕ) → List ℕ → List Grant
+unfoldable pub idle : List Granted → List ℕ → List Grant
 idle granted places = keep (λ g. not (any (λ p. eqb p (g .place)) places)) (grants granted)
 
-pub record UnusedIs (granted : List (List ℕ)) (places : List ℕ) (set : ℕ) : Type 0 where
+pub record UnusedIs (granted : List Granted) (places : List ℕ) (set : ℕ) : Type 0 where
   pub is : set ≡ setOf (idle granted places)
 
 -- a flag for each number that a place can be: a line has it
@@ -24,7 +24,7 @@ pub record Brought (places : List ℕ) (flags : List Bool) : Type 0 where
 
 -- `r` is the set of unused names, for the names that the table is of and the places that the flags are of
 pub record IdleIs (table : List ℕ) (flags : List Bool) (r : ℕ) : Type 0 where
-  pub of : (names : List (List ℕ)) → GrantsAre names table → (places : List ℕ) → Brought places flags → UnusedIs names places r
+  pub of : (names : List Granted) → GrantsAre names table → (places : List ℕ) → Brought places flags → UnusedIs names places r
 
 -- ---- on the way
 

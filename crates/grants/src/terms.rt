@@ -40,7 +40,7 @@ pub fn wanted_in(question: &[u8], ask: Ask) -> Wanted
     requires { ⌜ AskIs (now question) ask ⌝ }
     ensures { λ r. ⌜ WantedIs (now (question .entry)) ask r ⌝ }
 {
-    let table = grants_of(question, ask.granted, ask.conditions);
+    let table = grants_of(question, ask.granted, ask.conditions, ask.version);
     let terms = terms_of(ask);
     Wanted { table, terms }
 }

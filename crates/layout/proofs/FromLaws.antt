@@ -9,11 +9,13 @@ use native.Mathlib.Decide.{decLt}
 use lib.Dec.{eqb, leb}
 use lib.ListN.{length, take, drop, getD, drop-of-length-le, List·getD-eq-default}
 use lib.Seq.{drop-cons}
+use Rattle.rules.specs.Lists.{any}
 use Rattle.rules.specs.Layout.{Layout, andThen, _>>=_, give, must, repeated, whole, wholly}
-use Rattle.rules.specs.Bytes.{number, head, big}
+use Rattle.rules.specs.Bytes.{number, headOf, head, big}
 use Rattle.rules.specs.BookLayout.{mostBytes}
+use Rattle.rules.specs.Question.{versions}
 use Rattle.layout.specs.Reads.{only, when, Reads}
-use Rattle.layout.specs.Ensures.{Says, Number, headOk, bookHeadOk}
+use Rattle.layout.specs.Ensures.{Says, Number, headIn, questionHeadOk, headOk, bookHeadOk}
 use Rattle.layout.proofs.LayoutLaws.{then-reads, then-broken, then-when, if-reads, such-reads, reads-as, number-at, number-cut, one-of-at, one-of-cut}
 use Rattle.layout.proofs.SequenceLaws.{repeated-step, repeated-broken}
 
@@ -40,20 +42,37 @@ module _ (s : List ℕ) where
       go (yes h) = absurd (false≢true (sym (head-short h) ∙ e))
       go (no h) = omega arith
 
-  pub head-reads : Reads (head (length s)) s 0 (headOk s) (getD s 4 0) 5
-  head-reads = go (decLt (length s) 5)
-    where
-      cut : length s < 5 → Dec (length s < 4) → head (length s) (drop 0 s) ≡ none
-      cut h (yes k) = then-broken _ _ (such-reads (number 4) (eqb (length s)) (number-cut s 0 4 (omega arith) (omega arith))) refl
-      cut h (no k) =
-          reads-as (then-reads _ _ (such-reads (number 4) (eqb (length s)) (number-at s 0 4 (omega arith))) (one-of-cut s 4 (1 ∷ []) (omega arith)))
-          (and-false (eqb (length s) (big (take 4 s)))) refl .is
+  -- no layout has a version 0
+  module _ (versions : List ℕ) (some : any (eqb 0) versions ≡ false) where
+    head-in-short : length s < 5 → headIn versions s ≡ false
+    head-in-short h = rw (List·getD-eq-default s 0 {n = 4} (omega arith), some) (and-false (eqb (length s) (big (take 4 s))))
 
-      go : Dec (length s < 5) → Reads (head (length s)) s 0 (headOk s) (getD s 4 0) 5
-      go (yes h) = record { is = cut h (decLt (length s) 4) ∙ sym (ap (λ t. only t (getD s 4 0, drop 5 s)) (head-short h)) }
-      go (no h) =
-          reads-as (then-reads _ _ (such-reads (number 4) (eqb (length s)) (number-at s 0 4 (omega arith))) (one-of-at s 4 (1 ∷ []) (omega arith)))
-          (ap (λ b. eqb (length s) (big (take 4 s)) && b) (or-false (eqb (getD s 4 0) 1))) refl
+    pub head-in-reads : Reads (headOf versions (length s)) s 0 (headIn versions s) (getD s 4 0) 5
+    head-in-reads = go (decLt (length s) 5)
+      where
+        cut : length s < 5 → Dec (length s < 4) → headOf versions (length s) (drop 0 s) ≡ none
+        cut h (yes k) = then-broken _ _ (such-reads (number 4) (eqb (length s)) (number-cut s 0 4 (omega arith) (omega arith))) refl
+        cut h (no k) =
+            reads-as (then-reads _ _ (such-reads (number 4) (eqb (length s)) (number-at s 0 4 (omega arith))) (one-of-cut s 4 versions (omega arith)))
+            (and-false (eqb (length s) (big (take 4 s)))) refl .is
+
+        go : Dec (length s < 5) → Reads (headOf versions (length s)) s 0 (headIn versions s) (getD s 4 0) 5
+        go (yes h) = record { is = cut h (decLt (length s) 4) ∙ sym (ap (λ t. only t (getD s 4 0, drop 5 s)) (head-in-short h)) }
+        go (no h) = then-reads _ _ (such-reads (number 4) (eqb (length s)) (number-at s 0 4 (omega arith))) (one-of-at s 4 versions (omega arith))
+
+  pub head-reads : Reads (head (length s)) s 0 (headOk s) (getD s 4 0) 5
+  head-reads = reads-as (head-in-reads (1 ∷ []) refl) (ap (λ b. eqb (length s) (big (take 4 s)) && b) (or-false (eqb (getD s 4 0) 1))) refl
+
+  -- that of a question
+  pub question-head-reads : Reads (headOf versions (length s)) s 0 (questionHeadOk s) (getD s 4 0) 5
+  question-head-reads = head-in-reads versions refl
+
+  pub no-question-head : length s < 5 → Says (questionHeadOk s) false
+  no-question-head h = record { is = head-in-short versions refl h }
+
+  pub question-head-is : {n top : ℕ} {r : Bool} → Number (big (take 4 (drop 0 s))) top n → Says (any (eqb (getD s 4 0)) (1 ∷ 2 ∷ [])) r
+      → Says (questionHeadOk s) (eqb (length s) n && r)
+  question-head-is p q = record { is = rw (p .is, q .is) }
 
   -- a book, or a text book, is a head and what is behind it
   pub behind-head : {A : Type 0} (m : Layout A) → whole (must (leb (length s) mostBytes) >>= λ _. head (length s) >>= λ _. m) s ≡ when (bookHeadOk s) (whole m (drop 5 s))

@@ -8,9 +8,10 @@ use lib.Dec.{eqb, leb, ltb}
 use lib.IntN.{ℤ, pos, negsuc, natAbs}
 use lib.Signed.{mag}
 use lib.ListN.{length, take, drop, getD}
-use Rattle.rules.specs.Lists.{isSome}
+use Rattle.rules.specs.Lists.{any, isSome}
 use Rattle.rules.specs.Bytes.{name, big}
 use Rattle.rules.specs.BookLayout.{mostBytes}
+use Rattle.rules.specs.Question.{versions}
 use Rattle.layout.specs.Reads.{Reads, part}
 
 -- `r` is the test
@@ -21,7 +22,14 @@ pub record Says (test r : Bool) : Type 0 where
 pub record Accepts {A : Type 0} (o : Option A) (r : Bool) : Type 0 where
   pub is : isSome o ≡ r
 
--- the head of a layout: the length of the whole as it was lent, and version 1
+-- the head of a layout: the length of the whole as it was lent, and one of these versions
+abbrev pub headIn : List ℕ → List ℕ → Bool
+headIn versions s = eqb (length s) (big (take 4 s)) && any (eqb (getD s 4 0)) versions
+
+abbrev pub questionHeadOk : List ℕ → Bool
+questionHeadOk s = headIn versions s
+
+-- of version 1
 abbrev pub headOk : List ℕ → Bool
 headOk s = eqb (length s) (big (take 4 s)) && eqb (getD s 4 0) 1
 

@@ -52,7 +52,7 @@ pub fn signed_four_at(s: &[u8], at: usize) -> i64
 
 // ---- written
 
-fn put_two(out: &mut [u8], at: usize, n: u16)
+pub fn put_two(out: &mut [u8], at: usize, n: u16)
     requires { ⌜ at + 2 ≤ length (now out) ⌝ }
     ensures { λ _. ⌜ Puts (now (out .entry)) at (bytesOf 2 n) (now (out .exit)) ⌝ }
 {

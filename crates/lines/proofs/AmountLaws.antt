@@ -11,7 +11,7 @@ use lib.ListN.{length, take, drop, getD, set, replicate, length-set}
 use lib.Seq.{take-suc-set}
 use Rattle.rules.specs.Lists.{any}
 use Rattle.rules.specs.Book.{ruleNumber}
-use Rattle.rules.specs.Amounts.{exact, rounded}
+use Rattle.rules.specs.Amounts.{exact, factored, rounded}
 use Rattle.rules.specs.Lines.{mostTotal, totalOf}
 use Rattle.rules.specs.declared.Cents.{Cents}
 use Rattle.rules.specs.declared.Fraction.{Fraction}
@@ -21,7 +21,7 @@ use Rattle.rules.specs.declared.Total.the-variants.{InRange, OutOfRange}
 use Rattle.rules.proofs.ListLaws.{All}
 use Rattle.layout.specs.Ensures.{Says}
 use Rattle.layout.proofs.StoreLaws.{all-same, behind-store}
-use Rattle.amounts.specs.Contracts.{BookValue, ExactAmount, Roundable, RoundedCents, Addable, totalAfter}
+use Rattle.amounts.specs.Contracts.{BookValue, ExactAmount, Factorable, FactoredAmount, Roundable, RoundedCents, Addable, totalAfter}
 use Rattle.amounts.proofs.TotalLaws.{totalFrom, from-zero, from-end, from-in, from-out, after-sum, after-in-range}
 use Rattle.lines.specs.declared.Pick.{Pick}
 use Rattle.lines.specs.Views.{View, viewIn, viewsIn, noPick, isBase, baseFirst, amountOn, amountsFrom, amountsOf, amountsIn, noCents}
@@ -52,22 +52,22 @@ module _ (v : View) (base total : ℤ) (on : LineOn v base total) (t : Bool) (of
   share-of = record { value-in = on .sound .value-in; of-in = one-in t base total of mostTotal is (on .base-in) (on .total-in) }
 
   module _ (x : Fraction) (e : ExactAmount (v .value) of x) where
-    pub can-round : Roundable (v .rounding) x
-    can-round =
-        record {
-          sound = on .sound .rounding-in;
-          top-in = omega (arith, e .top-in);
-          low = e .low;
-          high = omega (arith, e .high);
-        }
+    pub can-factor : Factorable (v .factor) x
+    can-factor = record { factor-in = on .sound .factor-in; top-in = e .top-in; low = e .low; high = e .high }
 
-    pub line-is : eqb (v .rule) 1 ≡ t → (r : Cents) → RoundedCents (v .rounding) x r → LineAmount v base total r
-    unfolding amountOn
-    line-is rule r m =
-        record {
-          is = m .is ∙ ap (rounded (v .rounding)) (e .is ∙ ap (exact (v .value)) (is .is ∙ ap (λ u. cond u base total) (sym rule)));
-          near = omega (arith, m .near, e .top-in);
-        }
+    module _ (y : Fraction) (f : FactoredAmount (v .factor) x y) where
+      pub can-round : Roundable (v .rounding) y
+      can-round = record { sound = on .sound .rounding-in; top-in = f .top-in; low = f .low; high = f .high }
+
+      pub line-is : eqb (v .rule) 1 ≡ t → (r : Cents) → RoundedCents (v .rounding) y r → LineAmount v base total r
+      unfolding amountOn
+      line-is rule r m =
+          record {
+            is =
+                m .is ∙ f .rounds (v .rounding)
+                ∙ ap (λ (z : Fraction). rounded (v .rounding) (factored (v .factor) z)) (e .is ∙ ap (exact (v .value)) (is .is ∙ ap (λ u. cond u base total) (sym rule)));
+            near = omega (arith, m .near, f .top-in);
+          }
 
 -- ---- base lines come first
 

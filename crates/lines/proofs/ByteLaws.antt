@@ -29,9 +29,9 @@ module _ (v : View) (z : ℤ) where
   pub line-length : length (viewBytes v z) ≡ lineSize
   line-length = refl
 
-  pub line-puts : {a b c d : List ℕ} {at letter top : ℕ} → Number (v .level) top letter → Puts a at (bytesOf 4 (v .text)) b → Puts b (at + 4) (letter ∷ v .place ∷ []) c
-      → Puts c (at + 6) (signedBytesOf 8 z) d → Puts a at (viewBytes v z) d
-  line-puts l p q r = puts-then p refl (puts-then (rw (l .is) at q) (omega arith) r)
+  pub line-puts : {a b c d e : List ℕ} {at letter top : ℕ} → Number (v .level) top letter → Puts a at (bytesOf 4 (v .text)) b → Puts b (at + 4) (letter ∷ v .place ∷ []) c
+      → Puts c (at + 6) (signedBytesOf 8 z) d → Puts d (at + 14) (bytesOf 2 (v .factor)) e → Puts a at (viewBytes v z) e
+  line-puts l p q r f = puts-then p refl (puts-then (rw (l .is) at q) (omega arith) (puts-then r (omega arith) f))
 
 module _ (level : Level) where
   pub letter-base : level ≡ Base → Number (letterOf level) 256 66

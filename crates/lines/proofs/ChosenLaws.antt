@@ -11,7 +11,7 @@ use Rattle.rules.specs.Book.{Row, base, surcharge, discount, plain, roundingFor
 use Rattle.rules.specs.BookLayout.{inBounds}
 use Rattle.rules.specs.Question.{Question, Grant, grants}
 use Rattle.rules.specs.Choice.{component, better, step₅, surviving, choose}
-use Rattle.rules.specs.Lines.{Slot, slotsAt, slots, Chosen, rowsAt, chosenAt, chosen}
+use Rattle.rules.specs.Lines.{Slot, namedSlot, slotsAt, slots, Chosen, chosenIn, rowsAt, chosenAt, chosen}
 use Rattle.rules.specs.Amounts.{SoundRounding}
 use Rattle.rules.specs.declared.Rounding.{Rounding}
 use Rattle.rules.proofs.ListLaws.{All, Holds, all-keep, first-holds, gather-append}
@@ -49,15 +49,9 @@ module _ (rs : List Row) (q : Question) where
       left : List Row
       left = surviving (q .date) (q .quantity) (q .currency) (rowsAt rs q s)
 
-      go : (o : Option Row) → Holds P o → Holds (λ (c : Chosen). P (c .row)) (Option·map (λ r. record { place = s .place; row = r }) o)
+      go : (o : Option Row) → Holds P o → Holds (λ (c : Chosen). P (c .row)) (Option·map (chosenIn s) o)
       go none h = tt
       go (some r) h = h
-
-  -- What all rows of a book have, the chosen rows have.
-  pub chosen-all : (P : Row → Type 0) → All P rs → All (λ c. P (c .row)) (chosen rs q)
-  unfolding chosen rowsAt component
-  chosen-all P h =
-      gather-all (λ (s : Slot). Unit {0}) (λ c. P (c .row)) (chosenAt rs q) (λ s u. chosen-holds P s (all-keep P _ rs h)) (slots (grants (q .granted))) (all-any (slots (grants (q .granted))))
 
   -- ---- levels
 
@@ -68,37 +62,9 @@ module _ (rs : List Row) (q : Question) where
       (λ s e. subst (λ (k : ℕ). Holds (λ c. c .row .level ≡ k) (chosenAt rs q s)) e (chosen-holds (λ r. r .level ≡ s .level) s (level-at rs q s)))
       (slotsAt gs level) (refl, of-level gs)
     where
-      of-level : (gs : List Grant) → All (λ (s : Slot). s .level ≡ level) (map (λ g. record {
-        level = level;
-        place = g .place;
-        condition = g .name;
-      }) gs)
+      of-level : (gs : List Grant) → All (λ (s : Slot). s .level ≡ level) (map (namedSlot level) gs)
       of-level [] = tt
       of-level (g ∷ gs) = (refl, of-level gs)
-
--- ---- values and roundings in bounds
-
-rounding-sound : (rs : List Rounding) → All SoundRounding rs → (n : ℕ) → SoundRounding (roundingFor n rs)
-unfolding roundingFor
-rounding-sound rs hs n = go (first (λ r. eqb (r .number) n) rs) (first-holds SoundRounding (λ r. eqb (r .number) n) rs hs)
-  where
-    go : (o : Option Rounding) → Holds SoundRounding o → SoundRounding (ifSome o plain (λ r. r))
-    go none h = record {
-      step-low = omega arith;
-      step-high = omega arith;
-      before-in = omega arith;
-      after-in = omega arith;
-    }
-    go (some r) h = h
-
--- Of rows and roundings in bounds, the chosen rows are sound.
-pub chosen-sound : (roundings : List Rounding) (rs : List Row) (q : Question) → All (λ r. inBounds (r .value) ≡ true) rs → All SoundRounding roundings
-    → All Sound (map (viewOf roundings) (chosen rs q))
-chosen-sound roundings rs q hs ks = go (chosen rs q) (chosen-all rs q (λ r. inBounds (r .value) ≡ true) hs)
-  where
-    go : (cs : List Chosen) → All (λ c. inBounds (c .row .value) ≡ true) cs → All Sound (map (viewOf roundings) cs)
-    go [] hs = tt
-    go (c ∷ cs) hs = (record { value-in = hs .0; rounding-in = rounding-sound roundings ks (c .row .rounding) }, go cs (hs .1))
 
 -- ---- base rows, and then others
 

@@ -29,7 +29,6 @@ use Rattle.lines.specs.Contracts.{StandFor, FirstBase, Sound, Listable, 
 use Rattle.lines.proofs.WalkLaws.{views-count}
 use Rattle.lines.proofs.ViewLaws.{run-amounts, run-base, run-currency, run-places, run-bytes}
 use Rattle.lines.proofs.ByteLaws.{lines-length}
-use Rattle.lines.proofs.ChosenLaws.{chosen-sound, chosen-base-first}
 
 -- the definition's steps over a currency, a test and a total
 abbrev pub pricedAs : List Line → Bool → Total → List ℕ → Result Priced
@@ -79,21 +78,12 @@ module _ (book : List Record) (q : Question) (picks : List Pick) (n : ℕ) (stan
       ∙ ap (λ zs. viewsBytes (map (viewOf (roundings book)) (chosen (rows book) q)) zs) (sym (ap amounts (lines-run book q)) ∙ line-amounts)
       ∙ ap (λ vs. viewsBytes vs (amountsOf (viewsIn picks n))) (sym (stand .is))
 
-  -- The lines of n picks are written in 14 n bytes.
+  -- The lines of n picks are written in 16 n bytes.
   pub bytes-count : n ≤ length picks → length (linesBytes (linesOf book q)) ≡ lineSize * n
   bytes-count k =
       ap length line-bytes
       ∙ lines-length (viewsIn picks n) (amountsOf (viewsIn picks n)) (ap length (sym line-amounts) ∙ (length-map (linesOf book q) (λ l. l .amount) ∙ (line-count k ∙ sym (views-count picks n k))))
       ∙ ap (λ (m : ℕ). lineSize * m) (views-count picks n k)
-
-  -- Picks of rows and roundings in bounds have amounts that can be listed.
-  pub can-list : n ≤ 99 → All (λ r. inBounds (r .value) ≡ true) (rows book) → All SoundRounding (roundings book) → Listable picks n
-  can-list h hs ks =
-      record {
-        few = h;
-        sound = subst (All Sound) (sym (stand .is)) (chosen-sound (roundings book) (rows book) q hs ks);
-        base-first = ap baseFirst (stand .is) ∙ chosen-base-first (roundings book) (rows book) q;
-      }
 
   -- ---- refusals 4, 5 and 6
 

@@ -9,7 +9,7 @@ use lib.ListN.{length, getD, replicate}
 use Rattle.rules.specs.Lists.{first}
 use Rattle.rules.specs.BookLayout.{inBounds}
 use Rattle.rules.specs.Book.{Record, rows, roundings}
-use Rattle.rules.specs.Question.{Question}
+use Rattle.rules.specs.Question.{Question, mostFactor}
 use Rattle.rules.specs.Lines.{chosen, mostTotal, totalOf, lineSize}
 use Rattle.rules.specs.Amounts.{SoundRounding}
 use Rattle.rules.specs.declared.Cents.{Cents}
@@ -37,9 +37,10 @@ pub record OneOfTwo (test : Bool) (first second r : ℤ) : Type 0 where
 
 -- ---- amounts
 
--- a row as a book may have it, with its rounding
+-- a row as a book may have it, with its rounding, and a factor as a question may have it
 pub record Sound (v : View) : Type 0 where
   pub value-in : inBounds (v .value) ≡ true
+  pub factor-in : v .factor ≤ mostFactor
   pub rounding-in : SoundRounding (v .rounding)
 
 -- and totals that are in range
@@ -48,9 +49,9 @@ pub record LineOn (v : View) (base total : ℤ) : Type 0 where
   pub base-in : natAbs base ≤ mostTotal
   pub total-in : natAbs total ≤ mostTotal
 
--- an amount that a book's values and roundings can come to
+-- an amount that a book's values and roundings and a question's factors can come to
 abbrev pub mostAmount : ℕ
-mostAmount = 100_000_003_000_000
+mostAmount = 1_000_000_000_003_000_000
 
 pub record LineAmount (v : View) (base total : ℤ) (r : Cents) : Type 0 where
   pub is : r .0 ≡ amountOn base total v

@@ -10,7 +10,7 @@ use Rattle.rules.specs.Bytes.{bytesOf, signedBytesOf}
 use Rattle.rules.specs.Book.{base, letterOf, ruleNumber, roundingFor}
 use Rattle.rules.specs.Question.{lettersOf}
 use Rattle.rules.specs.Choice.{isPercent}
-use Rattle.rules.specs.Amounts.{exact, rounded}
+use Rattle.rules.specs.Amounts.{exact, factored, rounded}
 use Rattle.rules.specs.Lines.{Chosen}
 use Rattle.rules.specs.declared.Cents.{Cents}
 use Rattle.rules.specs.declared.Level.{Level}
@@ -24,6 +24,7 @@ use Rattle.lines.specs.declared.Pick.{Pick}
 
 pub record View : Type 0 where
   pub place : ℕ
+  pub factor : ℕ
   pub level : ℕ
   pub rule : ℕ
   pub text : ℕ
@@ -36,6 +37,7 @@ abbrev pub viewOf : List Rounding → Chosen → View
 viewOf rs c =
     record {
       place = c .place;
+      factor = c .factor;
       level = c .row .level;
       rule = c .row .rule;
       text = c .row .text;
@@ -49,6 +51,7 @@ abbrev pub viewIn : Pick → View
 viewIn p =
     record {
       place = p .place;
+      factor = p .factor;
       level = letterOf (p .level);
       rule = ruleNumber (p .rule);
       text = p .text;
@@ -65,6 +68,7 @@ abbrev pub noPick : Pick
 noPick =
     record {
       place = 0;
+      factor = 0;
       level = Base;
       rule = OfBase;
       text = 0;
@@ -103,7 +107,7 @@ oneCurrency c vs = all (fits c) vs
 -- ---- amounts, with what the base lines before come to, and all lines before
 
 unfoldable pub amountOn : ℤ → ℤ → View → ℤ
-amountOn base total v = rounded (v .rounding) (exact (v .value) (cond (eqb (v .rule) 1) base total))
+amountOn base total v = rounded (v .rounding) (factored (v .factor) (exact (v .value) (cond (eqb (v .rule) 1) base total)))
 
 unfoldable pub amountsFrom : ℤ → ℤ → List View → List ℤ
 amountsFrom base total [] = []
@@ -125,7 +129,7 @@ noCents = record { 0 = pos 0 }
 -- ---- bytes
 
 abbrev pub viewBytes : View → ℤ → List ℕ
-viewBytes v z = bytesOf 4 (v .text) ++ (v .level ∷ v .place ∷ signedBytesOf 8 z)
+viewBytes v z = bytesOf 4 (v .text) ++ (v .level ∷ v .place ∷ (signedBytesOf 8 z ++ bytesOf 2 (v .factor)))
 
 unfoldable pub viewsBytes : List View → List ℤ → List ℕ
 viewsBytes [] zs = []

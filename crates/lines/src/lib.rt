@@ -4,6 +4,7 @@ pub mod verdict;
 
 use layout::numbers::put_four;
 use layout::numbers::put_signed_eight;
+use layout::numbers::put_two;
 use rules::Cents;
 use rules::Currency;
 use rules::LINE_SIZE;
@@ -23,12 +24,13 @@ ghost use Rattle.layout.specs.Ensures.{Says, Number, Puts, PutsTo};
 ghost use Rattle.lines.specs.Views.{viewIn, viewsIn, baseLevel, fits, oneCurrency, amountsIn, viewBytes, viewsBytes};
 ghost use Rattle.lines.specs.Contracts.{OneOfTwo, LineOn, LineAmount, Listable, ListedIn, Writable};
 
-// A chosen row and the rounding that its record names: all that its line needs. Place 0: no granted name brought it. The fields stand so that few
+// A chosen row, the rounding that its record names, and its factor: all that its line needs. Place 0: no granted name brought it. The fields stand so that few
 // bytes between them are left out.
 pub struct Pick {
     pub rounding: Rounding,
     pub value: Value,
     pub text: u32,
+    pub factor: u16,
     pub place: u8,
     pub level: Level,
     pub rule: Rule,
@@ -100,7 +102,8 @@ fn share_of(rule: Rule, base: Cents, total: Cents) -> Cents
     }
 }
 
-// The amount of a line behind others: `base` is what the base lines among them come to, and `total` all of them.
+// The amount of a line behind others: `base` is what the base lines among them come to, and `total` all of them. The factor is on the exact
+// amount, before anything is added or rounded.
 fn amount_of(pick: Pick, base: Cents, total: Cents) -> Cents
     requires { ⌜ LineOn (viewIn pick) (base .0) (total .0) ⌝ }
     ensures { λ r. ⌜ LineAmount (viewIn pick) (base .0) (total .0) r ⌝ }
@@ -110,7 +113,8 @@ fn amount_of(pick: Pick, base: Cents, total: Cents) -> Cents
     let rule = pick.rule;
     let of = share_of(rule, base, total);
     let exact = amounts::exact(value, of);
-    amounts::rounded(rounding, exact)
+    let factored = amounts::factored(pick.factor, exact);
+    amounts::rounded(rounding, factored)
 }
 
 // The amounts of the first n rows' lines, and whether all rows are in the currency c. Base lines come first, so what they come to is the total
@@ -169,7 +173,7 @@ fn letter_of(level: Level) -> u8
     }
 }
 
-// The 14 bytes of a line: the text's number, the level's letter, the place of the granted name, the amount.
+// The 16 bytes of a line: the text's number, the level's letter, the place of the granted name, the amount, the factor.
 fn write_line(out: &mut [u8], at: usize, pick: Pick, amount: Cents)
     requires { ⌜ at + lineSize ≤ length (now out) ⌝ }
     ensures { λ _. ⌜ Puts (now (out .entry)) at (viewBytes (viewIn pick) (amount .0)) (now (out .exit)) ⌝ }
@@ -179,6 +183,7 @@ fn write_line(out: &mut [u8], at: usize, pick: Pick, amount: Cents)
     put_four(out, at, pick.text);
     put_pair(out, at + 4, letter, pick.place);
     put_signed_eight(out, at + 6, amount.0);
+    put_two(out, at + 14, pick.factor);
 }
 
 // The first n lines, one behind the other, from `at` on, and where they end.

@@ -10,7 +10,7 @@ use lib.ListN.{length, getD}
 use Rattle.rules.specs.Lists.{same, first, pick, gather, consSome, isSome}
 use Rattle.rules.specs.Book.{Record, Article, Pack, packagings, articleOf, packOf}
 use Rattle.rules.specs.BookLayout.{records, star}
-use Rattle.rules.specs.Question.{Question, Grant, grants, questionOf}
+use Rattle.rules.specs.Question.{Granted, Question, Grant, grants, questionOf}
 use Rattle.rules.specs.Refusals.{Result, _>>=_, refused, orRefuse}
 use Rattle.rules.specs.Packaging.{orElse, packFor, used, Packed, packaging, shown}
 use Rattle.rules.specs.declared.PackagingAnswer.{PackagingAnswer}
@@ -44,7 +44,7 @@ module _ {A : Type 0} where
   first-none [] = refl
   first-none (x ∷ xs) = first-none xs
 
-module _ (names : List (List ℕ)) (article : List ℕ) (rs : List Record) (i : ℕ) where
+module _ (names : List Granted) (article : List ℕ) (rs : List Record) (i : ℕ) where
   first-named : (name : List ℕ) → ((c : List ℕ) → eqb (placeOf names c) i ≡ same c name) → firstAt names article rs i ≡ packOf rs article name
   unfolding firstAt packOf
   first-named name h = first-same _ _ (λ p. ap (λ (b : Bool). same (p .article) article && b) (h (p .condition))) (packagings rs)
@@ -90,7 +90,7 @@ module _ (q : Question) {table : List ℕ} (ok : GrantsAre (q .granted) table) (
         rest : gather firstFor (upFrom 1 32) ≡ gather (packFor rs (q .article)) (grants (q .granted))
         rest =
             places-gathered ok firstFor (packFor rs (q .article))
-            (λ g h. λ j. orElse (named (q .article) g h j) (named star g h j))
+            (λ g h _. λ j. orElse (named (q .article) g h j) (named star g h j))
             (λ i h. λ j. orElse (empty (q .article) i h j) (empty star i h j))
 
     -- what the definition does once the article is there
@@ -127,7 +127,7 @@ pub book-starts : {b : List ℕ} → isSome (records b) ≡ true → Between b 5
 book-starts {b} ok = pass-start b ok
 
 -- the walk's spots mark packagings
-module _ {b article table : List ℕ} {n : ℕ} {found : Found} (is : FoundIs b article table n found) {names : List (List ℕ)} (g : GrantsAre names table)
+module _ {b article table : List ℕ} {n : ℕ} {found : Found} (is : FoundIs b article table n found) {names : List Granted} (g : GrantsAre names table)
     (c : length names ≡ n) where
   pub own-mark : AllMark b (found .own)
   own-mark = keeps-mark (is .own names g c)
@@ -147,7 +147,7 @@ module _ (b s : List ℕ) where
     pub call-2 : {t : Bool} {r : PackagingAnswer} → t ≡ isSome (questionOf s) → t ≡ false → r ≡ shown (refused 2) → r ≡ shown (packaging b s)
     call-2 e f h = h ∙ ap shown (sym (opened b s ∙ goes-on 1 (records b) (withBook s) (book-left b ok) ∙ refuses 2 (questionOf s) (withQuestion (recordsLeft b 5)) (sym e ∙ f)))
 
-    module _ {ask : Ask} (a : AskIs s ask) {table : List ℕ} (g : GrantsAre (namesAt s (ask .granted) (ask .conditions)) table) {found : Found}
+    module _ {ask : Ask} (a : AskIs s ask) {table : List ℕ} (g : GrantsAre (namesAt (ask .version) s (ask .granted) (ask .conditions)) table) {found : Found}
         (is : FoundIs b (part s (ask .article .at) (ask .article .at + ask .article .size)) table (ask .conditions) found) where
       -- what was found is of the article and the names that the question has
       pub found-asked : FoundIs b (askIn s ask .article) table (ask .conditions) found
@@ -161,13 +161,13 @@ module _ (b s : List ℕ) where
       pub call-3 : {r : PackagingAnswer} → found .known ≡ false → r ≡ shown (refused 3) → r ≡ shown (packaging b s)
       call-3 e h = h ∙ ap shown (sym (asked ∙ refuses 3 (articleOf (recordsLeft b 5) (askIn s ask .article)) _ (sym (found-asked .known) ∙ e)))
 
-      count : length (namesAt s (ask .granted) (ask .conditions)) ≡ ask .conditions
-      count = names-count s (ask .granted) (ask .conditions)
+      count : length (namesAt (ask .version) s (ask .granted) (ask .conditions)) ≡ ask .conditions
+      count = names-count (ask .version) s (ask .granted) (ask .conditions)
 
       pub call-on : {r : PackagingAnswer} → found .known ≡ true → AnswersFrom b (found .own) (found .any) r → r ≡ shown (packaging b s)
       call-on e from =
-          let own = found-asked .own (namesAt s (ask .granted) (ask .conditions)) g count in
-          let any = found-asked .any (namesAt s (ask .granted) (ask .conditions)) g count in
+          let own = found-asked .own (namesAt (ask .version) s (ask .granted) (ask .conditions)) g count in
+          let any = found-asked .any (namesAt (ask .version) s (ask .granted) (ask .conditions)) g count in
           let article = articleOf (recordsLeft b 5) (askIn s ask .article) in
           from .is
           ∙ ap shown (spots-are (askIn s ask) g (recordsLeft b 5) own any

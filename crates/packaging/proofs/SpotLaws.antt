@@ -8,6 +8,7 @@ use native.Mathlib.Omega.{arith}
 use lib.Dec.{eqb}
 use lib.ListN.{take, drop}
 use borrow.Author.Tests.{eq-eqb, ne-eqb}
+use Rattle.rules.specs.Question.{Granted}
 use Rattle.rules.specs.Lists.{same, first, pick, consSome, ifSome}
 use Rattle.rules.specs.Layout.{whole}
 use Rattle.rules.specs.Book.{Record, PackagingRecord, Pack, asPack, packagings}
@@ -38,12 +39,12 @@ module _ (table : List ℕ) (n : ℕ) (article t : List ℕ) {b : Bool} (s : Say
   unfolding startsWith placeFor
   place-none e = record { below = omega arith; of = λ names g c. go names (whole kinded t) (s .is ∙ e) }
     where
-      held : (names : List (List ℕ)) (o : Option Pack) → ifSome o false (λ p. same (p .article) article) ≡ false
+      held : (names : List Granted) (o : Option Pack) → ifSome o false (λ p. same (p .article) article) ≡ false
           → 33 ≡ ifSome o 33 (λ p. cond (same (p .article) article) (placeOf names (p .condition)) 33)
       held names none f = refl
       held names (some p) f = rw f
 
-      go : (names : List (List ℕ)) (o : Option Record) → startsWith 4 article o ≡ false → 33 ≡ placeFor names article o
+      go : (names : List Granted) (o : Option Record) → startsWith 4 article o ≡ false → 33 ≡ placeFor names article o
       go names none f = refl
       go names (some r) f = held names (asPack r) (sym (packaging-read article r) ∙ f)
 
@@ -62,7 +63,7 @@ packs-more : (o : Option Record) (rs : List Record) → packagings (consSome o r
 packs-more none rs = refl
 packs-more (some r) rs = refl
 
-module _ (names : List (List ℕ)) (article : List ℕ) (rs : List Record) (i : ℕ) where
+module _ (names : List Granted) (article : List ℕ) (rs : List Record) (i : ℕ) where
   abbrev belongs : Pack → Bool
   belongs p = same (p .article) article && eqb (placeOf names (p .condition)) i
 

@@ -9,6 +9,7 @@ use lib.Dec.{eqb}
 use lib.ListN.{length, getD, set, replicate, length-set, length-replicate, getD-replicate}
 use lib.Seq.{getD-set-same, getD-set-other}
 use borrow.Author.Tests.{ne-eqb, eqb-true, eqb-false}
+use Rattle.rules.specs.Question.{Granted}
 use Rattle.rules.specs.Lists.{isSome, consSome}
 use Rattle.rules.specs.Layout.{whole}
 use Rattle.rules.specs.Book.{Record, Pack, articleOf}
@@ -54,14 +55,14 @@ keeping-end {b} {p} e (Shut x t f) = subst (SpotIs b p) (sym f) (OnePack x t)
 -- ---- all spots of an article
 
 -- the spot of place i, with these records left
-abbrev pub KeepingAt : List ℕ → List (List ℕ) → List ℕ → Spot → List Record → ℕ → Type 0
+abbrev pub KeepingAt : List ℕ → List Granted → List ℕ → Spot → List Record → ℕ → Type 0
 KeepingAt b names article p rs i = Keeping b p (firstAt names article (recordsLeft b 5) i) (firstAt names article rs i)
 
-pub record KeepingAll (b : List ℕ) (names : List (List ℕ)) (article : List ℕ) (ps : List Spot) (at : ℕ) : Type 0 where
+pub record KeepingAll (b : List ℕ) (names : List Granted) (article : List ℕ) (ps : List Spot) (at : ℕ) : Type 0 where
   pub long : length ps ≡ 34
   pub each : (i : ℕ) → i < 33 → KeepingAt b names article (getD ps i noSpot) (recordsLeft b at) i
 
-module _ {b : List ℕ} {names : List (List ℕ)} {article : List ℕ} where
+module _ {b : List ℕ} {names : List Granted} {article : List ℕ} where
   keep-start : KeepingAll b names article (replicate 34 noSpot) 5
   keep-start =
       record {
@@ -108,7 +109,7 @@ module _ {b : List ℕ} {names : List (List ℕ)} {article : List ℕ} where
 
 -- for the names that the table is of, of which there are n
 abbrev Keeper : (b table : List ℕ) (n : ℕ) (article : List ℕ) (ss : List Spot) (at : ℕ) → Type 0
-Keeper b table n article ss at = (names : List (List ℕ)) → GrantsAre names table → length names ≡ n → KeepingAll b names article ss at
+Keeper b table n article ss at = (names : List Granted) → GrantsAre names table → length names ≡ n → KeepingAll b names article ss at
 
 pub record Walking (b article table : List ℕ) (n : ℕ) (own any : List Spot) (known : Bool) (at : ℕ) : Type 0 where
   pub between : Between b at

@@ -6,6 +6,7 @@ use mathlib.Core.List.{List}
 use mathlib.Core.Option.{Option, some, none}
 use lib.Dec.{eqb}
 use lib.ListN.{length, getD}
+use Rattle.rules.specs.Question.{Granted}
 use Rattle.rules.specs.Lists.{same, first, gather, isSome, ifSome}
 use Rattle.rules.specs.Layout.{whole}
 use Rattle.rules.specs.Book.{Record, PackagingRecord, Pack, asPack, packagings, articleOf}
@@ -25,16 +26,16 @@ abbrev pub packHeld : Option Record → Option Pack
 packHeld o = ifSome o none asPack
 
 -- a packaging of the article is kept at the place of its condition, any other record nowhere
-unfoldable pub placeFor : List (List ℕ) → List ℕ → Option Record → ℕ
+unfoldable pub placeFor : List Granted → List ℕ → Option Record → ℕ
 placeFor names article o = ifSome (packHeld o) nowhere λ p. cond (same (p .article) article) (placeOf names (p .condition)) nowhere
 
 -- `r` is that place among the names that the table is of, of which there are n; whatever the table, it is a place or 33
 pub record PlaceFor (table : List ℕ) (n : ℕ) (article : List ℕ) (o : Option Record) (r : ℕ) : Type 0 where
   pub below : r < 34
-  pub of : (names : List (List ℕ)) → GrantsAre names table → length names ≡ n → r ≡ placeFor names article o
+  pub of : (names : List Granted) → GrantsAre names table → length names ≡ n → r ≡ placeFor names article o
 
 -- of those that belong at a place the first
-unfoldable pub firstAt : List (List ℕ) → List ℕ → List Record → ℕ → Option Pack
+unfoldable pub firstAt : List Granted → List ℕ → List Record → ℕ → Option Pack
 firstAt names article rs place = first (λ p. same (p .article) article && eqb (placeOf names (p .condition)) place) (packagings rs)
 
 -- ---- what stands at a spot
@@ -83,8 +84,8 @@ pub record Keeps (b : List ℕ) (ss : List Spot) (f : ℕ → Option Pack) : Typ
 
 -- at each place the first record of the article, or of any, for the names that the table is of, of which there are n
 pub record FoundIs (b article table : List ℕ) (n : ℕ) (r : Found) : Type 0 where
-  pub own : (names : List (List ℕ)) → GrantsAre names table → length names ≡ n → Keeps b (r .own) (firstAt names article (recordsLeft b 5))
-  pub any : (names : List (List ℕ)) → GrantsAre names table → length names ≡ n → Keeps b (r .any) (firstAt names star (recordsLeft b 5))
+  pub own : (names : List Granted) → GrantsAre names table → length names ≡ n → Keeps b (r .own) (firstAt names article (recordsLeft b 5))
+  pub any : (names : List Granted) → GrantsAre names table → length names ≡ n → Keeps b (r .any) (firstAt names star (recordsLeft b 5))
   pub known : r .known ≡ isSome (articleOf (recordsLeft b 5) article)
 
 -- ---- which are used

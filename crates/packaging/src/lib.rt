@@ -40,7 +40,7 @@ fn answered(b: &[u8], q: &[u8]) -> PackagingAnswer
 {
     let ask = question::ask_of(q);
     let names = ask.conditions;
-    let table = grants_of(q, ask.granted, names);
+    let table = grants_of(q, ask.granted, names, ask.version);
     let article = ask.article;
     let from = article.at;
     let to = from + article.size;

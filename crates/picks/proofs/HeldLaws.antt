@@ -16,7 +16,7 @@ use Rattle.layout.specs.Ensures.{Says}
 use Rattle.grants.specs.Table.{GrantsAre}
 use Rattle.grants.specs.Places.{upFrom}
 use Rattle.choice.specs.Hands.{isEmpty, TakenIs, RowThere, Holds}
-use Rattle.choice.specs.Slots.{slotChosen, slotsChosen}
+use Rattle.choice.specs.Slots.{placedRow, slotChosen, slotsChosen}
 use Rattle.choice.specs.Walk.{SlotsHold, unseen}
 use Rattle.choice.specs.declared.hands.Hand.{Hand}
 use Rattle.choice.specs.declared.hands.Seen.{Seen}
@@ -88,7 +88,7 @@ module _ {b : List ℕ} {rs : List Row} {q : Question} {slots : List Seen} (hold
   taken-in : isEmpty hand ≡ false → HeldSoFar b rs q (set ats n (hand .at)) (set places n place) (set numbers n (hand .rounding)) (n + 1) (i + 1)
   taken-in e =
       let x = slot-full holds l t e in
-      let new : Chosen = record { place = i % 33; row = x .0 } in
+      let new : Chosen = placedRow q (i % 33) (x .0) in
       record {
         these = so .these ++ (new ∷ []);
         are = record { count = length-append (so .these) (new ∷ []) ∙ ap (λ (k : ℕ). k + 1) (so .are .count); each = λ k m. go (x .0) (x .1) k (decLt k n) m };
@@ -98,26 +98,29 @@ module _ {b : List ℕ} {rs : List Row} {q : Question} {slots : List Seen} (hold
       }
     where
       go : (r : Row) → Holds b hand r → (k : ℕ) → Dec (k < n) → k < n + 1
-          → Stands b (so .these ++ (record { place = i % 33; row = r } ∷ [])) k (getD (set ats n (hand .at)) k 0) (getD (set places n place) k 0)
+          → Stands b (so .these ++ (placedRow q (i % 33) r ∷ [])) k (getD (set ats n (hand .at)) k 0) (getD (set places n place) k 0)
           (getD (set numbers n (hand .rounding)) k 0)
       go r holds k (yes m) _ =
           let old = so .are .each k m in
           kept k m (record {
             one = old .one;
-            is = List·getD-append (so .these) (record { place = i % 33; row = r } ∷ []) (old .one) k (omega (arith, so .are .count)) ∙ old .is;
+            is = List·getD-append (so .these) (placedRow q (i % 33) r ∷ []) (old .one) k (omega (arith, so .are .count)) ∙ old .is;
             there = old .there;
             place-is = old .place-is;
+            place-in = old .place-in;
             number-is = old .number-is;
           })
       go r holds k (no m) u =
-          let new : Chosen = record { place = i % 33; row = r } in
+          let new : Chosen = placedRow q (i % 33) r in
           let e : length (so .these) ≡ k = omega (arith, so .are .count) in
           let f : n ≡ k = omega arith in
+          let own-place : getD (set places n place) k 0 ≡ i % 33 = ap (λ (j : ℕ). getD (set places n place) j 0) (sym f) ∙ getD-set-same places n place 0 (omega arith) ∙ p in
           record {
             one = new;
             is = ap (λ (j : ℕ). getD (so .these ++ (new ∷ [])) j new) (sym e) ∙ getD-append-seam (so .these) new [] new;
             there = subst (λ (a : ℕ). RowThere b a r) (sym (ap (λ (j : ℕ). getD (set ats n (hand .at)) j 0) (sym f) ∙ getD-set-same ats n (hand .at) 0 (omega arith))) (holds .there);
-            place-is = ap (λ (j : ℕ). getD (set places n place) j 0) (sym f) ∙ getD-set-same places n place 0 (omega arith) ∙ p;
+            place-is = own-place;
+            place-in = omega (arith, own-place);
             number-is =
                 ap (λ (j : ℕ). getD (set numbers n (hand .rounding)) j 0) (sym f) ∙ getD-set-same numbers n (hand .rounding) 0 (omega arith) ∙ holds .rounding;
           }

@@ -38,6 +38,7 @@ pub record Stands (b : List ℕ) (cs : List Chosen) (k at place number : ℕ) : 
   pub is : getD cs k one ≡ one
   pub there : RowThere b at (one .row)
   pub place-is : place ≡ one .place
+  pub place-in : place ≤ 32
   pub number-is : number ≡ one .row .rounding
 
 -- so it is with each of them, and there are n

@@ -13,7 +13,8 @@ use Rattle.layout.specs.Records.{recordsLeft, StopIs}
 use Rattle.records.specs.Ensures.{RowIs}
 use Rattle.lookup.specs.Roundings.{Found}
 use Rattle.grants.specs.declared.terms.Terms.{Terms}
-use Rattle.grants.specs.Table.{GrantsAre}
+use Rattle.grants.specs.Table.{tableSize, GrantsAre}
+use Rattle.grants.specs.Places.{FactorAt}
 use Rattle.grants.specs.Asks.{Asks}
 use Rattle.survey.specs.declared.window.Window.{Window}
 use Rattle.survey.specs.Window.{Windows}
@@ -50,23 +51,29 @@ pub record RowFound (b : List ℕ) (at found : ℕ) : Type 0 where
 
 -- ---- picks
 
--- `p` is the row that stands there, brought by the granted name at `place`
-pub record RowPicked (b : List ℕ) (at place : ℕ) (p : Pick) : Type 0 where
-  pub is : (r : Row) → RowThere b at r → viewIn p ≡ viewOf (roundings (recordsLeft b 5)) (record { place = place; row = r })
+-- `p` is the row that stands there, brought by the granted name at `place`, with this factor
+pub record RowPicked (b : List ℕ) (at place factor : ℕ) (p : Pick) : Type 0 where
+  pub is : (r : Row) → RowThere b at r → viewIn p ≡ viewOf (roundings (recordsLeft b 5)) (record { place = place; factor = factor; row = r })
   pub sound : Sound (viewIn p)
 
--- the rows at the first i of the places are picked
-pub record PicksSoFar (b ats places : List ℕ) (picks : List Pick) (i : ℕ) : Type 0 where
-  pub long : length picks ≡ 99
-  pub each : (k : ℕ) → k < i → RowPicked b (getD ats k 0) (getD places k 0) (getD picks k noPick)
+-- the factor being that of the place in the table
+pub record PlacePicked (b table : List ℕ) (at place : ℕ) (p : Pick) : Type 0 where
+  pub factor : ℕ
+  pub of-place : FactorAt table place factor
+  pub picked : RowPicked b at place factor p
 
--- a walk has filled the slots for some question of so many names, and the window is that of its article and sort
-pub record Filled (b : List ℕ) (slots : List Seen) (names : ℕ) (w : Window) : Type 0 where
+-- the rows at the first i of the places are picked
+pub record PicksSoFar (b table ats places : List ℕ) (picks : List Pick) (i : ℕ) : Type 0 where
+  pub long : length picks ≡ 99
+  pub each : (k : ℕ) → k < i → PlacePicked b table (getD ats k 0) (getD places k 0) (getD picks k noPick)
+
+-- a walk has filled the slots for some question of so many names, of which the table is, and the window is that of its article and sort
+pub record Filled (b : List ℕ) (slots : List Seen) (names : ℕ) (table : List ℕ) (w : Window) : Type 0 where
   pub asked : Question
   pub holds : SlotsHold b (rows (recordsLeft b 5)) asked slots
   pub few : names ≤ 32
   pub count : length (asked .granted) ≡ names
-  pub table : List ℕ
+  pub long : length table ≡ tableSize
   pub granted : GrantsAre (asked .granted) table
   pub window : Windows b 5 (asked .article) (asked .sort) w
 
@@ -77,9 +84,9 @@ pub record PickedAre (b : List ℕ) (q : Question) (picks : List Pick) (n : ℕ)
   pub is : viewsIn picks n ≡ map (viewOf (roundings (recordsLeft b 5))) (chosen (rows (recordsLeft b 5)) q)
   pub sound : All Sound (viewsIn picks n)
 
--- `r` has the rows of the slots, for every question of so many names that they were filled for
-pub record PicksFrom (b : List ℕ) (slots : List Seen) (names : ℕ) (r : Picks) : Type 0 where
-  pub each : (q : Question) → SlotsHold b (rows (recordsLeft b 5)) q slots → length (q .granted) ≡ names → {table : List ℕ} → GrantsAre (q .granted) table
+-- `r` has the rows of the slots, for every question of so many names that they were filled for, if the table is of its names
+pub record PicksFrom (b : List ℕ) (slots : List Seen) (names : ℕ) (table : List ℕ) (r : Picks) : Type 0 where
+  pub each : (q : Question) → SlotsHold b (rows (recordsLeft b 5)) q slots → length (q .granted) ≡ names → GrantsAre (q .granted) table
       → PickedAre b q (r .rows) (r .n)
 
 -- so it is for every question that asks so

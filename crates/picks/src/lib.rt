@@ -5,6 +5,7 @@ use crate::held::held_in;
 use book::record_stop;
 use choice::hands::Seen;
 use choice::slots_for;
+use grants::factor_at;
 use grants::terms::Terms;
 use lines::Pick;
 use lookup::roundings::rounding_at;
@@ -21,6 +22,7 @@ use rules::Way;
 use survey::window::MANY;
 use survey::window::Window;
 ghost use Prim.Native.Nat.{_≤_};
+ghost use Rattle.rules.specs.Question.{mostFactor};
 ghost use Rattle.lookup.specs.Roundings.{SpotsFound};
 ghost use Rattle.grants.specs.Asks.{Asked};
 ghost use Rattle.survey.specs.Window.{Windows};
@@ -42,6 +44,7 @@ const NONE: Pick = Pick {
     },
     value: Value::Fixed(Cents(0)),
     text: 0,
+    factor: 0,
     place: 0,
     level: Level::Base,
     rule: Rule::OfBase,
@@ -58,11 +61,12 @@ fn row_at(b: &[u8], at: usize) -> PriceRow
     records::row_of(&b[start..end])
 }
 
-// The row that stands at `at`, with the rounding that was found at `found`.
-fn row_pick(b: &[u8], at: usize, place: u8, found: usize) -> Pick
+// The row that stands at `at`, with the rounding that was found at `found`, for a granted name at `place` that has this factor.
+fn row_pick(b: &[u8], at: usize, place: u8, factor: u16, found: usize) -> Pick
     requires { ⌜ Held (now b) at ⌝ }
     requires { ⌜ RowFound (now b) at found ⌝ }
-    ensures { λ r. ⌜ RowPicked (now (b .entry)) at place r ⌝ }
+    requires { ⌜ factor ≤ mostFactor ⌝ }
+    ensures { λ r. ⌜ RowPicked (now (b .entry)) at place factor r ⌝ }
 {
     let row = row_at(b, at);
     let rounding = rounding_at(b, found);
@@ -74,6 +78,7 @@ fn row_pick(b: &[u8], at: usize, place: u8, found: usize) -> Pick
         rounding,
         value,
         text: row.text,
+        factor,
         place,
         level,
         rule,
@@ -96,10 +101,10 @@ fn spots_of(b: &[u8], window: Window, numbers: [u16; 99], n: usize) -> [usize; 9
     rounding_spots(&b[..to], window.from, numbers, n)
 }
 
-// The rows that the filled slots hold, one after the other. With so many granted names.
-fn picks_from(b: &[u8], slots: [Seen; 100], window: Window, names: usize) -> Picks
-    requires { ⌜ Filled (now b) slots names window ⌝ }
-    ensures { λ r. ⌜ PicksFrom (now (b .entry)) slots names r ⌝ }
+// The rows that the filled slots hold, one after the other. With so many granted names, of which the table is.
+fn picks_from(b: &[u8], slots: [Seen; 100], window: Window, names: usize, table: &[u8]) -> Picks
+    requires { ⌜ Filled (now b) slots names (now table) window ⌝ }
+    ensures { λ r. ⌜ PicksFrom (now (b .entry)) slots names (now (table .entry)) r ⌝ }
 {
     let mut ats = [0; 99];
     let mut places = [0; 99];
@@ -109,7 +114,9 @@ fn picks_from(b: &[u8], slots: [Seen; 100], window: Window, names: usize) -> Pic
     let mut rows = [NONE; 99];
     let mut i = 0;
     while i < n {
-        rows[i] = row_pick(b, ats[i], places[i], spots[i]);
+        let place = places[i];
+        let factor = factor_at(table, place as usize);
+        rows[i] = row_pick(b, ats[i], place, factor, spots[i]);
         i += 1;
     }
     Picks { rows, n }
@@ -123,5 +130,5 @@ pub fn picks_within(b: &[u8], window: Window, article: &[u8], table: &[u8], term
 {
     let last = window.last;
     let slots = slots_for(&b[..last], window.first, article, table, terms);
-    picks_from(b, slots, window, terms.names)
+    picks_from(b, slots, window, terms.names, table)
 }

@@ -1,18 +1,19 @@
 -- What a caller of the price call can rely on, whatever the bytes: said of any answer and any output that its contract allows.
-use Prim.Native.Nat.{ℕ, _*_, _≤_}
+use Prim.Native.Nat.{ℕ, zero, suc, _*_, _≤_}
 use mathlib.Core.Path.{_≡_, refl, sym, _∙_, ap, subst}
 use mathlib.Core.Bool.{not}
 use mathlib.Core.List.{List, [], _∷_, map}
 use mathlib.Core.Option.{some, Option·some-injective}
 use native.Mathlib.Nat.{mod-eq-of-lt}
+use native.Mathlib.Omega.{arith}
 use lib.Count.{ones}
 use lib.Dec.{eqb}
 use lib.IntN.{ℤ, pos, negℤ, natAbs, _*ℤ_}
-use lib.ListN.{length, drop}
+use lib.ListN.{length, drop, getD}
 use Rattle.rules.specs.Lists.{any}
 use Rattle.rules.specs.Book.{Record, Article, base, surcharge, discount, articleOf}
 use Rattle.rules.specs.BookLayout.{records}
-use Rattle.rules.specs.Question.{Question, grants, questionOf, noCurrency}
+use Rattle.rules.specs.Question.{Granted, Question, plainFactor, mostFactor, grants, questionOf, noCurrency}
 use Rattle.rules.specs.Lines.{Line, sum, amounts, total, slotsAt, linesOf, mostLinesSize, linesBytes}
 use Rattle.rules.specs.Refusals.{Result, done, refused, numberOf, over, lentAfter}
 use Rattle.rules.specs.Price.{Answer, answerOf, written, price, shown, setOf, lentAfterPrice}
@@ -22,7 +23,8 @@ use Rattle.rules.proofs.NoPriceLaws as NoPrice
 use Rattle.rules.proofs.CallLaws.{PriceRefusal, price-answered, price-never, answered-lines}
 use Rattle.rules.proofs.Promises as Rules
 use Rattle.rules.proofs.UnusedLaws.{unused-count}
-use Rattle.rules.proofs.RowLaws.{RowFor}
+use Rattle.rules.proofs.RowLaws.{noName, Under, RowFor}
+use Rattle.rules.proofs.GivesLaws.{question-sound}
 use Rattle.rules.proofs.BookK.{EUR, bookK, P1, P2, elmAsked, price-1, price-2, price-elm}
 use Rattle.lines.proofs.NearLaws.{priced-amounts}
 use Rattle.quote.proofs.FitLaws.{Bytes, text-below}
@@ -73,17 +75,28 @@ answered-total b s room a e {q} g =
     let same-question : x .question ≡ q = Option·some-injective (x .question) q (sym (x .is-question) ∙ g) in
     ap (λ (k : Answer). k .total) (sym (x .is)) ∙ (λ i. pos (same-question i .quantity) *ℤ x .is i .unit)
 
--- of a book of bytes, what is read of a line is what its row has
-lines-shown : (b : List ℕ) {book : List Record} (q : Question) → Bytes b → records b ≡ some book → (ls : List Line) → All (λ l. RowFor book q (l .place) (l .row)) ls → All (LineOf book q) (map writtenLine ls)
-lines-shown b q w e [] h = tt
-lines-shown b q w e (l ∷ ls) h = (
+-- a line's factor is at most 10,000
+under-most : (q : Question) → All (λ g. g .factor ≤ mostFactor) (q .granted) → (place : ℕ) (c : List ℕ) (f : ℕ) → Under q place c f → f ≤ mostFactor
+under-most q m zero c f u = omega (arith, u .1)
+under-most q m (suc i) c f u = omega (arith, u .2, go (q .granted) m i)
+  where
+    go : (gs : List Granted) → All (λ g. g .factor ≤ mostFactor) gs → (i : ℕ) → getD gs i noName .factor ≤ mostFactor
+    go [] m i = omega arith
+    go (g ∷ gs) m zero = m .0
+    go (g ∷ gs) m (suc i) = go gs (m .1) i
+
+-- of a book of bytes, what is read of a line is what its row and its granted name have
+lines-shown : (b : List ℕ) {book : List Record} (q : Question) → Bytes b → records b ≡ some book → All (λ g. g .factor ≤ mostFactor) (q .granted)
+    → (ls : List Line) → All (λ l. RowFor book q (l .place) (l .factor) (l .row)) ls → All (LineOf book q) (map writtenLine ls)
+lines-shown b q w e m [] h = tt
+lines-shown b {book} q w e m (l ∷ ls) h = (
   record {
     row = l .row;
-    stands = h .0;
+    stands = subst (λ (f : ℕ). RowFor book q (l .place) f (l .row)) (sym (mod-eq-of-lt (omega (arith, under-most q m (l .place) (l .row .condition) (l .factor) (h .0 .condition))))) (h .0);
     text = mod-eq-of-lt (text-below b w e (h .0 .in-book));
     level = refl;
   },
-  lines-shown b q w e ls (h .1),
+  lines-shown b q w e m ls (h .1),
 )
 
 module _ (b s lent : List ℕ) {r : PriceAnswer} {after : List ℕ} (is : PriceIs b s lent r after) where
@@ -130,14 +143,14 @@ module _ (b s lent : List ℕ) {r : PriceAnswer} {after : List ℕ} (is : PriceI
           let z : r ≡ zeros n = is .answer ∙ ap shown e in
           (z ∙ ap zeros (sym (ap (λ (y : PriceAnswer). y .number) z)), is .output ∙ ap (λ (x : Result Answer). lentAfterPrice x lent) e)
 
-  -- Room for 1,386 bytes is enough for every price: with so much, 7 is never said.
+  -- Room for 1,584 bytes is enough for every price: with so much, 7 is never said.
   pub room-enough : mostLinesSize ≤ length lent → r .number ≡ 7 → ⊥
   room-enough h e = Rules.price-room-enough b s (length lent) h (sym said ∙ e)
 
   module _ {book : List Record} {q : Question} (is-book : records b ≡ some book) (is-question : questionOf s ≡ some q) where
     -- Every line read back from the output is of a row that the book has, of the asked article and sort, that holds on the asked day (both its dates
     -- are days, and the day is neither before the one nor behind the other), and whose condition is the granted name at the line's place, raised, or
-    -- at place 0 none. The line shows that row's text number and level. (The book is bytes: no element is above 255.)
+    -- at place 0 none. The line shows that row's text number and level, and the factor of the granted name, or at place 0 1,000. (The book is bytes: no element is above 255.)
     pub lines-of-rows : Bytes b → All (LineOf book q) (linesIn (r .lines) after)
     unfolding shown lentAfter
     lines-of-rows w = go (price b s (length lent)) refl
@@ -148,7 +161,7 @@ module _ (b s lent : List ℕ) {r : PriceAnswer} {after : List ℕ} (is : PriceI
             let o : after ≡ over (written a) lent = is .output ∙ ap (λ (x : Result Answer). lentAfterPrice x lent) e in
             let read : linesIn (r .lines) after ≡ map writtenLine (a .lines) =
             (λ i. linesIn (k i) (o i)) ∙ lines-back (a .lines) (drop (length (written a)) lent) (near b s (length lent) a e) in
-            subst (All (LineOf book q)) (sym read) (lines-shown b q w is-book (a .lines) (Rules.line-of-a-row b s (length lent) a book q e is-book is-question))
+            subst (All (LineOf book q)) (sym read) (lines-shown b q w is-book (question-sound s q is-question .factors) (a .lines) (Rules.line-of-a-row b s (length lent) a book q e is-book is-question))
         go (refused n) e = subst (λ (y : PriceAnswer). All (LineOf book q) (linesIn (y .lines) after)) (sym (is .answer ∙ ap shown e)) tt
 
     -- With the number 0 the lines written are those of the definition, as many as is said, and behind them the output is as it was;
@@ -194,12 +207,12 @@ answerK unit total unused count = record {
 -- its lines: a base row of this text, the oak at place 1, the discount
 abbrev linesK : ℕ → ℤ → ℤ → ℤ → List WrittenLine
 linesK text amount oak off =
-    record { text = text; level = base; place = 0; amount = amount }
-    ∷ record { text = 3; level = surcharge; place = 1; amount = oak }
-    ∷ record { text = 4; level = discount; place = 0; amount = off }
+    record { text = text; level = base; place = 0; amount = amount; factor = plainFactor }
+    ∷ record { text = 3; level = surcharge; place = 1; amount = oak; factor = plainFactor }
+    ∷ record { text = 4; level = discount; place = 0; amount = off; factor = plainFactor }
     ∷ []
 
-module _ (lent : List ℕ) (room : 42 ≤ length lent) {r : PriceAnswer} {after : List ℕ} where
+module _ (lent : List ℕ) (room : 48 ≤ length lent) {r : PriceAnswer} {after : List ℕ} where
   carried : (s : List ℕ) (a : Answer) → price bookK s (length lent) ≡ done a → PriceIs bookK s lent r after → (r ≡ shown (done a)) × (after ≡ over (written a) lent)
   unfolding lentAfter
   carried s a e is = (is .answer ∙ ap shown e, is .output ∙ ap (λ (x : Result Answer). lentAfterPrice x lent) e)
@@ -207,19 +220,19 @@ module _ (lent : List ℕ) (room : 42 ≤ length lent) {r : PriceAnswer} {after 
   -- Whatever the contract allows on P1 is 10875, in lines of 10000, 1250 and -375, and what lies behind them is as it was: so neither a call
   -- that always refuses gets through, nor one that writes no lines, nor one that prices the base level and lists zeros for the rest;
   pub P1-is-10875 : PriceIs bookK P1 lent r after
-      → (r ≡ answerK (pos 10875) (pos 10875) 0 0) × (linesIn 3 after ≡ linesK 1 (pos 10000) (pos 1250) (negℤ (pos 375))) × (drop 42 after ≡ drop 42 lent)
+      → (r ≡ answerK (pos 10875) (pos 10875) 0 0) × (linesIn 3 after ≡ linesK 1 (pos 10000) (pos 1250) (negℤ (pos 375))) × (drop 48 after ≡ drop 48 lent)
   unfolding shown linesBytes
-  P1-is-10875 is = let x = carried P1 _ (price-1 (length lent) room) is in (x .0, ap (linesIn 3) (x .1), ap (drop 42) (x .1))
+  P1-is-10875 is = let x = carried P1 _ (price-1 (length lent) room) is in (x .0, ap (linesIn 3) (x .1), ap (drop 48) (x .1))
 
   -- on P2, a day later, it is 11420, in lines of 10500, 1313 and -393: so no call with one fixed price gets through either.
   pub P2-is-11420 : PriceIs bookK P2 lent r after
-      → (r ≡ answerK (pos 11420) (pos 11420) 0 0) × (linesIn 3 after ≡ linesK 2 (pos 10500) (pos 1313) (negℤ (pos 393))) × (drop 42 after ≡ drop 42 lent)
+      → (r ≡ answerK (pos 11420) (pos 11420) 0 0) × (linesIn 3 after ≡ linesK 2 (pos 10500) (pos 1313) (negℤ (pos 393))) × (drop 48 after ≡ drop 48 lent)
   unfolding shown linesBytes
-  P2-is-11420 is = let x = carried P2 _ (price-2 (length lent) room) is in (x .0, ap (linesIn 3) (x .1), ap (drop 42) (x .1))
+  P2-is-11420 is = let x = carried P2 _ (price-2 (length lent) room) is in (x .0, ap (linesIn 3) (x .1), ap (drop 48) (x .1))
 
   -- Two pieces as in P1, with `oak`, `OAK` and `elm` granted: the same three lines, and of the names only the third, `elm`, brought none (the
   -- second repeats the first). So an invented line count or unused count does not get through.
   pub only-elm-unused : PriceIs bookK elmAsked lent r after
-      → (r ≡ answerK (pos 10875) (pos 21750) 4 1) × (linesIn 3 after ≡ linesK 1 (pos 10000) (pos 1250) (negℤ (pos 375))) × (drop 42 after ≡ drop 42 lent)
+      → (r ≡ answerK (pos 10875) (pos 21750) 4 1) × (linesIn 3 after ≡ linesK 1 (pos 10000) (pos 1250) (negℤ (pos 375))) × (drop 48 after ≡ drop 48 lent)
   unfolding shown linesBytes
-  only-elm-unused is = let x = carried elmAsked _ (price-elm (length lent) room) is in (x .0, ap (linesIn 3) (x .1), ap (drop 42) (x .1))
+  only-elm-unused is = let x = carried elmAsked _ (price-elm (length lent) room) is in (x .0, ap (linesIn 3) (x .1), ap (drop 48) (x .1))

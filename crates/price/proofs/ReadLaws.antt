@@ -12,12 +12,21 @@ use Rattle.rules.proofs.ListLaws.{All}
 use Rattle.layout.proofs.StoreLaws.{fits-near, bytes-back, bytes-halves, number-back}
 use Rattle.price.specs.Read.{WrittenLine, linesIn, amountsIn}
 
--- what four bytes hold of a text number; of one that a book of bytes has, all
+-- what four bytes hold of a text number, and two of a factor; of one that a book of bytes or a question has, all
 abbrev pub writtenLine : Line → WrittenLine
-writtenLine l = record { text = l .row .text % 4294967296; level = l .row .level; place = l .place; amount = l .amount }
+writtenLine l = record {
+  text = l .row .text % 4294967296;
+  level = l .row .level;
+  place = l .place;
+  amount = l .amount;
+  factor = l .factor % 65536;
+}
 
 text-back : (n : ℕ) → big (bytesOf 4 n) ≡ n % 4294967296
 text-back n = ap big (bytes-halves 0 4 n) ∙ number-back 4 (n % 4294967296) (mod-lt n (omega arith))
+
+factor-back : (n : ℕ) → big (bytesOf 2 n) ≡ n % 65536
+factor-back n = ap big (bytes-halves 0 2 n) ∙ number-back 2 (n % 65536) (mod-lt n (omega arith))
 
 pub lines-back : (ls : List Line) (rest : List ℕ) → All (λ z. natAbs z ≤ 2_000_000_000) (amounts ls) → linesIn (length ls) (linesBytes ls ++ rest) ≡ map writtenLine ls
 unfolding linesBytes
@@ -30,6 +39,7 @@ lines-back (l ∷ ls) rest h =
       level = l .row .level;
       place = l .place;
       amount = bytes-back 8 (omega arith) z (fits-near 8 z (omega (arith, h .0))) i;
+      factor = factor-back (l .factor) i;
     }
     ∷ lines-back ls rest (h .1) i
 

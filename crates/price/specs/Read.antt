@@ -1,4 +1,4 @@
--- What a caller reads: the lines in the lent output, 14 bytes each, whose row a line is of, and a day's outcome in the answer.
+-- What a caller reads: the lines in the lent output, 16 bytes each, whose row a line is of, and a day's outcome in the answer.
 use Prim.Native.Nat.{ℕ, zero, suc}
 use mathlib.Core.Path.{_≡_}
 use mathlib.Core.List.{List, [], _∷_, map}
@@ -17,14 +17,16 @@ pub record WrittenLine : Type 0 where
   pub level : ℕ
   pub place : ℕ
   pub amount : ℤ
+  pub factor : ℕ
 
--- the line in front: text number 4 bytes, level 1, place 1, amount 8
+-- the line in front: text number 4 bytes, level 1, place 1, amount 8, factor 2
 abbrev pub lineIn : List ℕ → WrittenLine
 lineIn bytes = record {
   text = big (take 4 bytes);
   level = getD bytes 4 0;
   place = getD bytes 5 0;
   amount = signedOf 8 (big (take 8 (drop 6 bytes)));
+  factor = big (take 2 (drop 14 bytes));
 }
 
 -- the first n lines
@@ -38,7 +40,7 @@ amountsIn n bytes = map (λ l. l .amount) (linesIn n bytes)
 -- a line that shows the text number and the level of a row that may stand behind it
 pub record LineOf (book : List Record) (q : Question) (l : WrittenLine) : Type 0 where
   pub row : Row
-  pub stands : RowFor book q (l .place) row
+  pub stands : RowFor book q (l .place) (l .factor) row
   pub text : l .text ≡ row .text
   pub level : l .level ≡ row .level
 

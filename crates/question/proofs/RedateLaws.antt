@@ -10,10 +10,10 @@ use lib.ListN.{length, take, drop, length-append}
 use lib.Seq.{take-at, drop-at}
 use Rattle.rules.specs.Lists.{same, between, all, any}
 use Rattle.rules.specs.Layout.{Layout, andThen, _>>=_, give, giveIf, _such_, bytes, front, byte, times, whole, wholly}
-use Rattle.rules.specs.Bytes.{number, big, name, nameByte, oneOf, head, capitals, bytesOf}
+use Rattle.rules.specs.Bytes.{number, big, name, nameByte, oneOf, headOf, capitals, bytesOf}
 use Rattle.rules.specs.Days.{isDay}
 use Rattle.rules.specs.Book.{sale, purchase}
-use Rattle.rules.specs.Question.{Question, noCurrency, askedOf, property, questionLayout, questionOf, on, dateAt, redated}
+use Rattle.rules.specs.Question.{Question, noCurrency, askedOf, property, grantedIn, versions, questionLayout, questionOf, on, dateAt, redated}
 use Rattle.rules.proofs.DayLaws.{day-most}
 use Rattle.rules.proofs.TakesLaws.{whole-end}
 use Rattle.layout.proofs.LayoutLaws.{andThen-some}
@@ -32,11 +32,11 @@ pub record Reading {A : Type 0} (m : Layout A) (P : A → ℕ → Type 0) : Type
   pub reads : (s : List ℕ) (v : A) (t : List ℕ) → m s ≡ some (v, t) → Read m P s v t
 
 module _ {A : Type 0} where
-  such-back : (b : Bool) (a v : A) (s t : List ℕ) → giveIf b a s ≡ some (v, t) → (b ≡ true) × _≡_ {A = A × List ℕ} (a, s) (v, t)
+  pub such-back : (b : Bool) (a v : A) (s t : List ℕ) → giveIf b a s ≡ some (v, t) → (b ≡ true) × _≡_ {A = A × List ℕ} (a, s) (v, t)
   such-back true a v s t e = (refl, Option·some-injective (a, s) (v, t) e)
   such-back false a v s t e = absurd (Option·none-ne-some (v, t) e)
 
-  reading-such : {m : Layout A} {P : A → ℕ → Type 0} → Reading m P → (p : A → Bool) → Reading (m such p) P
+  pub reading-such : {m : Layout A} {P : A → ℕ → Type 0} → Reading m P → (p : A → Bool) → Reading (m such p) P
   reading-such {m} {P} l p = record {
     reads = λ s v t e.
         let x = andThen-some (m s) (λ a. giveIf (p a) a) e in
@@ -85,7 +85,7 @@ front-back b (some p) v t e =
     let q = Option·some-injective (b ∷ p .0, p .1) (v, t) e in
     (p .0, ap (λ r. some (p .0, r)) (ap (λ x. x .1) q), sym (ap (λ x. x .0) q))
 
-bytes-split : (n : ℕ) (s v t : List ℕ) → bytes n s ≡ some (v, t) → (s ≡ v ++ t) × (length v ≡ n)
+pub bytes-split : (n : ℕ) (s v t : List ℕ) → bytes n s ≡ some (v, t) → (s ≡ v ++ t) × (length v ≡ n)
 bytes-split zero s v t e = let p = Option·some-injective ([], s) (v, t) e in (λ i. p i .0 ++ p i .1, ap (λ x. length (x .0)) (sym p))
 bytes-split (suc n) [] v t e = absurd (Option·none-ne-some (v, t) e)
 bytes-split (suc n) (b ∷ s) v t e =
@@ -93,7 +93,7 @@ bytes-split (suc n) (b ∷ s) v t e =
     let ih = bytes-split n s (x .0) t (x .1) in
     (ap (λ r. b ∷ r) (ih .0) ∙ ap (λ r. r ++ t) (sym (x .2)), ap length (x .2) ∙ ap suc (ih .1))
 
-bytes-front : (v u : List ℕ) → bytes (length v) (v ++ u) ≡ some (v, u)
+pub bytes-front : (v u : List ℕ) → bytes (length v) (v ++ u) ≡ some (v, u)
 bytes-front [] u = refl
 bytes-front (b ∷ v) u = ap (front b) (bytes-front v u)
 
@@ -112,7 +112,7 @@ reading-bytes n = record {
 pub such-bytes : (n : ℕ) (p : List ℕ → Bool) → Reading (bytes n such p) (λ v k. (length v ≡ n) × (k ≡ n))
 such-bytes n p = reading-such (reading-bytes n) p
 
-reading-byte : Reading byte (λ v k. k ≡ 1)
+pub reading-byte : Reading byte (λ v k. k ≡ 1)
 reading-byte = record { reads = λ s v t e. go s v t e }
   where
     go : (s : List ℕ) (v : ℕ) (t : List ℕ) → byte s ≡ some (v, t) → Read byte (λ v k. k ≡ 1) s v t
@@ -121,21 +121,21 @@ reading-byte = record { reads = λ s v t e. go s v t e }
         let p = Option·some-injective (b, s) (v, t) e in
         record { taken = v ∷ []; splits = λ i. p i .0 ∷ p i .1; size = refl; again = λ u. refl }
 
-reading-number : (n : ℕ) → Reading (number n) (λ v k. k ≡ n)
+pub reading-number : (n : ℕ) → Reading (number n) (λ v k. k ≡ n)
 reading-number n = let l = reading-then (reading-bytes n) (λ bs. reading-give (big bs) (λ v k. k ≡ 0) refl) (λ v k. k ≡ n) (λ a b k j p q. omega arith) in l
 
-reading-oneOf : (bs : List ℕ) → Reading (oneOf bs) (λ v k. k ≡ 1)
+pub reading-oneOf : (bs : List ℕ) → Reading (oneOf bs) (λ v k. k ≡ 1)
 reading-oneOf bs = let l = reading-such reading-byte (λ b. any (eqb b) bs) in l
 
-reading-name : (lo hi : ℕ) → Reading (name lo hi) (λ v k. k ≡ 1 + length v)
+pub reading-name : (lo hi : ℕ) → Reading (name lo hi) (λ v k. k ≡ 1 + length v)
 reading-name lo hi =
     let l =
     reading-then (reading-such reading-byte (between lo hi)) (λ n. reading-such (reading-bytes n) (all nameByte)) (λ v k. k ≡ 1 + length v)
     (λ a b k j p q. omega (arith, q .0, q .1)) in
     l
 
-reading-head : (lent : ℕ) → Reading (head lent) (λ v k. k ≡ 5)
-reading-head lent = let l = reading-then (reading-such (reading-number 4) (eqb lent)) (λ w. reading-oneOf (1 ∷ [])) (λ v k. k ≡ 5) (λ a b k j p q. omega arith) in l
+reading-head : (lent : ℕ) → Reading (headOf versions lent) (λ v k. k ≡ 5)
+reading-head lent = let l = reading-then (reading-such (reading-number 4) (eqb lent)) (λ w. reading-oneOf versions) (λ v k. k ≡ 5) (λ a b k j p q. omega arith) in l
 
 -- ---- behind the date: what is left is read alike, whatever the date was
 
@@ -225,9 +225,9 @@ Begun article q k = (q .article ≡ article) × (k ≡ 0)
 
 module _ (d : ℕ) where
   -- behind the date
-  alike-question : (article : List ℕ) (sort : ℕ) (currency : List ℕ) (date : ℕ)
+  alike-question : (version : ℕ) (article : List ℕ) (sort : ℕ) (currency : List ℕ) (date : ℕ)
       → Alike
-      (number 4 such between 1 100_000 >>= λ quantity. byte such between 0 32 >>= λ conditions. times conditions (name 1 20) >>= λ granted. byte such between 0 32 >>= λ count. times count property >>= λ properties.
+      (number 4 such between 1 100_000 >>= λ quantity. byte such between 0 32 >>= λ conditions. times conditions (grantedIn version) >>= λ granted. byte such between 0 32 >>= λ count. times count property >>= λ properties.
       give (record {
         article = article;
         sort = sort;
@@ -237,7 +237,7 @@ module _ (d : ℕ) where
         granted = granted;
         properties = properties;
       }))
-      (number 4 such between 1 100_000 >>= λ quantity. byte such between 0 32 >>= λ conditions. times conditions (name 1 20) >>= λ granted. byte such between 0 32 >>= λ count. times count property >>= λ properties.
+      (number 4 such between 1 100_000 >>= λ quantity. byte such between 0 32 >>= λ conditions. times conditions (grantedIn version) >>= λ granted. byte such between 0 32 >>= λ count. times count property >>= λ properties.
       give (record {
         article = article;
         sort = sort;
@@ -249,10 +249,10 @@ module _ (d : ℕ) where
       }))
       (λ q. on q d) (λ q. Begun article q 0)
   unfolding on
-  alike-question article sort currency date =
+  alike-question version article sort currency date =
       alike-then (number 4 such between 1 100_000) (λ quantity.
       alike-then (byte such between 0 32) (λ conditions.
-      alike-then (times conditions (name 1 20)) (λ granted.
+      alike-then (times conditions (grantedIn version)) (λ granted.
       alike-then (byte such between 0 32) (λ count.
       alike-then (times count property) (λ properties.
       alike-give (record {
@@ -281,7 +281,7 @@ module _ (d : ℕ) where
       redates-then (reading-name 1 40) (λ article.
       redates-then (reading-oneOf (sale ∷ purchase ∷ [])) (λ sort.
       redates-then (such-bytes 3 (λ c. capitals c || same c noCurrency)) (λ currency.
-      redates-date d (Begun article) day (alike-question article sort currency))
+      redates-date d (Begun article) day (alike-question version article sort currency))
       (λ (q : Question) (k : ℕ). (q .article ≡ article) × (k ≡ 3)) (λ a b k j p q. (q .0, omega (arith, p .1, q .1))))
       (λ (q : Question) (k : ℕ). (q .article ≡ article) × (k ≡ 4)) (λ a b k j p q. (q .0, omega (arith, q .1))))
       (λ (q : Question) (k : ℕ). k ≡ 5 + length (q .article)) (λ a b k j p q. omega (arith, q .1, ap length (q .0))))

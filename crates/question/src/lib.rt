@@ -4,7 +4,7 @@ pub mod names;
 use crate::names::granted_end;
 use crate::names::names_stop;
 use days::Day;
-use layout::heads::head_ok;
+use layout::heads::question_head_ok;
 use layout::names::name_end;
 use layout::numbers::four_at;
 use layout::numbers::is_capital;
@@ -23,10 +23,11 @@ ghost use Rattle.question.specs.Asked.{AskAt, AskIs};
 ghost use Rattle.question.specs.Parts.{currencyOk, termsOk};
 
 // A question, read by value. The names in it stay there: `granted` is the place of the first granted name's length byte,
-// `conditions` how many there are; `properties` is the place of the first property, `count` how many there are.
+// `conditions` how many there are, and the version says whether each has a factor behind it; `properties` is the place of the first property, `count` how many there are.
 // A currency of three zeros: none is asked.
 pub struct Ask {
     pub article: rules::Part,
+    pub version: u8,
     pub sort: u8,
     pub currency: rules::Currency,
     pub date: Day,
@@ -74,12 +75,12 @@ pub fn question_ok(s: &[u8]) -> bool
     if s.len() - a < 12 {
         return false;
     }
-    let g = granted_end(s, a + 12);
+    let g = granted_end(s, a + 12, s[4]);
     if g < 1 {
         return false;
     }
     let end = properties_end(s, g);
-    head_ok(s) & terms_ok(s, a) & (end == s.len())
+    question_head_ok(s) & terms_ok(s, a) & (end == s.len())
 }
 
 // ---- an accepted one by value
@@ -93,6 +94,7 @@ fn ask_from(s: &[u8], a: usize, g: usize) -> Ask
     let currency = rules::Currency(s[a + 1], s[a + 2], s[a + 3]);
     Ask {
         article,
+        version: s[4],
         sort: s[a],
         currency,
         date: Day(four_at(s, a + 4) as u32),
@@ -111,6 +113,6 @@ pub fn ask_of(s: &[u8]) -> Ask
 {
     let a = 6 + wide(s[5]);
     let count = a + 12;
-    let g = names_stop(s, count + 1, wide(s[count]));
+    let g = names_stop(s, count + 1, wide(s[count]), s[4]);
     ask_from(s, a, g)
 }

@@ -1,7 +1,7 @@
 -- What a quote says, for every question that asks so.
 use Prim.Native.Nat.{ℕ}
 use mathlib.Core.List.{List, map}
-use Rattle.rules.specs.Question.{Question}
+use Rattle.rules.specs.Question.{Granted, Question}
 use Rattle.rules.specs.Calendar.{OutcomeIs, outcome}
 use Rattle.rules.specs.declared.Outcome.{Outcome}
 use Rattle.layout.specs.Records.{recordsLeft}
@@ -16,7 +16,7 @@ use Rattle.picks.specs.Picks.{PickedAre}
 
 -- the set of those of the names that the table is of which brought none of the lines with these places
 pub record UnusedFor (table places : List ℕ) (set : ℕ) : Type 0 where
-  pub of : (names : List (List ℕ)) → GrantsAre names table → UnusedIs names places set
+  pub of : (names : List Granted) → GrantsAre names table → UnusedIs names places set
 
 -- the rows are those that the definition chooses, and what is said of them and of the granted names is so
 pub record Quoted (b : List ℕ) (q : Question) (r : Quote) : Type 0 where

@@ -10,8 +10,8 @@ use Rattle.rules.specs.Lists.{same, any, keep, first, gather}
 use Rattle.rules.specs.Book.{Record, Row, rows, rowsOf, roundings, roundingFor}
 use Rattle.rules.specs.Question.{Question, on, grants}
 use Rattle.rules.specs.Choice.{component, better, step₅, surviving, choose}
-use Rattle.rules.specs.Amounts.{exact, rounded}
-use Rattle.rules.specs.Lines.{Slot, slots, Chosen, rowsAt, chosenAt, chosen, Line, percentOf, lineAfter, linesAfter, linesOf}
+use Rattle.rules.specs.Amounts.{rounded}
+use Rattle.rules.specs.Lines.{Slot, slots, Chosen, chosenIn, rowsAt, chosenAt, chosen, Line, exactAfter, lineAfter, linesAfter, linesOf}
 use Rattle.rules.specs.Price.{priced}
 use Rattle.rules.specs.Calendar.{outcomeOf, outcome}
 use Rattle.rules.specs.Changes.{dated, movingRows, daysOfChange, changes, isChange}
@@ -58,7 +58,7 @@ module _ (book : List Record) (q : Question) (s : Slot) where
       left : List Row
       left = surviving (q .date) (q .quantity) (q .currency) (rowsAt (rows book) q s)
 
-      go : (o : Option Row) → Holds P o → Holds (λ (c : Chosen). P (c .row)) (Option·map (λ r. record { place = s .place; row = r }) o)
+      go : (o : Option Row) → Holds P o → Holds (λ (c : Chosen). P (c .row)) (Option·map (chosenIn s) o)
       go none h = tt
       go (some r) h = h
 
@@ -74,8 +74,9 @@ module _ (ra rb : List Rounding) where
       unfold lineAfter in
       λ i. record {
         place = c .place;
+        factor = c .factor;
         row = c .row;
-        amount = rounded (h .0 i) (exact (c .row .value) (percentOf (c .row .rule) before));
+        amount = rounded (h .0 i) (exactAfter before c);
       } in
       lines-alike (before ++ (lineAfter ra before c ∷ [])) cs (h .1) ∙ ap (λ (l : Line). linesAfter rb (before ++ (l ∷ [])) cs) e
 
@@ -91,7 +92,7 @@ module _ (a b : List Record) where
   unfolding chosen chosenAt
   same-chosen q e =
       λ i.
-      gather (λ s. Option·map (λ r. record { place = s .place; row = r }) (choose (q .date) (q .quantity) (q .currency) (at s i)))
+      gather (λ s. Option·map (chosenIn s) (choose (q .date) (q .quantity) (q .currency) (at s i)))
       (slots (grants (q .granted)))
     where
       at : (s : Slot) → rowsAt (rows a) q s ≡ rowsAt (rows b) q s

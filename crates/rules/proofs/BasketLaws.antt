@@ -119,7 +119,7 @@ answered-price b p room {book} {q} e f fits = rw (e, f) (go (answered book q) fi
     go (refused n) h = refl
     go (done a) h = rw (le-leb (length (written a)) room h)
 
--- 1,386 bytes are enough for any
+-- 1,584 bytes are enough for any
 pub lines-few : (book : List Record) (p : List ℕ) (q : Question) → questionOf p ≡ some q → length (linesIn (answered book q)) ≤ mostLinesSize
 lines-few book p q f = go (answered book q) refl
   where
@@ -194,7 +194,7 @@ module _ (book : List Record) (letters : All InLetters book) where
       let rest = lines-many ps qs (each-rest p ps q qs f) in
       omega (arith, length-append (linesIn (answered book q)) (join (map linesIn (map (answered book) qs))), one, rest)
 
-  -- 33 bytes and 1,386 of lines for each of 200 questions are enough for any basket
+  -- 33 bytes and 1,584 of lines for each of 200 questions are enough for any basket
   pub basket-few : (s : List ℕ) (qs : List Question) → questionsOf mostBasket s ≡ some qs
       → length (basketBytes (map (answered book) qs)) ≤ mostBasketSize
   basket-few s qs e =

@@ -63,12 +63,12 @@ oakenAnswer =
 abbrev refusedAnswer : ℕ → List ℕ
 refusedAnswer n = n ∷ replicate 32 0
 
--- text number; level; place; amount
+-- text number; level; place; amount; factor
 abbrev baseLine : List ℕ
-baseLine = 0 ∷ 0 ∷ 0 ∷ 0 ∷ letter "B" ∷ 0 ∷ 0 ∷ 0 ∷ 0 ∷ 0 ∷ 0 ∷ 0 ∷ 1 ∷ 2 ∷ []
+baseLine = 0 ∷ 0 ∷ 0 ∷ 0 ∷ letter "B" ∷ 0 ∷ 0 ∷ 0 ∷ 0 ∷ 0 ∷ 0 ∷ 0 ∷ 1 ∷ 2 ∷ 3 ∷ 232 ∷ []
 
 abbrev oakLine : List ℕ
-oakLine = 0 ∷ 0 ∷ 0 ∷ 0 ∷ letter "X" ∷ 2 ∷ 255 ∷ 255 ∷ 255 ∷ 255 ∷ 255 ∷ 255 ∷ 255 ∷ 254 ∷ []
+oakLine = 0 ∷ 0 ∷ 0 ∷ 0 ∷ letter "X" ∷ 2 ∷ 255 ∷ 255 ∷ 255 ∷ 255 ∷ 255 ∷ 255 ∷ 255 ∷ 254 ∷ 3 ∷ 232 ∷ []
 
 -- ---- the table
 
@@ -81,12 +81,12 @@ baskets =
     -- no question: nothing is written, and no room is needed
     case (AskBasket 0) shelf [] (Left 0 0 [])
     -- one: its answer, its line, and the lent bytes behind them
-    ∷ case (AskBasket 50) shelf plain (Left 0 47 (plainAnswer ++ (baseLine ++ replicate 3 7)))
+    ∷ case (AskBasket 52) shelf plain (Left 0 49 (plainAnswer ++ (baseLine ++ replicate 3 7)))
     -- one refused between two that are priced: its number and zeros, no line, and the next goes on; all lines behind all answers
-    ∷ case (AskBasket 141) shelf (plain ++ (late ++ oaken))
-    (Left 0 141 (plainAnswer ++ (refusedAnswer 4 ++ (oakenAnswer ++ (baseLine ++ (baseLine ++ oakLine))))))
+    ∷ case (AskBasket 147) shelf (plain ++ (late ++ oaken))
+    (Left 0 147 (plainAnswer ++ (refusedAnswer 4 ++ (oakenAnswer ++ (baseLine ++ (baseLine ++ oakLine))))))
     -- a byte of room too few
-    ∷ refusedBasket 7 140 shelf (plain ++ (late ++ oaken))
+    ∷ refusedBasket 7 146 shelf (plain ++ (late ++ oaken))
     -- only refused ones
     ∷ case (AskBasket 66) shelf (unknown ++ late) (Left 0 66 (refusedAnswer 3 ++ refusedAnswer 4))
     ∷ refusedBasket 7 65 shelf (unknown ++ late)

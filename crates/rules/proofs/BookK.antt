@@ -12,7 +12,7 @@ use Rattle.rules.specs.Book as Book
 use Rattle.rules.specs.Book.{Row, sale, base, surcharge, discount}
 use Rattle.rules.specs.BookLayout as BookLayout
 use Rattle.rules.specs.Question as Question
-use Rattle.rules.specs.Question.{noCurrency}
+use Rattle.rules.specs.Question.{noCurrency, plainFactor}
 use Rattle.rules.specs.Choice as Choice
 use Rattle.rules.specs.Amounts as Amounts
 use Rattle.rules.specs.Lines as Lines
@@ -72,14 +72,14 @@ abbrev pub asks : ℕ → ℕ → List (List ℕ) → List ℕ
 asks date quantity granted = questionBytes (text "A1") sale EUR date quantity granted []
 
 abbrev line : ℕ → Row → ℤ → Line
-line place r amount = record { place = place; row = r; amount = amount }
+line place r amount = record { place = place; factor = plainFactor; row = r; amount = amount }
 
 -- (the line below names what computes: whoever unfolds `computed` unfolds all of it)
 computed : Unit {0}
 unfolding price calendarIn output asked digits Floor.floor BookLayout.records Book.articleOf Book.roundingFor Question.questionOf Question.on Question.grants Choice.component Choice.step₁ Choice.step₂ Choice.step₃ Choice.step₄ Choice.step₅ Choice.surviving Choice.choose Days.isDay Days.next Days.daysTo Amounts.exact Amounts.ceiling Amounts.nearest Amounts.stepsBy Amounts.multipleBy Amounts.rounded Lines.slots Lines.rowsAt Lines.chosenAt Lines.chosen Lines.total Lines.baseSum Lines.lineAfter Lines.linesAfter Lines.linesOf Lines.linesBytes Lines.totalOf Price.priced Price.answered Price.unusedOf Price.answerOf Calendar.stretchesBytes Calendar.periodTo Calendar.outcome Calendar.outcomeOf Calendar.stretches Calendar.sameOutcome
 computed = tt
 
--- ---- prices: three lines, which take 42 bytes
+-- ---- prices: three lines, which take 48 bytes
 
 -- the discount is of the base line and the oak
 abbrev linesOn : Row → ℤ → ℤ → ℤ → List Line
@@ -110,11 +110,11 @@ answer2 = record {
   unused = [];
 }
 
-just-1 : price bookK P1 42 ≡ done answer1
+just-1 : price bookK P1 48 ≡ done answer1
 unfolding computed rowBytes
 just-1 = refl
 
-just-2 : price bookK P2 42 ≡ done answer2
+just-2 : price bookK P2 48 ≡ done answer2
 unfolding computed rowBytes
 just-2 = refl
 
@@ -128,22 +128,22 @@ elmAnswer = record {
   total = pos 21750;
   currency = EUR;
   lines = answer1 .lines;
-  unused = record { place = 3; name = text "ELM" } ∷ [];
+  unused = record { place = 3; name = text "ELM"; factor = plainFactor } ∷ [];
 }
 
-just-elm : price bookK elmAsked 42 ≡ done elmAnswer
+just-elm : price bookK elmAsked 48 ≡ done elmAnswer
 unfolding computed rowBytes
 just-elm = refl
 
-module _ (room : ℕ) (h : 42 ≤ room) where
+module _ (room : ℕ) (h : 48 ≤ room) where
   pub price-1 : price bookK P1 room ≡ done answer1
-  price-1 = price-room bookK P1 42 room answer1 just-1 h
+  price-1 = price-room bookK P1 48 room answer1 just-1 h
 
   pub price-2 : price bookK P2 room ≡ done answer2
-  price-2 = price-room bookK P2 42 room answer2 just-2 h
+  price-2 = price-room bookK P2 48 room answer2 just-2 h
 
   pub price-elm : price bookK elmAsked room ≡ done elmAnswer
-  price-elm = price-room bookK elmAsked 42 room elmAnswer just-elm h
+  price-elm = price-room bookK elmAsked 48 room elmAnswer just-elm h
 
 -- ---- the calendar from 29 June 2024 to 2 January 2025: three stretches, which take 60 bytes or three records
 

@@ -34,7 +34,7 @@ use Rattle.rules.specs.declared.Value.{Value}
 use Rattle.rules.specs.declared.Value.the-variants.{Fixed, Percent}
 use Rattle.integers.specs.Floor as Floor
 use Rattle.rules.specs.RowBytes.{rowBytes}
-use Rattle.rules.proofs.Encode.{bookBytes, articleBytes, questionBytes}
+use Rattle.rules.proofs.Encode.{bookBytes, articleBytes, questionBytes, questionBytes₂}
 
 -- ---- a case: what is asked, of which book and question, and what was worked by hand
 
@@ -138,6 +138,10 @@ bookOf rs others = bookBytes (articleBytes A1 [] ∷ (map rowBytes rs ++ others)
 
 abbrev pub ask : ℕ → ℕ → List (List ℕ) → List ℕ
 ask date quantity granted = questionBytes A1 sale EUR date quantity granted []
+
+-- and with factors
+abbrev pub ask₂ : ℕ → ℕ → List (List ℕ × ℕ) → List ℕ
+ask₂ date quantity granted = questionBytes₂ A1 sale EUR date quantity granted []
 
 -- ---- what the rules give
 

@@ -30,8 +30,19 @@ propertyBytes width state value = width ∷ state ∷ nameBytes value
 abbrev pub countedBytes : List (List ℕ) → List ℕ
 countedBytes xs = length xs ∷ join xs
 
-abbrev pub questionBytes : List ℕ → ℕ → List ℕ → ℕ → ℕ → List (List ℕ) → List (List ℕ) → List ℕ
-questionBytes article sort currency date quantity granted properties = bytesOf 4 (4 + length rest) ++ rest
+-- the granted names are given as bytes
+abbrev pub questionIn : ℕ → List ℕ → ℕ → List ℕ → ℕ → ℕ → List (List ℕ) → List (List ℕ) → List ℕ
+questionIn version article sort currency date quantity granted properties = bytesOf 4 (4 + length rest) ++ rest
   where
     rest : List ℕ
-    rest = 1 ∷ (nameBytes article ++ (sort ∷ (currency ++ (bytesOf 4 date ++ (bytesOf 4 quantity ++ (countedBytes (map nameBytes granted) ++ countedBytes properties))))))
+    rest = version ∷ (nameBytes article ++ (sort ∷ (currency ++ (bytesOf 4 date ++ (bytesOf 4 quantity ++ (countedBytes granted ++ countedBytes properties))))))
+
+abbrev pub questionBytes : List ℕ → ℕ → List ℕ → ℕ → ℕ → List (List ℕ) → List (List ℕ) → List ℕ
+questionBytes article sort currency date quantity granted properties = questionIn 1 article sort currency date quantity (map nameBytes granted) properties
+
+-- version 2: a factor behind each name
+abbrev pub factorBytes : List ℕ × ℕ → List ℕ
+factorBytes p = nameBytes (p .0) ++ bytesOf 2 (p .1)
+
+abbrev pub questionBytes₂ : List ℕ → ℕ → List ℕ → ℕ → ℕ → List (List ℕ × ℕ) → List (List ℕ) → List ℕ
+questionBytes₂ article sort currency date quantity granted properties = questionIn 2 article sort currency date quantity (map factorBytes granted) properties

@@ -1,16 +1,18 @@
 -- What every value that a layout gives is sure to have, and with it what an accepted question has.
 use Prim.Native.Nat.{ℕ, zero, suc, _≤_}
 use mathlib.Core.Path.{_≡_, refl, sym, _∙_, ap, subst}
-use mathlib.Core.Bool.{Bool, true, false, _||_}
+use mathlib.Core.Bool.{Bool, true, false, _||_, cond}
 use mathlib.Core.List.{List, [], _∷_}
 use mathlib.Core.Option.{Option, some, none, Option·none-ne-some, Option·some-injective}
+use native.Mathlib.Omega.{arith}
+use lib.Dec.{eqb}
 use lib.ListN.{length}
 use Rattle.rules.specs.Lists.{same, between, all}
 use Rattle.rules.specs.Layout.{Layout, andThen, _>>=_, give, giveIf, _such_, front, bytes, byte, times, back, framed, toEnd, repeated, whole, wholly}
-use Rattle.rules.specs.Bytes.{number, name, nameByte, oneOf, head, capitals}
+use Rattle.rules.specs.Bytes.{big, number, name, nameByte, oneOf, headOf, capitals}
 use Rattle.rules.specs.Days.{isDay}
 use Rattle.rules.specs.Book.{sale, purchase}
-use Rattle.rules.specs.Question.{Question, noCurrency, property, questionLayout, questionOf}
+use Rattle.rules.specs.Question.{Question, noCurrency, property, plainFactor, mostFactor, factorIn, grantedIn, versions, questionBody, questionLayout, questionOf}
 use Rattle.rules.proofs.TestLaws.{between-low, between-high}
 use Rattle.rules.proofs.ListLaws.{All}
 
@@ -54,6 +56,17 @@ gives-times (suc n) m =
     gives-field m (λ a. times n m >>= λ rest. give (a ∷ rest)) (gives-any m) λ a t.
     gives-field (times n m) (λ rest. give (a ∷ rest)) (gives-times n m) λ rest e.
     gives-value (a ∷ rest) (ap suc e)
+
+-- and each of them is sure of what one is sure of
+pub gives-each : {A : Type 0} (n : ℕ) (m : Layout A) (P : A → Type 0) → Gives m P → Gives (times n m) (All P)
+gives-each zero m P h = gives-value [] tt
+gives-each (suc n) m P h =
+    gives-field m (λ a. times n m >>= λ rest. give (a ∷ rest)) h λ a p.
+    gives-field (times n m) (λ rest. give (a ∷ rest)) (gives-each n m P h) λ rest q.
+    gives-value (a ∷ rest) {P = All P} (p, q)
+
+pub gives-both : {A : Type 0} (m : Layout A) {P Q : A → Type 0} → Gives m P → Gives m Q → Gives m (λ a. P a × Q a)
+gives-both m h k = record { sure = λ s v t e. (h .sure s v t e, k .sure s v t e) }
 
 -- n bytes are n
 pub gives-bytes : (n : ℕ) → Gives (bytes n) (λ v. length v ≡ n)
@@ -108,6 +121,24 @@ whole-gives {m} {P} g s a e = go (m s) refl e
     go (some (x, [])) i e = g .sure s a [] (i ∙ ap (λ (y : _). some (y, [])) (Option·some-injective x a e))
     go (some (x, b ∷ t)) i e = absurd (Option·none-ne-some a e)
 
+-- ---- factors
+
+-- no factor is over 10,000, and in version 1 all are 1,000
+pub gives-factor : (version : ℕ) → Gives (factorIn version) (λ f. f ≤ mostFactor)
+gives-factor version = go (eqb version 2)
+  where
+    go : (b : Bool) → Gives (cond b (number 2 such between 0 mostFactor) (give plainFactor)) (λ f. f ≤ mostFactor)
+    go true =
+        gives-field (number 2) (λ f. giveIf (between 0 mostFactor f) f) (gives-any (number 2)) λ f _.
+        gives-tested (between 0 mostFactor f) f (between-high 0 mostFactor f)
+    go false = gives-value plainFactor (omega arith)
+
+pub gives-granted : (version : ℕ) {P : ℕ → Type 0} → Gives (factorIn version) P → Gives (grantedIn version) (λ g. P (g .factor))
+gives-granted version h =
+    gives-field (name 1 20) (λ n. factorIn version >>= λ f. give (record { name = n; factor = f })) (gives-any (name 1 20)) λ n _.
+    gives-field (factorIn version) (λ f. give (record { name = n; factor = f })) h λ f p.
+    gives-value (record { name = n; factor = f }) p
+
 -- ---- a question
 
 pub record Sound (q : Question) : Type 0 where
@@ -115,18 +146,19 @@ pub record Sound (q : Question) : Type 0 where
   pub quantity₁ : 1 ≤ q .quantity
   pub quantity₂ : q .quantity ≤ 100000
   pub granted : length (q .granted) ≤ 32
+  pub factors : All (λ g. g .factor ≤ mostFactor) (q .granted)
   pub properties : length (q .properties) ≤ 32
 
-gives-question : (lent : ℕ) → Gives (questionLayout lent) Sound
-gives-question lent =
-    gives-field (head lent) _ (gives-any (head lent)) λ version _.
+gives-body : (version : ℕ) → Gives (questionBody version) Sound
+gives-body version =
     gives-field (name 1 40) _ (gives-any (name 1 40)) λ article _.
     gives-field (oneOf (sale ∷ purchase ∷ [])) _ (gives-any (oneOf (sale ∷ purchase ∷ []))) λ sort _.
     gives-field (bytes 3 such λ c. capitals c || same c noCurrency) _ (gives-any (bytes 3 such λ c. capitals c || same c noCurrency)) λ currency _.
     gives-field (number 4 such isDay) _ (gives-such (number 4) isDay) λ date d.
     gives-field (number 4 such between 1 100_000) _ (gives-such (number 4) (between 1 100_000)) λ quantity h.
     gives-field (byte such between 0 32) _ (gives-such byte (between 0 32)) λ conditions c.
-    gives-field (times conditions (name 1 20)) _ (gives-times conditions (name 1 20)) λ granted g.
+    gives-field (times conditions (grantedIn version)) _
+    (gives-both (times conditions (grantedIn version)) (gives-times conditions (grantedIn version)) (gives-each conditions (grantedIn version) _ (gives-granted version (gives-factor version)))) λ granted g.
     gives-field (byte such between 0 32) _ (gives-such byte (between 0 32)) λ count n.
     gives-field (times count property) _ (gives-times count property) λ properties p.
     gives-value _
@@ -134,11 +166,39 @@ gives-question lent =
       date = d;
       quantity₁ = between-low 1 100_000 quantity h;
       quantity₂ = between-high 1 100_000 quantity h;
-      granted = subst (λ (k : ℕ). k ≤ 32) (sym g) (between-high 0 32 conditions c);
+      granted = subst (λ (k : ℕ). k ≤ 32) (sym (g .0)) (between-high 0 32 conditions c);
+      factors = g .1;
       properties = subst (λ (k : ℕ). k ≤ 32) (sym p) (between-high 0 32 count n);
     })
 
--- An accepted question asks for a day, for 1 to 100,000 pieces, and has at most 32 granted names and 32 properties.
+gives-question : (lent : ℕ) → Gives (questionLayout lent) Sound
+gives-question lent = gives-field (headOf versions lent) questionBody (gives-any (headOf versions lent)) λ version _. gives-body version
+
+-- An accepted question asks for a day, for 1 to 100,000 pieces, and has at most 32 granted names, with factors up to 10,000, and 32 properties.
 pub question-sound : (s : List ℕ) (q : Question) → questionOf s ≡ some q → Sound q
 unfolding questionOf
 question-sound s q e = whole-gives (gives-question (length s)) s q e
+
+-- ---- a question of version 1
+
+gives-once : Gives (questionBody 1) (λ q. All (λ g. g .factor ≡ plainFactor) (q .granted))
+gives-once =
+    gives-field (name 1 40) _ (gives-any (name 1 40)) λ article _.
+    gives-field (oneOf (sale ∷ purchase ∷ [])) _ (gives-any (oneOf (sale ∷ purchase ∷ []))) λ sort _.
+    gives-field (bytes 3 such λ c. capitals c || same c noCurrency) _ (gives-any (bytes 3 such λ c. capitals c || same c noCurrency)) λ currency _.
+    gives-field (number 4 such isDay) _ (gives-any (number 4 such isDay)) λ date _.
+    gives-field (number 4 such between 1 100_000) _ (gives-any (number 4 such between 1 100_000)) λ quantity _.
+    gives-field (byte such between 0 32) _ (gives-any (byte such between 0 32)) λ conditions _.
+    gives-field (times conditions (grantedIn 1)) _ (gives-each conditions (grantedIn 1) _ (gives-granted 1 (gives-value plainFactor refl))) λ granted g.
+    gives-field (byte such between 0 32) _ (gives-any (byte such between 0 32)) λ count _.
+    gives-field (times count property) _ (gives-any (times count property)) λ properties _.
+    gives-value _ g
+
+-- the version is the fifth byte
+pub version-1 : (a b c d : ℕ) (t : List ℕ) (q : Question) → questionOf (a ∷ b ∷ c ∷ d ∷ 1 ∷ t) ≡ some q → All (λ g. g .factor ≡ plainFactor) (q .granted)
+unfolding questionOf
+version-1 a b c d t q e = go (eqb (length (a ∷ b ∷ c ∷ d ∷ 1 ∷ t)) (big (a ∷ b ∷ c ∷ d ∷ []))) (big (a ∷ b ∷ c ∷ d ∷ [])) e
+  where
+    go : (x : Bool) (n : ℕ) → wholly (andThen ((giveIf x n >>= λ _. oneOf versions) (1 ∷ t)) questionBody) ≡ some q → All (λ g. g .factor ≡ plainFactor) (q .granted)
+    go true n e = whole-gives gives-once t q e
+    go false n e = absurd (Option·none-ne-some q e)

@@ -1,6 +1,7 @@
 pub mod Encode
 pub mod Cases
 pub mod Limits
+pub mod FactorSums
 pub mod BasketSums
 pub mod WorkedSums
 pub mod TestLaws
@@ -30,6 +31,7 @@ pub mod CalendarLaws
 pub mod StaysLaws
 pub mod MarkedLaws
 pub mod WalkLaws
+pub mod FactorLaws
 pub mod CallLaws
 pub mod BasketLaws
 pub mod PeriodLaws

@@ -16,8 +16,8 @@ use Rattle.rules.specs.Bytes.{head}
 use Rattle.rules.specs.BookLayout.{records, oneRecord, noUnit, eight}
 use Rattle.rules.specs.TextBook.{entries, entry}
 use Rattle.rules.specs.declared.Value.{Value}
-use Rattle.rules.specs.RowBytes.{recordBytes, rowBytes}
-use Rattle.rules.proofs.Encode.{bookBytes, articleBytes, roundingBytes, packBytes, schemeBytes, propertyBytes, questionBytes}
+use Rattle.rules.specs.RowBytes.{nameBytes, recordBytes, rowBytes}
+use Rattle.rules.proofs.Encode.{bookBytes, articleBytes, roundingBytes, packBytes, schemeBytes, propertyBytes, questionBytes, questionIn, questionBytes₂, factorBytes}
 use Rattle.rules.proofs.Cases.{AskPrice, Refusal, Case, case, minus, fixed, percent, A1, EUR, ask}
 
 -- ---- the words
@@ -201,10 +201,20 @@ granting names = questionBytes A1 sale EUR 20240630 1 names []
 abbrev with : List (List ℕ) → List ℕ
 with properties = questionBytes A1 sale EUR 20240630 1 [] properties
 
+-- names with their factors, and how they stand in bytes
+abbrev factors : List (List ℕ × ℕ) → List ℕ
+factors granted = questionBytes₂ A1 sale EUR 20240630 1 granted []
+
+abbrev granted₂ : ℕ → List (List ℕ) → List ℕ
+granted₂ version names = questionIn version A1 sale EUR 20240630 1 names []
+
 abbrev questionsIn : List (List ℕ)
 questionsIn =
     questionBytes (letters 1) sale noUnit 10101 1 (letters 1 ∷ []) (propertyBytes 1 0 (letters 1) ∷ propertyBytes 1 1 [] ∷ propertyBytes 1 2 [] ∷ [])
     ∷ questionBytes (letters 40) sale EUR 99991231 100_000 (replicate 32 (letters 20)) (replicate 32 (propertyBytes 30 0 (letters 30)))
+    ∷ questionBytes₂ (letters 40) sale EUR 99991231 100_000 (replicate 32 (letters 20, 10_000)) (replicate 32 (propertyBytes 30 0 (letters 30)))
+    ∷ factors []
+    ∷ factors ((letters 1, 0) ∷ [])
     ∷ []
 
 -- a question for A1 has its length in byte 3, its version in 4, its sort in 8, its currency from 9 on; its day ends in byte 15, and June has no 31st
@@ -218,6 +228,14 @@ questionsOut =
     ∷ granting ([] ∷ [])
     ∷ granting (letters 21 ∷ [])
     ∷ granting (replicate 33 (letters 1))
+    -- a factor too great, also on a repeat; names without factors in version 2, and with them in version 1; a factor of one byte; 33 names
+    ∷ factors ((letters 1, 10_001) ∷ [])
+    ∷ factors ((letters 1, 65_535) ∷ [])
+    ∷ factors ((letters 1, 1000) ∷ (letters 1, 10_001) ∷ [])
+    ∷ granted₂ 2 (nameBytes (letters 1) ∷ [])
+    ∷ granted₂ 1 (factorBytes (letters 1, 1000) ∷ [])
+    ∷ granted₂ 2 ((nameBytes (letters 1) ++ (232 ∷ [])) ∷ [])
+    ∷ factors (replicate 33 (letters 1, 1000))
     ∷ with (replicate 33 (propertyBytes 1 1 []))
     ∷ (map (λ p. with (p ∷ []))
     (propertyBytes 0 1 []
@@ -228,7 +246,7 @@ questionsOut =
     ∷ propertyBytes 1 1 (letters 1)
     ∷ propertyBytes 1 2 (letters 1)
     ∷ map (λ b. propertyBytes 1 0 (b ∷ [])) (letter " " ∷ 160 ∷ letter "\\" ∷ []))
-    ++ spoilt (quantity 1) ((3, 21) ∷ (3, 23) ∷ (4, 2) ∷ (8, letter "Q") ∷ (9, 0) ∷ (9, letter "e") ∷ (15, 247) ∷ []))
+    ++ spoilt (quantity 1) ((3, 21) ∷ (3, 23) ∷ (4, 0) ∷ (4, 3) ∷ (8, letter "Q") ∷ (9, 0) ∷ (9, letter "e") ∷ (15, 247) ∷ []))
 
 -- ---- all of them
 

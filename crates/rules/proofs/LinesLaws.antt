@@ -7,7 +7,7 @@ use lib.IntN.{ℤ, pos, _+ℤ_, +ℤ-idl, +ℤ-idr, +ℤ-assoc}
 use Rattle.rules.specs.Lists.{keep, consIf}
 use Rattle.rules.specs.Book.{Record, roundings, roundingFor, rows}
 use Rattle.rules.specs.Question.{Question}
-use Rattle.rules.specs.Amounts.{rounded, exact}
+use Rattle.rules.specs.Amounts.{rounded, factored, exact}
 use Rattle.rules.specs.Lines.{Line, Chosen, sum, amounts, total, baseSum, ofBase, lineAfter, linesAfter, linesOf, chosen}
 use Rattle.rules.specs.declared.Rounding.{Rounding}
 use Rattle.rules.proofs.ListLaws.{keep-append}
@@ -52,8 +52,9 @@ abbrev pub lineWith : List Rounding → ℤ → ℤ → Chosen → Line
 lineWith rs base running c =
     record {
       place = c .place;
+      factor = c .factor;
       row = c .row;
-      amount = rounded (roundingFor (c .row .rounding) rs) (exact (c .row .value) (cond (eqb (c .row .rule) 1) base running));
+      amount = rounded (roundingFor (c .row .rounding) rs) (factored (c .factor) (exact (c .row .value) (cond (eqb (c .row .rule) 1) base running)));
     }
 
 abbrev pub run : List Rounding → ℤ → ℤ → List Chosen → List Line

@@ -10,7 +10,7 @@ use Rattle.rules.specs.Lists.{same, keep, any, first, isSome, ifSome}
 use Rattle.rules.specs.Book.{Record, Row, base, surcharge, discount, rows}
 use Rattle.rules.specs.Question.{Question, Grant, grants}
 use Rattle.rules.specs.Choice.{component, percentBase, holdsOn, isIn, reaches, better, step₁, step₂, step₃, step₄, step₅, surviving, choose}
-use Rattle.rules.specs.Lines.{Slot, slotsAt, slots, Chosen, rowsAt, chosenAt, chosen, Line, amounts, ofBase, linesOf, totalOf}
+use Rattle.rules.specs.Lines.{Slot, plainSlot, namedSlot, slotsAt, slots, Chosen, chosenIn, rowsAt, chosenAt, chosen, Line, amounts, ofBase, linesOf, totalOf}
 use Rattle.rules.specs.Refusals.{done, _>>=_, orRefuse, refuseUnless, numberOf}
 use Rattle.rules.specs.Price.{Priced, priced, inOneCurrency, inRange}
 use Rattle.rules.specs.declared.Total.{Total}
@@ -74,7 +74,7 @@ module _ (book : List Record) (q : Question) where
       go (step₅ (leftAt book q s)) (first-holds (λ r. r .level ≡ s .level) (λ r. not (any (λ t. better t r) (leftAt book q s))) (leftAt book q s) (survivors (λ r. r .level ≡ s .level) (q .date) (q .quantity) (q .currency) (rowsAt (rows book) q s) (level-at (rows book) q s)))
       ∙ ap (λ b. b && eqb (s .level) base) (step₅-some (leftAt book q s))
     where
-      go : (o : Option Row) → Holds (λ r. r .level ≡ s .level) o → ifSome (Option·map (λ r. record { place = s .place; row = r }) o) false baseRow ≡ (isSome o && eqb (s .level) base)
+      go : (o : Option Row) → Holds (λ r. r .level ≡ s .level) o → ifSome (Option·map (chosenIn s) o) false baseRow ≡ (isSome o && eqb (s .level) base)
       go none h = refl
       go (some r) h = ap (λ n. eqb n base) h
 
@@ -95,25 +95,13 @@ share false b e = refl
 
 -- the slots of a level have that level
 of-level : (p : Slot → Bool) (gs : List Grant) (level : ℕ) → any (λ s. p s && eqb (s .level) base) (slotsAt gs level) ≡ (any p (slotsAt gs level) && eqb level base)
-of-level p gs level = ap (λ b. (p (record {
-  level = level;
-  place = 0;
-  condition = [];
-}) && eqb level base) || b) (rest gs) ∙ share (p (record { level = level; place = 0; condition = [] })) (any p (map (λ g. record { level = level; place = g .place; condition = g .name }) gs)) (eqb level base)
+of-level p gs level =
+    ap (λ b. (p (plainSlot level) && eqb level base) || b) (rest gs) ∙ share (p (plainSlot level)) (any p (map (namedSlot level) gs)) (eqb level base)
   where
-    rest : (gs : List Grant) → any (λ s. p s && eqb (s .level) base) (map (λ g. record {
-      level = level;
-      place = g .place;
-      condition = g .name;
-    }) gs) ≡ (any p (map (λ g. record { level = level; place = g .place; condition = g .name }) gs) && eqb level base)
+    rest : (gs : List Grant) → any (λ s. p s && eqb (s .level) base) (map (namedSlot level) gs) ≡ (any p (map (namedSlot level) gs) && eqb level base)
     rest [] = refl
     rest (g ∷ gs) =
-        ap (λ b. (p (record { level = level; place = g .place; condition = g .name }) && eqb level base) || b) (rest gs)
-        ∙ share (p (record {
-          level = level;
-          place = g .place;
-          condition = g .name;
-        })) (any p (map (λ g. record { level = level; place = g .place; condition = g .name }) gs)) (eqb level base)
+        ap (λ b. (p (namedSlot level g) && eqb level base) || b) (rest gs) ∙ share (p (namedSlot level g)) (any p (map (namedSlot level) gs)) (eqb level base)
 
 -- only the base level has base lines
 base-slots : (p : Slot → Bool) (gs : List Grant) → any (λ s. p s && eqb (s .level) base) (slots gs) ≡ any p (slotsAt gs base)

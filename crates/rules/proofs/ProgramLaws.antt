@@ -12,11 +12,11 @@ use lib.Seq.{take-all}
 use borrow.Author.Tests.{ne-eqb, le-leb, lt-leb}
 use Rattle.rules.specs.Letters.{text}
 use Rattle.rules.specs.Layout.{Layout, _>>=_ as next, must, wholly, repeated}
-use Rattle.rules.specs.Bytes.{head, ownLength}
+use Rattle.rules.specs.Bytes.{headOf, head, ownLength}
 use Rattle.rules.specs.Days.{isDay}
 use Rattle.rules.specs.Book.{Record}
 use Rattle.rules.specs.BookLayout.{oneRecord, mostBytes, records}
-use Rattle.rules.specs.Question.{Question, questionOf}
+use Rattle.rules.specs.Question.{Question, versions, questionBody, questionOf}
 use Rattle.rules.specs.Refusals.{Result, done, refused, _>>=_, refuseUnless}
 use Rattle.rules.specs.Calendar.{Stretch, calendarIn, calendar, mostDays, stretchesBytes}
 use Rattle.rules.specs.Program.{digits, printed, mostInput, front, behind, bookIn, questionIn, endIn, endOf, asked, output}
@@ -29,13 +29,13 @@ Cut s = (length s < 4) ⊎ (length s < ownLength s)
 -- ---- a book or a question says its own length
 
 -- too short for a length, or not as long as that says: no layout that begins with a head
-no-head : {A : Type 0} (lent : ℕ) (f : ℕ → Layout A) (t : List ℕ) → (length t < 4) ⊎ (lent ≡ ownLength t → ⊥) → next (head lent) f t ≡ none
-no-head lent f [] h = refl
-no-head lent f (a ∷ []) h = refl
-no-head lent f (a ∷ b ∷ []) h = refl
-no-head lent f (a ∷ b ∷ c ∷ []) h = refl
-no-head lent f (a ∷ b ∷ c ∷ d ∷ t) (inl l) = absurd (omega arith)
-no-head lent f (a ∷ b ∷ c ∷ d ∷ t) (inr n) = rw (ne-eqb lent (ownLength (a ∷ b ∷ c ∷ d ∷ [])) n)
+no-head : {A : Type 0} (versions : List ℕ) (lent : ℕ) (f : ℕ → Layout A) (t : List ℕ) → (length t < 4) ⊎ (lent ≡ ownLength t → ⊥) → next (headOf versions lent) f t ≡ none
+no-head versions lent f [] h = refl
+no-head versions lent f (a ∷ []) h = refl
+no-head versions lent f (a ∷ b ∷ []) h = refl
+no-head versions lent f (a ∷ b ∷ c ∷ []) h = refl
+no-head versions lent f (a ∷ b ∷ c ∷ d ∷ t) (inl l) = absurd (omega arith)
+no-head versions lent f (a ∷ b ∷ c ∷ d ∷ t) (inr n) = rw (ne-eqb lent (ownLength (a ∷ b ∷ c ∷ d ∷ [])) n)
 
 cut-front : (s : List ℕ) → Cut s → (length (front s) < 4) ⊎ (length (front s) ≡ ownLength (front s) → ⊥)
 cut-front s (inl l) = inl (simp length-take (omega arith))
@@ -48,12 +48,12 @@ unfolding records
 cut-book s h = go (leb (length (front s)) mostBytes)
   where
     go : (b : Bool) → wholly (next (must b) (λ _. next (head (length (front s))) (λ _. repeated oneRecord)) (front s)) ≡ none
-    go true = ap wholly (no-head (length (front s)) (λ _. repeated oneRecord) (front s) (cut-front s h))
+    go true = ap wholly (no-head (1 ∷ []) (length (front s)) (λ _. repeated oneRecord) (front s) (cut-front s h))
     go false = refl
 
 pub cut-question : (s : List ℕ) → Cut s → questionOf (front s) ≡ none
 unfolding questionOf
-cut-question s h = ap wholly (no-head (length (front s)) _ (front s) (cut-front s h))
+cut-question s h = ap wholly (no-head versions (length (front s)) questionBody (front s) (cut-front s h))
 
 -- ---- what is printed
 

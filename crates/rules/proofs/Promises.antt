@@ -2,7 +2,7 @@
 use Prim.Native.Nat.{ℕ, _+_, _*_, _≤_, _<_, _^_}
 use mathlib.Core.Path.{_≡_, refl, sym, _∙_, ap, subst}
 use mathlib.Core.Bool.{true, not, cond}
-use mathlib.Core.List.{List, [], _∷_, map}
+use mathlib.Core.List.{List, [], _∷_, _++_, map}
 use mathlib.Core.Option.{Option, some, none, Option·some-injective}
 use lib.Count.{ones}
 use lib.Dec.{eqb, leb}
@@ -10,15 +10,16 @@ use lib.IntN.{ℤ, pos, _*ℤ_}
 use native.Mathlib.Omega.{arith}
 use lib.ListN.{length, take, drop, getD, replicate}
 use Rattle.rules.specs.Lists.{any, join}
+use Rattle.rules.specs.Bytes.{bytesOf, signedBytesOf, raise}
 use Rattle.rules.specs.Days.{isDay, next, lastDay}
-use Rattle.rules.specs.Book.{Record, Article, Row, base, articleOf}
+use Rattle.rules.specs.Book.{Record, Article, Row, base, articleOf, rows, roundings}
 use Rattle.rules.specs.BookLayout.{records}
-use Rattle.rules.specs.Question.{Question, grants, questionOf, noCurrency}
+use Rattle.rules.specs.Question.{Granted, Question, grants, questionOf, noCurrency}
 use Rattle.rules.specs.Questions.{questionsOf}
 use Rattle.rules.specs.Choice.{step₅, choose}
 use Rattle.rules.specs.Amounts.{multipleBy}
-use Rattle.rules.specs.Lines.{Line, sum, amounts, total, slotsAt, mostLinesSize}
-use Rattle.rules.specs.Refusals.{Result, done, refused, numberOf, lentAfter}
+use Rattle.rules.specs.Lines.{Line, sum, amounts, total, slotsAt, chosen, linesOf, lineBytes, mostLinesSize}
+use Rattle.rules.specs.Refusals.{Result, done, refused, _>>=_, orRefuse, refuseUnless, numberOf, lentAfter}
 use Rattle.rules.specs.Price as Price
 use Rattle.rules.specs.Price.{Answer, answerOf, answered, price, unusedOf, setOf}
 use Rattle.rules.specs.Basket.{answerSize, answerIn, linesIn, basketBytes, mostBasket, mostBasketSize, basket, shownBasket, lentAfterBasket}
@@ -32,11 +33,13 @@ use Rattle.rules.specs.Program.{mostInput, behind, bookIn, questionIn, e
 use Rattle.rules.specs.declared.Way.{Way}
 use Rattle.rules.specs.declared.Fraction.{Fraction}
 use Rattle.rules.proofs.DayLaws as Days
-use Rattle.rules.proofs.GivesLaws.{question-sound}
+use Rattle.rules.proofs.GivesLaws.{question-sound, version-1}
 use Rattle.rules.proofs.BestLaws as Best
 use Rattle.rules.proofs.ChoiceLaws as Choice
 use Rattle.rules.proofs.NoPriceLaws as NoPrice
 use Rattle.rules.proofs.UnusedLaws as Unused
+use Rattle.rules.proofs.FactorLaws as Factor
+use Rattle.rules.proofs.FactorLaws.{granting}
 use Rattle.rules.proofs.RoundingLaws as Rounding
 use Rattle.rules.proofs.CalendarLaws as Calendar
 use Rattle.rules.proofs.CallLaws as Calls
@@ -63,10 +66,11 @@ amounts-sum b s room a q e f =
     )
 
 -- Every line is of a row that the book has, of the asked article and sort, with both its dates days and the asked day between them, both ends
--- included; and the row's condition is the granted name at the line's place, raised, or at place 0 none.
+-- included; and the row's condition is the granted name at the line's place, raised, or at place 0 none. The line's factor is that of the name there,
+-- and 1,000 at place 0.
 pub line-of-a-row : (b s : List ℕ) (room : ℕ) (a : Answer) (book : List Record) (q : Question) → price b s room ≡ done a → records b ≡ some book → questionOf s ≡ some q
-    → All (λ l. Rows.RowFor book q (l .place) (l .row)) (a .lines)
-line-of-a-row b s room a book q e f g = subst (All (λ l. Rows.RowFor book q (l .place) (l .row))) (sym (Calls.answered-lines b s room a e f g)) (Rows.lines-for book q)
+    → All (λ l. Rows.RowFor book q (l .place) (l .factor) (l .row)) (a .lines)
+line-of-a-row b s room a book q e f g = subst (All (λ l. Rows.RowFor book q (l .place) (l .factor) (l .row))) (sym (Calls.answered-lines b s room a e f g)) (Rows.lines-for book q)
 
 -- "No price" is said exactly when, of the base rows without a condition and of those under each granted name, none survives the steps of choice.
 pub no-price : (b s : List ℕ) (room : ℕ) (book : List Record) (q : Question) (a : Article)
@@ -78,6 +82,41 @@ no-price b s room book q a e f g = Calls.call-4 b s room e f g ∙ rw (NoPrice.r
 pub unused-count : (s : List ℕ) (q : Question) (ls : List Line) → questionOf s ≡ some q
     → (ones (setOf (unusedOf q ls)) ≡ length (unusedOf q ls)) × (setOf (unusedOf q ls) < 2 ^ 32)
 unused-count s q ls e = (Unused.unused-count q ls, Unused.unused-below 32 q ls (question-sound s q e .granted))
+
+-- ---- factors
+
+-- Where every granted name has the factor 1,000, the lines are those that the rules give where nobody speaks of factors; so are the totals and the
+-- outcome of every day, which are read off the lines.
+pub plain-lines : (book : List Record) (q : Question) → Factor.AllOnce (q .granted) → linesOf book q ≡ Factor.plainLines (roundings book) [] (chosen (rows book) q)
+plain-lines = Factor.lines-once
+
+-- It is so in a question of version 1, whose fifth byte is 1.
+pub version-1-plain : (a b c d : ℕ) (t : List ℕ) (q : Question) → questionOf (a ∷ b ∷ c ∷ d ∷ 1 ∷ t) ≡ some q → Factor.AllOnce (q .granted)
+version-1-plain = version-1
+
+-- A line begins with the 14 bytes that it has without factors: text number, level, place and amount. The factor stands behind them.
+pub line-begins : (l : Line) → lineBytes l ≡ (bytesOf 4 (l .row .text) ++ (l .row .level ∷ l .place ∷ signedBytesOf 8 (l .amount))) ++ bytesOf 2 (l .factor)
+line-begins l = refl
+
+-- A repeat keeps the first factor: whatever factor a name has that was granted before, the answer is the same, and so is the outcome of every day.
+pub repeat-factor : (book : List Record) (q : Question) (c : Granted) (f : ℕ) (xs ys : List Granted) → Factor.isSent xs (map raise (c .name)) ≡ true
+    → (answered book (granting q (xs ++ (c ∷ ys))) ≡ answered book (granting q (xs ++ (Factor.refactored c f ∷ ys))))
+    × ((d : ℕ) → outcome book (granting q (xs ++ (c ∷ ys))) d ≡ outcome book (granting q (xs ++ (Factor.refactored c f ∷ ys))) d)
+repeat-factor book q c f xs ys h =
+    let e = Factor.repeat-grants c f xs ys h in
+    (Factor.same-answered book q (xs ++ (c ∷ ys)) (xs ++ (Factor.refactored c f ∷ ys)) e, Factor.same-outcome book q (xs ++ (c ∷ ys)) (xs ++ (Factor.refactored c f ∷ ys)) e)
+
+-- Bytes that are the same question get the same answer from every call, whatever their version.
+pub same-question : (s s′ : List ℕ) → questionOf s ≡ questionOf s′ → Factor.AnsweredAlike s s′
+same-question = Factor.answered-alike
+
+-- So do questions laid end to end.
+pub same-questions : (b : List ℕ) (room : ℕ) (ps ps′ : List (List ℕ)) (qs : List Question) → Questions.Each ps qs → Questions.Each ps′ qs → length qs ≤ mostBasket
+    → basket b (join ps) room ≡ basket b (join ps′) room
+unfolding basket
+same-questions b room ps ps′ qs e e′ h =
+    ap (λ (o : Option (List Question)). orRefuse 1 (records b) >>= λ book. orRefuse 2 o >>= λ qs. refuseUnless 7 (leb (length (basketBytes (map (answered book) qs))) room) >>= λ _. done (map (answered book) qs))
+    (Questions.questions-laid mostBasket ps qs e h ∙ sym (Questions.questions-laid mostBasket ps′ qs e′ h))
 
 -- ---- the choice of a row
 
@@ -206,7 +245,7 @@ empty-basket b room book e = (Basket.basket-empty b room book e, refl)
 pub price-numbers : (b s : List ℕ) (room : ℕ) → (numberOf (price b s room) ≡ 0 → ⊥) → Calls.PriceRefusal (numberOf (price b s room))
 price-numbers b s room = known-number Calls.PriceRefusal (price b s room) (Calls.price-refuses b s room)
 
--- 7 is never among them where there is room for 99 lines, 1,386 bytes, as many as a price can have;
+-- 7 is never among them where there is room for 99 lines, 1,584 bytes, as many as a price can have;
 pub price-room-enough : (b s : List ℕ) (room : ℕ) → mostLinesSize ≤ room → numberOf (price b s room) ≡ 7 → ⊥
 price-room-enough b s room h e = let z : numberOf (price b s room) ≡ 0 → ⊥ = λ o. omega arith in known-number (λ n. n ≡ 7 → ⊥) (price b s room) (Calls.price-not-seven b s room h) z e
 

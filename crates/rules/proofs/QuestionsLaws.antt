@@ -12,11 +12,11 @@ use lib.Seq.{take-append-le, take-append-seam, drop-append-seam}
 use borrow.Author.Tests.{leb-true, le-leb, eqb-true}
 use Rattle.rules.specs.Lists.{join}
 use Rattle.rules.specs.Layout.{andThen, _>>=_, give, giveIf, bytes, back, wholly, toEnd, repeated, _such_}
-use Rattle.rules.specs.Bytes.{big, number, oneOf, head, ownLength}
-use Rattle.rules.specs.Question.{Question, questionLayout, questionOf}
+use Rattle.rules.specs.Bytes.{big, number, oneOf, headOf, ownLength}
+use Rattle.rules.specs.Question.{Question, versions, questionBody, questionLayout, questionOf}
 use Rattle.rules.specs.Questions.{oneQuestion, questionsLayout, questionsOf}
 use Rattle.rules.proofs.GivesLaws.{and-then}
-use Rattle.rules.proofs.TakesLaws.{bytes-first, takes-head, whole-end, back-is}
+use Rattle.rules.proofs.TakesLaws.{bytes-first, takes-headOf, whole-end, back-is}
 
 -- ---- accepted bytes are questions end to end
 
@@ -71,15 +71,15 @@ questions-parts most s qs e =
 pub own-length : (p : List ℕ) (q : Question) → questionOf p ≡ some q → (ownLength p ≡ length p) × (5 ≤ length p)
 unfolding questionOf
 own-length p q e =
-    let x = and-then (head (length p) p) _ (whole-end (questionLayout (length p) p) q e) in
-    let y = and-then ((number 4 such eqb (length p)) p) (λ _. oneOf (1 ∷ [])) (x .1) in
+    let x = and-then (headOf versions (length p) p) questionBody (whole-end (questionLayout (length p) p) q e) in
+    let y = and-then ((number 4 such eqb (length p)) p) (λ _. oneOf versions) (x .1) in
     let z = and-then (number 4 p) (λ n. giveIf (eqb (length p) n) n) (y .1) in
     let w = and-then (bytes 4 p) (λ bs. give (big bs)) (z .1) in
     let t = bytes-first 4 p (w .0 .0) (w .0 .1) (w .1) in
     let g = given-is (eqb (length p) (z .0 .0)) (z .0 .0) (z .0 .1) (z .2) in
     let n : big (w .0 .0) ≡ z .0 .0 = ap (λ (k : ℕ × List ℕ). k .0) (Option·some-injective (big (w .0 .0), w .0 .1) (z .0) (w .2)) in (
       ap big (sym (t .are)) ∙ n ∙ sym (eqb-true (length p) (z .0 .0) (g .0)),
-      takes-head (length p) .enough p (x .0 .0) (x .0 .1) (x .1),
+      takes-headOf versions (length p) .enough p (x .0 .0) (x .0 .1) (x .1),
     )
 
 -- whatever stands behind it, it is what is taken, and that is what is left

@@ -1,4 +1,4 @@
--- A question grants at most 32 names, so a price has at most 99 lines, and 1,386 bytes are room enough for any.
+-- A question grants at most 32 names, so a price has at most 99 lines, and 1,584 bytes are room enough for any.
 use Prim.Native.Nat.{ℕ, suc, _*_, _≤_}
 use mathlib.Core.Path.{_≡_, refl, sym, _∙_, ap}
 use mathlib.Core.Bool.{Bool, true, false, not}
@@ -8,8 +8,8 @@ use native.Mathlib.Omega.{arith}
 use lib.ListN.{length, length-append, length-map}
 use Rattle.rules.specs.Lists.{same, keep, consIf, gather, consSome, join}
 use Rattle.rules.specs.Book.{Record, rows, base, surcharge, discount}
-use Rattle.rules.specs.Question.{Question, Grant, grants, firsts, placed}
-use Rattle.rules.specs.Lines.{slotsAt, slots, Line, chosenAt, chosen, linesOf, lineSize, mostLines, mostLinesSize, lineBytes, linesBytes}
+use Rattle.rules.specs.Question.{Granted, Question, Grant, grants, firsts, placed}
+use Rattle.rules.specs.Lines.{namedSlot, slotsAt, slots, Line, chosenAt, chosen, linesOf, lineSize, mostLines, mostLinesSize, lineBytes, linesBytes}
 use Rattle.rules.proofs.LinesLaws.{line-rows}
 
 if-length : {A : Type 0} (b : Bool) (x : A) (xs : List A) → length (consIf b x xs) ≤ suc (length xs)
@@ -28,7 +28,7 @@ gather-length : {A B : Type 0} (f : A → Option B) (xs : List A) → length (ga
 gather-length f [] = omega arith
 gather-length f (x ∷ xs) = omega (arith, some-length (f x) (gather f xs), gather-length f xs)
 
-placed-length : (n : ℕ) (names : List (List ℕ)) → length (placed n names) ≡ length names
+placed-length : (n : ℕ) (names : List Granted) → length (placed n names) ≡ length names
 placed-length n [] = refl
 placed-length n (c ∷ cs) = ap suc (placed-length (suc n) cs)
 
@@ -36,7 +36,7 @@ firsts-length : (gs : List Grant) → length (firsts gs) ≤ length gs
 firsts-length [] = omega arith
 firsts-length (g ∷ gs) = omega (arith, keep-length (λ h. not (same (h .name) (g .name))) (firsts gs), firsts-length gs)
 
-grants-length : (names : List (List ℕ)) → length (grants names) ≤ length names
+grants-length : (names : List Granted) → length (grants names) ≤ length names
 unfolding grants
 grants-length names = omega (arith, firsts-length (placed 1 names), placed-length 1 names)
 
@@ -48,7 +48,7 @@ slots-length gs =
     ∙ omega (arith, length-append (slotsAt gs surcharge) (slotsAt gs discount), of-level base, of-level surcharge, of-level discount)
   where
     of-level : (level : ℕ) → length (slotsAt gs level) ≡ suc (length gs)
-    of-level level = ap suc (length-map gs (λ g. record { level = level; place = g .place; condition = g .name }))
+    of-level level = ap suc (length-map gs (namedSlot level))
 
 lines-length : (book : List Record) (q : Question) → length (linesOf book q) ≡ length (chosen (rows book) q)
 lines-length book q = sym (length-map (linesOf book q) (λ l. l .row)) ∙ ap length (line-rows book q) ∙ length-map (chosen (rows book) q) (λ c. c .row)

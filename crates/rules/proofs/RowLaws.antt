@@ -13,9 +13,9 @@ use Rattle.rules.specs.Lists.{same, between, keep, any, first, gather, c
 use Rattle.rules.specs.Bytes.{raise}
 use Rattle.rules.specs.Days.{isDay}
 use Rattle.rules.specs.Book.{Record, ArticleRecord, PriceRecord, RoundingRecord, PackagingRecord, SchemeRecord, Row, base, surcharge, discount, rows, roundings}
-use Rattle.rules.specs.Question.{Question, Grant, placed, firsts, grants}
+use Rattle.rules.specs.Question.{Granted, Question, Grant, placed, firsts, grants, plainFactor}
 use Rattle.rules.specs.Choice.{component, percentBase, holdsOn, isIn, reaches, better, step₁, step₂, step₃, step₄, step₅, surviving, choose}
-use Rattle.rules.specs.Lines.{Slot, slotsAt, slots, Chosen, rowsAt, chosenAt, chosen, Line, linesOf}
+use Rattle.rules.specs.Lines.{Slot, namedSlot, slotsAt, slots, Chosen, chosenIn, rowsAt, chosenAt, chosen, Line, linesOf}
 use Rattle.rules.specs.declared.Rounding.{Rounding}
 use Rattle.rules.proofs.TestLaws.{and-left, and-right, between-low, between-high}
 use Rattle.rules.proofs.ListLaws.{All, Holds, all-keep, kept, same-eq, first-holds}
@@ -29,13 +29,18 @@ pub data Among {A : Type 0} (x : A) : List A → Type 0 where
   here : {xs : List A} → Among x (x ∷ xs)
   there : {y : A} {xs : List A} → Among x xs → Among x (y ∷ xs)
 
--- a condition at a place: none at 0, and from 1 on the granted name that stands there, raised
-abbrev pub Under : Question → ℕ → List ℕ → Type 0
-Under q zero condition = condition ≡ []
-Under q (suc i) condition = (i < length (q .granted)) × (condition ≡ map raise (getD (q .granted) i []))
+-- what is read behind the last granted name
+abbrev pub noName : Granted
+noName = record { name = []; factor = plainFactor }
 
--- a row that may stand behind a line with this place
-pub record RowFor (book : List Record) (q : Question) (place : ℕ) (row : Row) : Type 0 where
+-- a condition and a factor at a place: none and 1,000 at 0, and from 1 on those of the granted name that stands there, which is raised
+abbrev pub Under : Question → ℕ → List ℕ → ℕ → Type 0
+Under q zero condition factor = (condition ≡ []) × (factor ≡ plainFactor)
+Under q (suc i) condition factor =
+    (i < length (q .granted)) × (condition ≡ map raise (getD (q .granted) i noName .name)) × (factor ≡ getD (q .granted) i noName .factor)
+
+-- a row that may stand behind a line with this place and factor
+pub record RowFor (book : List Record) (q : Question) (place factor : ℕ) (row : Row) : Type 0 where
   pub in-book : Among (PriceRecord row) book
   pub article : row .article ≡ q .article
   pub sort : row .sort ≡ q .sort
@@ -43,7 +48,7 @@ pub record RowFor (book : List Record) (q : Question) (place : ℕ) (row : Row) 
   pub to-day : isDay (row .to) ≡ true
   pub begun : row .from ≤ q .date
   pub not-over : q .date ≤ row .to
-  pub condition : Under q place (row .condition)
+  pub condition : Under q place (row .condition) factor
 
 -- ---- lists
 
@@ -61,7 +66,7 @@ module _ {A : Type 0} where
   all-both P Q [] hs ks = tt
   all-both P Q (x ∷ xs) hs ks = ((hs .0, ks .0), all-both P Q xs (hs .1) (ks .1))
 
-  all-append : (P : A → Type 0) (xs ys : List A) → All P xs → All P ys → All P (xs ++ ys)
+  pub all-append : (P : A → Type 0) (xs ys : List A) → All P xs → All P ys → All P (xs ++ ys)
   all-append P [] ys hs ks = ks
   all-append P (x ∷ xs) ys hs ks = (hs .0, all-append P xs ys (hs .1) ks)
 
@@ -84,28 +89,31 @@ rows-among (SchemeRecord s ∷ rs) = all-imply (λ r m. there m) (rows rs) (rows
 -- ---- granted names and their places
 
 -- the names from the one at place k + 1 on
-record Placed (k : ℕ) (names : List (List ℕ)) (g : Grant) : Type 0 where
+record Placed (k : ℕ) (names : List Granted) (g : Grant) : Type 0 where
   above : k < g .place
   within : g .place - suc k < length names
-  name : g .name ≡ map raise (getD names (g .place - suc k) [])
+  name : g .name ≡ map raise (getD names (g .place - suc k) noName .name)
+  factor : g .factor ≡ getD names (g .place - suc k) noName .factor
 
-placed-later : (k : ℕ) (c : List ℕ) (cs : List (List ℕ)) (g : Grant) → Placed (suc k) cs g → Placed k (c ∷ cs) g
+placed-later : (k : ℕ) (c : Granted) (cs : List Granted) (g : Grant) → Placed (suc k) cs g → Placed k (c ∷ cs) g
 placed-later k c cs g p =
     let e : g .place - suc k ≡ suc (g .place - suc (suc k)) = omega (arith, p .above) in
     record {
       above = omega (arith, p .above);
       within = omega (arith, p .within);
-      name = p .name ∙ sym (ap (λ (i : ℕ). map raise (getD (c ∷ cs) i [])) e);
+      name = p .name ∙ sym (ap (λ (i : ℕ). map raise (getD (c ∷ cs) i noName .name)) e);
+      factor = p .factor ∙ sym (ap (λ (i : ℕ). getD (c ∷ cs) i noName .factor) e);
     }
 
-placed-all : (k : ℕ) (names : List (List ℕ)) → All (Placed k names) (placed (suc k) names)
+placed-all : (k : ℕ) (names : List Granted) → All (Placed k names) (placed (suc k) names)
 placed-all k [] = tt
 placed-all k (c ∷ cs) =
     let e : suc k - suc k ≡ 0 = omega arith in (
       record {
         above = omega arith;
         within = omega arith;
-        name = sym (ap (λ (i : ℕ). map raise (getD (c ∷ cs) i [])) e);
+        name = sym (ap (λ (i : ℕ). map raise (getD (c ∷ cs) i noName .name)) e);
+        factor = sym (ap (λ (i : ℕ). getD (c ∷ cs) i noName .factor) e);
       },
       all-imply (placed-later k c cs) (placed (suc (suc k)) cs) (placed-all (suc k) cs),
     )
@@ -115,24 +123,26 @@ firsts-all P [] hs = tt
 firsts-all P (g ∷ gs) hs = (hs .0, all-keep P _ (firsts gs) (firsts-all P gs (hs .1)))
 
 module _ (q : Question) where
-  under : (g : Grant) → Placed 0 (q .granted) g → Under q (g .place) (g .name)
-  under g p = go (g .place) (g .name) (p .above) (p .within) (p .name)
+  abbrev GrantFor : Grant → Type 0
+  GrantFor g = Under q (g .place) (g .name) (g .factor)
+
+  under : (g : Grant) → Placed 0 (q .granted) g → GrantFor g
+  under g p = go (g .place) (g .name) (g .factor) (p .above) (p .within) (p .name) (p .factor)
     where
-      go : (n : ℕ) (c : List ℕ) → 0 < n → n - 1 < length (q .granted) → c ≡ map raise (getD (q .granted) (n - 1) []) → Under q n c
-      go zero c a w e = absurd (omega arith)
-      go (suc i) c a w e = let f : suc i - 1 ≡ i = omega arith in (omega arith, e ∙ ap (λ (j : ℕ). map raise (getD (q .granted) j [])) f)
+      go : (n : ℕ) (c : List ℕ) (f : ℕ) → 0 < n → n - 1 < length (q .granted) → c ≡ map raise (getD (q .granted) (n - 1) noName .name)
+          → f ≡ getD (q .granted) (n - 1) noName .factor → Under q n c f
+      go zero c f a w e h = absurd (omega arith)
+      go (suc i) c f a w e h =
+          let k : suc i - 1 ≡ i = omega arith in
+          (omega arith, e ∙ ap (λ (j : ℕ). map raise (getD (q .granted) j noName .name)) k, h ∙ ap (λ (j : ℕ). getD (q .granted) j noName .factor) k)
 
   abbrev SlotFor : Slot → Type 0
-  SlotFor s = Under q (s .place) (s .condition)
+  SlotFor s = Under q (s .place) (s .condition) (s .factor)
 
-  slots-at : (gs : List Grant) → All (λ g. Under q (g .place) (g .name)) gs → (level : ℕ) → All SlotFor (slotsAt gs level)
-  slots-at gs hs level = (refl, each gs hs)
+  slots-at : (gs : List Grant) → All GrantFor gs → (level : ℕ) → All SlotFor (slotsAt gs level)
+  slots-at gs hs level = ((refl, refl), each gs hs)
     where
-      each : (gs : List Grant) → All (λ g. Under q (g .place) (g .name)) gs → All SlotFor (map (λ g. record {
-        level = level;
-        place = g .place;
-        condition = g .name;
-      }) gs)
+      each : (gs : List Grant) → All GrantFor gs → All SlotFor (map (namedSlot level) gs)
       each [] hs = tt
       each (g ∷ gs) hs = (hs .0, each gs (hs .1))
 
@@ -140,7 +150,7 @@ module _ (q : Question) where
   unfolding slots grants
   slots-all =
       let gs : List Grant = grants (q .granted) in
-      let hs = firsts-all (λ g. Under q (g .place) (g .name)) (placed 1 (q .granted)) (all-imply under (placed 1 (q .granted)) (placed-all 0 (q .granted))) in
+      let hs = firsts-all GrantFor (placed 1 (q .granted)) (all-imply under (placed 1 (q .granted)) (placed-all 0 (q .granted))) in
       all-append SlotFor (slotsAt gs base) (slotsAt gs surcharge ++ slotsAt gs discount) (slots-at gs hs base)
       (all-append SlotFor (slotsAt gs surcharge) (slotsAt gs discount) (slots-at gs hs surcharge) (slots-at gs hs discount))
 
@@ -165,7 +175,7 @@ module _ (book : List Record) (q : Question) where
   abbrev ofSlot : Slot → Row → Bool
   ofSlot s r = same (r .article) (q .article) && (eqb (r .sort) (q .sort) && (eqb (r .level) (s .level) && same (r .condition) (s .condition)))
 
-  row-for : (s : Slot) → SlotFor q s → (r : Row) → (Among (PriceRecord r) book × (ofSlot s r ≡ true)) × (holdsOn (q .date) r ≡ true) → RowFor book q (s .place) r
+  row-for : (s : Slot) → SlotFor q s → (r : Row) → (Among (PriceRecord r) book × (ofSlot s r ≡ true)) × (holdsOn (q .date) r ≡ true) → RowFor book q (s .place) (s .factor) r
   row-for s u r h =
       let sort = eqb (r .sort) (q .sort) in
       let level = eqb (r .level) (s .level) in
@@ -181,10 +191,12 @@ module _ (book : List Record) (q : Question) where
         to-day = and-left (isDay (r .to)) (between (r .from) (r .to) (q .date)) days;
         begun = between-low (r .from) (r .to) (q .date) inside;
         not-over = between-high (r .from) (r .to) (q .date) inside;
-        condition = subst (Under q (s .place)) (sym (same-eq (r .condition) (s .condition) (and-right level condition (and-right sort (level && condition) t)))) u;
+        condition =
+            subst (λ (c : List ℕ). Under q (s .place) c (s .factor))
+            (sym (same-eq (r .condition) (s .condition) (and-right level condition (and-right sort (level && condition) t)))) u;
       }
 
-  left-for : (s : Slot) → SlotFor q s → All (RowFor book q (s .place)) (surviving (q .date) (q .quantity) (q .currency) (rowsAt (rows book) q s))
+  left-for : (s : Slot) → SlotFor q s → All (RowFor book q (s .place) (s .factor)) (surviving (q .date) (q .quantity) (q .currency) (rowsAt (rows book) q s))
   unfolding rowsAt component
   left-for s u =
       let taken : List Row = keep (ofSlot s) (rows book) in
@@ -192,26 +204,26 @@ module _ (book : List Record) (q : Question) where
       let left : List Row = surviving (q .date) (q .quantity) (q .currency) taken in
       all-imply (row-for s u) left (all-both (λ r. Among (PriceRecord r) book × (ofSlot s r ≡ true)) (λ r. holdsOn (q .date) r ≡ true) left (survivors _ (q .date) (q .quantity) (q .currency) taken of-book) (survivors-hold (q .date) (q .quantity) (q .currency) taken))
 
-  chosen-for : (s : Slot) → SlotFor q s → Holds (λ c. RowFor book q (c .place) (c .row)) (chosenAt (rows book) q s)
+  chosen-for : (s : Slot) → SlotFor q s → Holds (λ c. RowFor book q (c .place) (c .factor) (c .row)) (chosenAt (rows book) q s)
   unfolding chosenAt choose step₅
-  chosen-for s u = go (first (λ r. not (any (λ t. better t r) left)) left) (first-holds (RowFor book q (s .place)) (λ r. not (any (λ t. better t r) left)) left (left-for s u))
+  chosen-for s u = go (first (λ r. not (any (λ t. better t r) left)) left) (first-holds (RowFor book q (s .place) (s .factor)) (λ r. not (any (λ t. better t r) left)) left (left-for s u))
     where
       left : List Row
       left = surviving (q .date) (q .quantity) (q .currency) (rowsAt (rows book) q s)
 
-      go : (o : Option Row) → Holds (RowFor book q (s .place)) o → Holds (λ (c : Chosen). RowFor book q (c .place) (c .row)) (Option·map (λ r. record { place = s .place; row = r }) o)
+      go : (o : Option Row) → Holds (RowFor book q (s .place) (s .factor)) o → Holds (λ (c : Chosen). RowFor book q (c .place) (c .factor) (c .row)) (Option·map (chosenIn s) o)
       go none h = tt
       go (some r) h = h
 
   -- ---- the lines
 
-  run-for : (rs : List Rounding) (base running : ℤ) (cs : List Chosen) → All (λ c. RowFor book q (c .place) (c .row)) cs → All (λ l. RowFor book q (l .place) (l .row)) (run rs base running cs)
+  run-for : (rs : List Rounding) (base running : ℤ) (cs : List Chosen) → All (λ c. RowFor book q (c .place) (c .factor) (c .row)) cs → All (λ l. RowFor book q (l .place) (l .factor) (l .row)) (run rs base running cs)
   run-for rs base running [] hs = tt
   run-for rs base running (c ∷ cs) hs = (hs .0, run-for rs _ _ cs (hs .1))
 
   -- each line is of such a row
-  pub lines-for : All (λ l. RowFor book q (l .place) (l .row)) (linesOf book q)
+  pub lines-for : All (λ l. RowFor book q (l .place) (l .factor) (l .row)) (linesOf book q)
   unfolding chosen
   lines-for =
-      subst (All (λ l. RowFor book q (l .place) (l .row))) (sym (lines-run book q))
-      (run-for (roundings book) (pos 0) (pos 0) (chosen (rows book) q) (all-gather (λ c. RowFor book q (c .place) (c .row)) (chosenAt (rows book) q) chosen-for (slots (grants (q .granted))) (slots-all q)))
+      subst (All (λ l. RowFor book q (l .place) (l .factor) (l .row))) (sym (lines-run book q))
+      (run-for (roundings book) (pos 0) (pos 0) (chosen (rows book) q) (all-gather (λ c. RowFor book q (c .place) (c .factor) (c .row)) (chosenAt (rows book) q) chosen-for (slots (grants (q .granted))) (slots-all q)))

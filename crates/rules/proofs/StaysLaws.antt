@@ -12,7 +12,7 @@ use Rattle.rules.specs.Days.{isDay, next, lastDay}
 use Rattle.rules.specs.Book.{Record, Row, rows, roundings}
 use Rattle.rules.specs.Question.{Question, on, grants}
 use Rattle.rules.specs.Choice.{component, percentBase, holdsOn, step₁, step₂, step₃, step₄, step₅, surviving, choose}
-use Rattle.rules.specs.Lines.{Slot, slots, rowsAt, chosenAt, chosen, linesAfter, linesOf}
+use Rattle.rules.specs.Lines.{Slot, slots, chosenIn, rowsAt, chosenAt, chosen, linesAfter, linesOf}
 use Rattle.rules.specs.Price.{priced}
 use Rattle.rules.specs.Calendar.{outcomeOf, outcome}
 use Rattle.rules.specs.Changes.{dated, movingRows, daysOfChange, changes, isChange}
@@ -123,7 +123,7 @@ module _ (book : List Record) (q : Question) where
   module _ (d : ℕ) (day : isDay d ≡ true) (more : isDay (next d) ≡ true) (quiet : isChange book (q .article) (q .sort) (next d) ≡ false) where
     slot-stays : (s : Slot) → chosenAt (rows book) (on q d) s ≡ chosenAt (rows book) (on q (next d)) s
     unfolding chosenAt rowsAt on isChange changes movingRows
-    slot-stays s = ap (Option·map (λ r. record { place = s .place; row = r })) (choice-stays d day more (q .article) (q .sort) (s .level) (s .condition) (q .quantity) (q .currency) (rows book) quiet)
+    slot-stays s = ap (Option·map (chosenIn s)) (choice-stays d day more (q .article) (q .sort) (s .level) (s .condition) (q .quantity) (q .currency) (rows book) quiet)
 
     lines-stay : linesOf book (on q d) ≡ linesOf book (on q (next d))
     unfolding linesOf chosen on

@@ -10,7 +10,7 @@ use lib.ListN.{length, take, drop, length-drop}
 use lib.Seq.{drop-drop}
 use Rattle.rules.specs.Lists.{any}
 use Rattle.rules.specs.Layout.{Layout, _>>=_, give, giveIf, _such_, front, bytes, byte, back, framed, whole, wholly}
-use Rattle.rules.specs.Bytes.{number, big, oneOf, head}
+use Rattle.rules.specs.Bytes.{number, big, oneOf, headOf, head}
 use Rattle.rules.proofs.GivesLaws.{and-then}
 
 pub record Takes {A : Type 0} (m : Layout A) (k : ℕ) : Type 0 where
@@ -118,10 +118,13 @@ takes-framed n m =
     subst (Takes (framed n m)) (omega arith) (takes-field (bytes n) (λ s. back (whole m s)) (takes-bytes n) (λ s. takes-back (whole m s)))
 
 -- the head of a layout: four bytes of length and one of version
+pub takes-headOf : (versions : List ℕ) (lent : ℕ) → Takes (headOf versions lent) 5
+takes-headOf versions lent =
+    takes-field (number 4 such eqb lent) (λ _. oneOf versions)
+    (takes-such (number 4) (eqb lent) (takes-number 4)) (λ _. takes-such byte (λ b. any (eqb b) versions) takes-byte)
+
 pub takes-head : (lent : ℕ) → Takes (head lent) 5
-takes-head lent =
-    takes-field (number 4 such eqb lent) (λ _. oneOf (1 ∷ []))
-    (takes-such (number 4) (eqb lent) (takes-number 4)) (λ _. takes-such byte (λ b. any (eqb b) (1 ∷ [])) takes-byte)
+takes-head lent = takes-headOf (1 ∷ []) lent
 
 -- ---- with nothing behind it
 

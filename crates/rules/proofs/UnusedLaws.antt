@@ -10,7 +10,7 @@ use lib.Pow.{pow-add, pow-pos, pow-lt, pow-mono}
 use lib.Count.{ones, ones-cat}
 use lib.ListN.{length}
 use Rattle.rules.specs.Lists.{keep, consIf, same}
-use Rattle.rules.specs.Question.{Question, Grant, placed, firsts, grants}
+use Rattle.rules.specs.Question.{Granted, Question, Grant, placed, firsts, grants}
 use Rattle.rules.specs.Lines.{Line}
 use Rattle.rules.specs.Price.{setOf, unusedOf}
 
@@ -37,7 +37,7 @@ pub rising-keep : (p : Grant → Bool) (k n : ℕ) (gs : List Grant) → Rising 
 rising-keep p k n [] r = r
 rising-keep p k n (g ∷ gs) r = rising-if (p g) k n g (keep p gs) (r .0) (rising-keep p (g .place) n gs (r .1))
 
-rising-placed : (k n : ℕ) (names : List (List ℕ)) → k + length names ≤ n → Rising k n (placed (suc k) names)
+rising-placed : (k n : ℕ) (names : List Granted) → k + length names ≤ n → Rising k n (placed (suc k) names)
 rising-placed k n [] h = omega arith
 rising-placed k n (name ∷ names) h = (omega arith, rising-placed (suc k) n names (omega arith))
 
@@ -46,7 +46,7 @@ rising-firsts k n [] r = r
 rising-firsts k n (g ∷ gs) r = (r .0, rising-keep (λ h. not (same (h .name) (g .name))) (g .place) n (firsts gs) (rising-firsts (g .place) n gs (r .1)))
 
 -- of at most n names the places are at most n
-pub rising-grants : (n : ℕ) (names : List (List ℕ)) → length names ≤ n → Rising 0 n (grants names)
+pub rising-grants : (n : ℕ) (names : List Granted) → length names ≤ n → Rising 0 n (grants names)
 unfolding grants
 rising-grants n names h = rising-firsts 0 n (placed 1 names) (rising-placed 0 n names (omega arith))
 

@@ -1,6 +1,6 @@
 -- "Sums worked by hand" and "Traps that have fooled price plugins": one table, one statement, closed by computation. What a case is stands in Cases.antt,
 -- the cases that try the layouts at their limits in Limits.antt, those of
--- baskets in BasketSums.antt.
+-- factors in FactorSums.antt, those of baskets in BasketSums.antt.
 use Prim.Native.Nat.{ℕ, _-_}
 use mathlib.Core.Path.{_≡_, refl}
 use mathlib.Core.List.{List, [], _∷_, _++_, map}
@@ -16,6 +16,7 @@ use Rattle.rules.proofs.Cases.{AskPrice, AskNumber, AskGross, AskCalend
 use Rattle.rules.proofs.Cases.{Listed, Text, Weight, Refusal, Read, InBook, Case, case, found}
 use Rattle.rules.proofs.Cases.{minus, fixed, percent, A1, T100, OAK, oak, EUR, USD, row, in2024, baseRow, bookOf, ask}
 use Rattle.rules.proofs.Limits.{limits}
+use Rattle.rules.proofs.FactorSums.{factors}
 use Rattle.rules.proofs.BasketSums.{baskets}
 
 -- ---- the books
@@ -121,14 +122,14 @@ otherTexts = 0 ∷ 0 ∷ 0 ∷ 19 ∷ 1 ∷ 0 ∷ 0 ∷ 0 ∷ 1 ∷ 0 ∷ 1 ∷ 
 abbrev more : List Case
 more =
     -- every byte of P1 for two pieces, a repeat and a name that brings nothing among the granted; the rest of the lent bytes stays
-    case (AskBytes 44) bookK (ask 20240630 2 (oak ∷ OAK ∷ text "elm" ∷ []))
+    case (AskBytes 50) bookK (ask 20240630 2 (oak ∷ OAK ∷ text "elm" ∷ []))
     (Read 0 (pos 10875) (pos 21750) 3 4 1 EUR
-    (0 ∷ 0 ∷ 0 ∷ 0 ∷ 66 ∷ 0 ∷ 0 ∷ 0 ∷ 0 ∷ 0 ∷ 0 ∷ 0 ∷ 39 ∷ 16
-    ∷ 0 ∷ 0 ∷ 0 ∷ 0 ∷ 88 ∷ 1 ∷ 0 ∷ 0 ∷ 0 ∷ 0 ∷ 0 ∷ 0 ∷ 4 ∷ 226
-    ∷ 0 ∷ 0 ∷ 0 ∷ 0 ∷ 68 ∷ 0 ∷ 255 ∷ 255 ∷ 255 ∷ 255 ∷ 255 ∷ 255 ∷ 254 ∷ 137
+    (0 ∷ 0 ∷ 0 ∷ 0 ∷ 66 ∷ 0 ∷ 0 ∷ 0 ∷ 0 ∷ 0 ∷ 0 ∷ 0 ∷ 39 ∷ 16 ∷ 3 ∷ 232
+    ∷ 0 ∷ 0 ∷ 0 ∷ 0 ∷ 88 ∷ 1 ∷ 0 ∷ 0 ∷ 0 ∷ 0 ∷ 0 ∷ 0 ∷ 4 ∷ 226 ∷ 3 ∷ 232
+    ∷ 0 ∷ 0 ∷ 0 ∷ 0 ∷ 68 ∷ 0 ∷ 255 ∷ 255 ∷ 255 ∷ 255 ∷ 255 ∷ 255 ∷ 254 ∷ 137 ∷ 3 ∷ 232
     ∷ 7 ∷ 7 ∷ []))
     -- one byte too few: zeros, and no byte written
-    ∷ case (AskBytes 41) bookK (ask 20240630 1 (oak ∷ [])) (Read 7 (pos 0) (pos 0) 0 0 0 noUnit (replicate 41 7))
+    ∷ case (AskBytes 47) bookK (ask 20240630 1 (oak ∷ [])) (Read 7 (pos 0) (pos 0) 0 0 0 noUnit (replicate 47 7))
     -- of two rows alike the later start, of two with one start the first
     ∷ case AskPrice (bookOf (baseRow 1 20240101 20241231 ∷ baseRow 2 20240201 20241231 ∷ baseRow 3 20240201 20241231 ∷ []) []) (ask 20240630 1 []) (Listed (pos 2 ∷ []) (pos 2))
     -- 95 and 4 are 99, down to 90, less 1
@@ -197,8 +198,8 @@ choices =
     -- no limit is above the greatest limit
     ∷ case AskPrice (bookOf (in2024 base 1 (fixed (pos 8)) EUR 0 0 ∷ in2024 base 1 (fixed (pos 9)) EUR 4_294_967_295 0 ∷ []) []) (ask 20240630 10 []) (Listed (pos 9 ∷ []) (pos 9))
     -- a line shows its row's text number, and its place; the unconditioned row goes first, wherever it stands
-    ∷ case (AskBytes 28) (bookOf (row (text "ZZ") base 1 (fixed (pos 1)) EUR 20240101 20241231 0 0 ∷ rowOf A1 sale 2 ∷ []) []) (ask 20240630 1 (text "zz" ∷ []))
-    (Read 0 (pos 3) (pos 3) 2 0 0 EUR (1 ∷ 2 ∷ 3 ∷ 4 ∷ 66 ∷ 0 ∷ 0 ∷ 0 ∷ 0 ∷ 0 ∷ 0 ∷ 0 ∷ 0 ∷ 2 ∷ 0 ∷ 0 ∷ 0 ∷ 0 ∷ 66 ∷ 1 ∷ 0 ∷ 0 ∷ 0 ∷ 0 ∷ 0 ∷ 0 ∷ 0 ∷ 1 ∷ []))
+    ∷ case (AskBytes 32) (bookOf (row (text "ZZ") base 1 (fixed (pos 1)) EUR 20240101 20241231 0 0 ∷ rowOf A1 sale 2 ∷ []) []) (ask 20240630 1 (text "zz" ∷ []))
+    (Read 0 (pos 3) (pos 3) 2 0 0 EUR (1 ∷ 2 ∷ 3 ∷ 4 ∷ 66 ∷ 0 ∷ 0 ∷ 0 ∷ 0 ∷ 0 ∷ 0 ∷ 0 ∷ 0 ∷ 2 ∷ 3 ∷ 232 ∷ 0 ∷ 0 ∷ 0 ∷ 0 ∷ 66 ∷ 1 ∷ 0 ∷ 0 ∷ 0 ∷ 0 ∷ 0 ∷ 0 ∷ 0 ∷ 1 ∷ 3 ∷ 232 ∷ []))
     -- a to z become capitals, and no byte beside them
     ∷ case AskPrice (bookOf (row (text "AZ`{") base 1 (fixed (pos 5)) EUR 20240101 20241231 0 0 ∷ []) []) (ask 20240630 1 (text "az`{" ∷ [])) (Listed (pos 5 ∷ []) (pos 5))
     -- an amount below zero is printed with its sign
@@ -257,7 +258,7 @@ refusals =
     ∷ []
 
 abbrev table : List Case
-table = sums ++ (traps ++ (more ++ (choices ++ (refusals ++ (limits ++ baskets)))))
+table = sums ++ (traps ++ (more ++ (choices ++ (refusals ++ (limits ++ (factors ++ baskets))))))
 
 -- Every sum that was worked by hand, and every trap, comes out of the rules as the paper has it.
 worked-sums : map found table ≡ map (λ c. c .worked) table

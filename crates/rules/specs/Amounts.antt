@@ -15,6 +15,10 @@ unfoldable pub exact : Value → ℤ → Fraction
 exact (Fixed c) of = record { top = c .0; bottom = 1 }
 exact (Percent h) of = record { top = h .0 *ℤ of; bottom = 10000 }
 
+-- "Factors on conditions": so many thousandths of an amount
+abbrev pub factored : ℕ → Fraction → Fraction
+factored f x = record { top = x .top *ℤ pos f; bottom = x .bottom * 1000 }
+
 -- the greatest whole number not above z / n is `floor z n`; this is the least one not below it
 unfoldable pub ceiling : ℤ → ℕ → ℤ
 ceiling z n = negℤ (floor (negℤ z) n)

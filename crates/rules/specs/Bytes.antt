@@ -54,11 +54,15 @@ eitherSide n (negsuc m) = ltb m n
 abbrev pub oneOf : List ℕ → Layout ℕ
 oneOf bs = byte such λ b. any (eqb b) bs
 
--- the head of a layout: the length of the whole as it was lent, and version 1
-abbrev pub head : ℕ → Layout ℕ
-head lent = do
+-- the head of a layout: the length of the whole as it was lent, and one of these versions
+abbrev pub headOf : List ℕ → ℕ → Layout ℕ
+headOf versions lent = do
   _ ← number 4 such eqb lent
-  oneOf (1 ∷ [])
+  oneOf versions
+
+-- of a book and a text book there is version 1 alone
+abbrev pub head : ℕ → Layout ℕ
+head lent = headOf (1 ∷ []) lent
 
 -- a book and a question begin with their own length: how long they say they are
 abbrev pub ownLength : List ℕ → ℕ

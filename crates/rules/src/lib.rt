@@ -109,8 +109,16 @@ pub struct Outcome {
     pub currency: Currency,
 }
 
+// Factors are in thousandths. A line without a condition, or of a question that gives no factors, has the first; none is over the second.
+pub const PLAIN_FACTOR: u16 = 1_000;
+
+pub const MOST_FACTOR: u16 = 10_000;
+
+// The version of a question that gives them.
+pub const WITH_FACTORS: u8 = 2;
+
 // The bytes of a line.
-pub const LINE_SIZE: usize = 14;
+pub const LINE_SIZE: usize = 16;
 
 // ---- what a caller reads
 

@@ -21,6 +21,7 @@ entry (some book) (some q) = 0
 abbrev pub noAsk : Ask
 noAsk = record {
   article = record { at = 0; size = 0 };
+  version = 0;
   sort = 0;
   currency = record { 0 = 0; 1 = 0; 2 = 0 };
   date = record { 0 = 0 };

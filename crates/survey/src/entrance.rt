@@ -19,6 +19,7 @@ pub struct Entered {
 
 const NO_ASK: Ask = Ask {
     article: Part { at: 0, size: 0 },
+    version: 0,
     sort: 0,
     currency: Currency(0, 0, 0),
     date: Day(0),

@@ -10,23 +10,29 @@ typedef struct basket {
     uint8_t bytes[32768];
 } basket;
 
+enum { MIXED = 7 };
+
 static sample book, june_oak;
 static basket mixed, full, over;
 static uint8_t out[RAFTTWINE_MOST_BASKET_BYTES + 1];
 
-/* To june_oak, an article that the book lacks, june, and a day, two currencies and a total without a price. */
+/* To june_oak, an article that the book lacks, june_factors of version 2, june, and a day, two currencies and a total without a price. */
 static const uint8_t written[] = {
     0, FOUR(0), FOUR(10875), FOUR(0), FOUR(32625), 'E', 'U', 'R', FOUR(0), FOUR(3), FOUR(2), 1,
     3, FOUR(0), FOUR(0),     FOUR(0), FOUR(0),     0,   0,   0,   FOUR(0), FOUR(0), FOUR(0), 0,
+    0, FOUR(0), FOUR(12688), FOUR(0), FOUR(12688), 'E', 'U', 'R', FOUR(0), FOUR(3), FOUR(1), 1,
     0, FOUR(0), FOUR(9667),  FOUR(0), FOUR(9667),  'E', 'U', 'R', FOUR(0), FOUR(2), FOUR(0), 0,
     4, FOUR(0), FOUR(0),     FOUR(0), FOUR(0),     0,   0,   0,   FOUR(0), FOUR(0), FOUR(0), 0,
     5, FOUR(0), FOUR(0),     FOUR(0), FOUR(0),     0,   0,   0,   FOUR(0), FOUR(0), FOUR(0), 0,
     6, FOUR(0), FOUR(0),     FOUR(0), FOUR(0),     0,   0,   0,   FOUR(0), FOUR(0), FOUR(0), 0,
-    FOUR(100), 'B', 0, FOUR(0),  FOUR(10000),
-    FOUR(200), 'X', 1, FOUR(0),  FOUR(1250),
-    FOUR(300), 'D', 0, FOUR(-1), FOUR(-375),
-    FOUR(100), 'B', 0, FOUR(0),  FOUR(10000),
-    FOUR(300), 'D', 0, FOUR(-1), FOUR(-333),
+    FOUR(100), 'B', 0, FOUR(0),  FOUR(10000), TWO(1000),
+    FOUR(200), 'X', 1, FOUR(0),  FOUR(1250),  TWO(1000),
+    FOUR(300), 'D', 0, FOUR(-1), FOUR(-375),  TWO(1000),
+    FOUR(100), 'B', 0, FOUR(0),  FOUR(10000), TWO(1000),
+    FOUR(200), 'X', 2, FOUR(0),  FOUR(3125),  TWO(2500),
+    FOUR(300), 'D', 0, FOUR(-1), FOUR(-437),  TWO(1000),
+    FOUR(100), 'B', 0, FOUR(0),  FOUR(10000), TWO(1000),
+    FOUR(300), 'D', 0, FOUR(-1), FOUR(-333),  TWO(1000),
 };
 
 static void add(basket *to, const sample *question) {
@@ -59,7 +65,7 @@ static void as_many_as_there_may_be(void) {
     expect("length of a full basket", (long long)answer.length, (long long)(answers + RAFTTWINE_BASKET_QUESTIONS * lines));
     for (size_t at = 0; at < RAFTTWINE_BASKET_QUESTIONS; at++) {
         expect_bytes("answer of a full basket", out + at * RAFTTWINE_ANSWER_BYTES, written, RAFTTWINE_ANSWER_BYTES);
-        expect_bytes("lines of a full basket", out + answers + at * lines, written + 6 * RAFTTWINE_ANSWER_BYTES, lines);
+        expect_bytes("lines of a full basket", out + answers + at * lines, written + MIXED * RAFTTWINE_ANSWER_BYTES, lines);
     }
     expect_all("behind a full basket", UNTOUCHED, out + answer.length, sizeof out - answer.length);
 }
@@ -81,6 +87,7 @@ void prepare(void) {
     june_oak = read_sample("june_oak.question");
     add(&mixed, &june_oak);
     add_named(&mixed, "missing.question");
+    add_named(&mixed, "june_factors.question");
     add_named(&mixed, "june.question");
     add_named(&mixed, "next_year.question");
     add_named(&mixed, "mixed.question");

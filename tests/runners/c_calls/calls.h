@@ -22,6 +22,9 @@ int snprintf(char *to, size_t most, const char *format, ...);
 #define FOUR(number) \
     (uint32_t)(number) >> 24 & 255, (uint32_t)(number) >> 16 & 255, (uint32_t)(number) >> 8 & 255, (uint32_t)(number) & 255
 
+/* The two bytes of a factor, likewise. */
+#define TWO(number) (uint32_t)(number) >> 8 & 255, (uint32_t)(number) & 255
+
 typedef struct sample {
     size_t length;
     uint8_t bytes[4096];

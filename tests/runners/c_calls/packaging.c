@@ -1,4 +1,5 @@
-/* The packaging call: the weights worked by hand, values that are not known, refusals, and pointers that are null. */
+/* The packaging call: the weights worked by hand, which no factor changes, values that are not known, refusals, and pointers that are
+ * null. */
 #include "calls.h"
 
 const long most_stack = RAFTTWINE_STACK_BYTES;
@@ -42,8 +43,10 @@ void check_call(void) {
     static const int64_t wide[8] = {2, 0, 0, 0, 0, 0, 0, 0};
     sample carton = read_sample("carton.question");
     sample carton_wide = read_sample("carton_wide.question");
+    sample carton_factor = read_sample("carton_factor.question");
     packed(&carton, 32000, plain, 255, "MMTLTRKGM");
     packed(&carton_oak, 38000, oak, 255, "MMTLTRKGM");
+    packed(&carton_factor, 38000, oak, 255, "MMTLTRKGM");
     packed(&carton_wide, 0, wide, 1, "CMT\0\0\0\0\0\0");
     asked_and_refused("missing.question", RAFTTWINE_NO_ARTICLE);
     asked_and_refused("june.question", RAFTTWINE_NO_PACKAGING);

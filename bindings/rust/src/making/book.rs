@@ -1,6 +1,6 @@
 //! Price books.
 
-use super::packer::{append, empty_whole, Packed, Packer};
+use super::packer::{append, empty_whole, Packed, Packer, VERSION};
 use super::warning::Remark;
 use super::{Article, FieldError, PackagingRow, PriceRow, Rounding, Scheme, Warning};
 use crate::records_of;
@@ -87,7 +87,7 @@ pub struct Book {
 impl Book {
     /// A book without records.
     pub fn new() -> Book {
-        Book { bytes: empty_whole(), records: 0, warnings: Vec::new() }
+        Book { bytes: empty_whole(VERSION), records: 0, warnings: Vec::new() }
     }
 
     /// Packs a record behind those that are there. If it is not in its layout, or the book has no room for it, the book stays as it

@@ -74,12 +74,13 @@ impl<'o> Packer<'o> {
 }
 
 const LENGTH_BYTES: usize = 4;
-const VERSION: u8 = 1;
+/// Of books and text books, and of questions without factors.
+pub(super) const VERSION: u8 = 1;
 
 /// A whole without anything in it.
-pub(super) fn empty_whole() -> Vec<u8> {
+pub(super) fn empty_whole(version: u8) -> Vec<u8> {
     let mut bytes = vec![0; LENGTH_BYTES];
-    bytes.push(VERSION);
+    bytes.push(version);
     set_length(&mut bytes);
     bytes
 }

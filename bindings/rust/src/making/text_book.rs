@@ -1,6 +1,6 @@
 //! Text books.
 
-use super::packer::{append, empty_whole, Packed};
+use super::packer::{append, empty_whole, Packed, VERSION};
 use super::FieldError;
 use crate::latin_1;
 use std::ops::Deref;
@@ -16,7 +16,7 @@ pub struct TextBook {
 impl TextBook {
     /// A text book without texts.
     pub fn new() -> TextBook {
-        TextBook { bytes: empty_whole(), texts: 0 }
+        TextBook { bytes: empty_whole(VERSION), texts: 0 }
     }
 
     /// Packs a text in Latin-1. If a letter of it is not in Latin-1, or there is no room for it, the book stays as it is.

@@ -3,8 +3,8 @@
 #![allow(dead_code)] // each test takes what it needs
 
 use rafttwine::{
-    Article, Book, Cents, Day, FieldError, PackagingRow, Percent, PriceRow, Property, Question, Rounding, Rule, Scheme, TextBook,
-    Way,
+    Article, Book, Cents, Day, Factor, FieldError, PackagingRow, Percent, PriceRow, Property, Question, Rounding, Rule, Scheme,
+    TextBook, Way,
 };
 
 /// A sample by its name.
@@ -104,15 +104,18 @@ fn add_packed(book: &mut Book) -> Result<(), FieldError> {
     Ok(())
 }
 
-fn questions() -> [(&'static str, Question<'static>); 17] {
+fn questions() -> [(&'static str, Question<'static>); 20] {
     let june = |article| Question::new(article, day(20240630));
+    let twice_and_a_half = Factor::thousandths(2_500).expect("a factor");
     let properties = [Property::valued(4, "OAK"), Property::hidden(2), Property::unselected(3)];
     [
         ("june_oak", june("A1").quantity(3).granted(["oak", "ash"]).currency("EUR")),
+        ("june_factors", june("A1").granted(["ash"]).granted_times("oak", twice_and_a_half)),
         ("july_oak", Question::new("A1", day(20240701)).granted(["oak"]).currency("EUR")),
         ("june", june("A1")),
         ("next_year", Question::new("A1", day(20250102))),
         ("calendar", Question::new("A1", day(20240629)).granted(["oak"]).currency("EUR")),
+        ("calendar_factors", Question::new("A1", day(20240629)).granted_times("oak", twice_and_a_half)),
         ("missing", june("NONE")),
         ("fives", june("R5")),
         ("euros", june("R100")),
@@ -122,6 +125,7 @@ fn questions() -> [(&'static str, Question<'static>); 17] {
         ("trimmed", june("T200").properties(properties)),
         ("carton", june("T100")),
         ("carton_oak", june("T100").granted(["oak"])),
+        ("carton_factor", june("T100").granted_times("oak", twice_and_a_half)),
         ("carton_pounds", june("T100").granted(["pounds"])),
         ("carton_below", june("T200")),
         ("carton_wide", june("T200").granted(["wide"])),

@@ -8,10 +8,10 @@ use Rattle.grants.proofs.grants_of.Tie as tie
 ruleset laws = (needs, fill-start, fill-here, fill-long, fill-short, fill-again, fill-end)
 
 abbrev Inv-loop : tie.InvT-loop
-Inv-loop q at n table₀ here₀ k₀ table here k = Filling q at n table here k
+Inv-loop q at n version table₀ here₀ k₀ table here k = Filling version q at n table here k
 
 abbrev μ-loop : tie.MeasureT-loop
-μ-loop q at n table₀ here₀ k₀ table here k = n - k
+μ-loop q at n version table₀ here₀ k₀ table here k = n - k
 
 pub grants-of-spec : {M : Type 1} → statement M
 grants-of-spec =
@@ -21,12 +21,14 @@ grants-of-spec =
     μ-loop
     (λ c. search laws)  -- loop-holds
     (λ c κs. search laws)  -- name-stop-requires
+    (λ c κs. search laws)  -- factor-of-requires
     (λ c. search needs)  -- add-from
     (λ c. search laws)  -- slice-aggregate-enter
     (λ c. search needs)  -- sub-enter
     (λ c. search needs)  -- part-enter-start
     (λ c. search needs)  -- part-enter-end
     (λ c κs. search laws)  -- enter-requires
+    (λ c κs. search laws)  -- next-name-requires
     (λ c. search needs)  -- add-k
     (λ c. search needs)  -- loop-less
     (λ c. search laws)  -- loop-again

@@ -18,6 +18,7 @@ ask-from-spec =
     (λ c. search needs)  -- add-wide-2
     (λ c. search needs)  -- shared-slice-read-wide-2
     (λ c. search needs)  -- shared-slice-read-t8-2
+    (λ c. search needs)  -- shared-slice-read-t8-3
     (λ c. search needs)  -- add-four-at
     (λ c κs. search laws)  -- four-at-requires
     (λ c. search needs)  -- cast-t16

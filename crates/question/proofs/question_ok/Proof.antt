@@ -16,9 +16,10 @@ question-ok-spec =
     (λ c. search needs)  -- sub-if3
     (λ c. search laws)  -- returns-3
     (λ c. search needs)  -- add-granted-end
+    (λ c. search needs)  -- shared-slice-read-granted-end
     (λ c κs. search laws)  -- granted-end-requires
     (λ c. search laws)  -- returns-4
     (λ c κs. search laws)  -- properties-end-requires
-    (λ c κs. search laws)  -- head-ok-requires
+    (λ c κs. search laws)  -- question-head-ok-requires
     (λ c κs. search laws)  -- terms-ok-requires
     (λ c. search laws))  -- returns-5

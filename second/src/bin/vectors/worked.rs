@@ -3,6 +3,7 @@
 use second::compare::Call;
 use second::file_compare::FileCall;
 use second::make::{self, Article, Packaging, Price, Question, Record, Rounding, Scheme, TextRecord};
+use second::price::LINE_LENGTH;
 
 use crate::vector::{Asked, Vector};
 
@@ -10,6 +11,8 @@ pub fn vectors() -> Vec<Vector> {
     let mut vectors = sums_of_k();
     vectors.extend(rounded_and_scaled());
     vectors.extend(traps());
+    vectors.extend(factors());
+    vectors.extend(factors_out_of_range());
     vectors.extend(order_and_cartons());
     vectors.extend(texts());
     vectors.extend(baskets());
@@ -62,8 +65,8 @@ fn sums_of_k() -> Vec<Vector> {
         price(&k, oak(20240701)),
         price(&k, ask(20240630)),
         price(&k, oak(20250101)),
-        with_room(price(&k, oak(20240630)), 42),
-        with_room(price(&k, oak(20240630)), 41),
+        with_room(price(&k, oak(20240630)), 3 * LINE_LENGTH),
+        with_room(price(&k, oak(20240630)), 3 * LINE_LENGTH - 1),
         calendar(&k, oak(20240629), 20250102),
         with_room(calendar(&k, oak(20240629), 20250102), 60),
         with_room(calendar(&k, oak(20240629), 20250102), 59),
@@ -110,6 +113,57 @@ fn traps() -> Vec<Vector> {
     ]
 }
 
+/// Questions of version 2: K by each factor at an end or next to one, rows of all levels with rounding, repeats, and the calls
+/// in whose answer no factor shows.
+fn factors() -> Vec<Vector> {
+    let day = 20240615;
+    let k = book_k();
+    let mut vectors: Vec<Vector> =
+        [0, 1, 999, 1_000, 1_001, 10_000].iter().map(|factor| price(&k, ask(20240630).factored(&[("oak", *factor)]))).collect();
+    let levels = book(&[
+        base(1_000).into(),
+        base(333).condition("OAK").rounding(1).into(),
+        Price::percent("A1", b'X', 1, 1_250).condition("OAK").into(),
+        Price::fixed("A1", b'X', -75).condition("ASH").rounding(1).into(),
+        Price::percent("A1", b'D', 2, -1_000).condition("ASH").rounding(2).into(),
+        Rounding::new(1, 0, 10).adds(4, -1).into(),
+        Rounding::new(2, 1, 5).adds(-3, 0).into(),
+        Packaging::new("A1", "").value(0, 7).into(),
+        Packaging::new("*", "ASH").value(0, 5).into(),
+    ]);
+    let both = || ask(day).factored(&[("oak", 1_500), ("Oak", 9), ("ash", 500), ("OAK", 10_000), ("elm", 0)]);
+    let with_room = |vector: Vector, room| Vector { room, ..vector };
+    let needed = 5 * LINE_LENGTH;
+    vectors.extend([
+        with_room(price(&levels, both()), needed + 3),
+        with_room(price(&levels, both()), needed),
+        with_room(price(&levels, both()), needed - 1),
+        calendar(&levels, both(), day),
+        calendar(&k, ask(20240629).factored(&[("oak", 2_000)]), 20250102),
+        other(Call::FinalNumber, &levels, both().valued(3, "V")),
+        other(Call::Packaging, &levels, both()),
+        basket(&levels, &[both(), ask(day).granted(&["oak"]), ask(day).version(2)], 3 * 33 + 9 * LINE_LENGTH),
+    ]);
+    vectors
+}
+
+/// A factor out of range refuses every call, also behind a repeat.
+fn factors_out_of_range() -> Vec<Vector> {
+    let k = book_k();
+    let over = || ask(20240630).factored(&[("oak", 1_000), ("ash", 10_001)]);
+    let repeat = || ask(20240630).factored(&[("oak", 1_000), ("Oak", 10_001)]);
+    vec![
+        price(&k, over()),
+        price(&k, repeat()),
+        price(&k, ask(20240630).factored(&[("oak", u16::MAX)])),
+        price(&k, ask(20240630).granted(&["oak"]).version(3)),
+        calendar(&k, over(), 20240630),
+        other(Call::FinalNumber, &k, repeat()),
+        other(Call::Packaging, &k, over()),
+        basket(&k, &[ask(20240630), repeat()], 100),
+    ]
+}
+
 /// P8 and P9.
 fn order_and_cartons() -> Vec<Vector> {
     let mut vectors = Vec::new();
@@ -147,14 +201,14 @@ fn baskets() -> Vec<Vector> {
     let oak = |date| ask(date).granted(&["oak"]);
     let several = [oak(20240630), oak(20250101), Question::new("A2", 20240630), ask(20240630), oak(20240701).quantity(3)];
     // Five answers, and eight lines of the three that have a price.
-    let needed = 5 * 33 + 8 * 14;
+    let needed = 5 * 33 + 8 * LINE_LENGTH;
     let with_a_broken_one = [oak(20240630), oak(20240631)];
     let mut cut = basket(&k, &several, needed);
     cut.second.pop();
     let many = |count| vec![Question::new("A", 20240630); count];
     vec![
         basket(&k, &[], 4),
-        basket(&k, &several[..1], 80),
+        basket(&k, &several[..1], 90),
         basket(&k, &several, needed + 5),
         basket(&k, &several, needed),
         basket(&k, &several, needed - 1),

@@ -7,7 +7,7 @@ mod refusals;
 use crate::archive;
 use crate::call::{Call, Names};
 use crate::document::Cells;
-use crate::price::{line_bytes, Line};
+use crate::price::{line_bytes, line_with, Line};
 use second::compare::pattern;
 use second::make::{self, Question};
 use second::Written;
@@ -29,6 +29,11 @@ struct Part {
 fn priced(lines: &[Line], unit: i64) -> Part {
     let lines = lines.iter().map(line_bytes).collect();
     Part { number: 0, unit, total: unit, currency: *b"EUR", unused: (0, 0), lines }
+}
+
+/// The same, with a factor for each line.
+fn priced_times(lines: &[(Line, u16)], unit: i64) -> Part {
+    Part { lines: lines.iter().map(|(line, factor)| line_with(line, *factor)).collect(), ..priced(&[], unit) }
 }
 
 /// A question without a price: a number and zeros, and no lines.

@@ -35,15 +35,20 @@ impl<A: Answer, T: Copy + PartialEq + Debug> Call<A, T> {
         let listed: Vec<u8> = rows.iter().map(|row| row.number("Number")).collect();
         let mut wrong: usize = self.vectors.iter().map(|vector| self.wrong(vector)).sum();
         wrong += rows.iter().map(|row| self.wrong_row(row)).sum::<usize>();
-        wrong += self.wrong(&self.example_vector(&document.example(self.name)));
+        let (examples, factors) = (document.examples(self.name), document.factors(self.name));
+        wrong += examples.iter().map(|example| self.wrong(&self.example_vector(example))).sum::<usize>();
+        wrong += factors.iter().map(|row| self.wrong_refusal(row)).sum::<usize>();
         if listed != self.refusals {
             wrong += 1;
             println!("WRONG, {}: the document lists the refusals {listed:?}, not {:?}", self.name, self.refusals);
         }
         let through: Vec<&str> = self.implementations.iter().map(|(who, _)| *who).collect();
-        let (name, vectors, rows, through) = (self.name, self.vectors.len(), rows.len(), through.join(" and "));
-        println!("{name}: {vectors} vectors, {rows} refusals and an example of the document, through {through}: {wrong} wrong");
-        wrong == 0 && vectors > 0
+        let (name, vectors, refusals) = (self.name, self.vectors.len(), rows.len() + factors.len());
+        let (examples, through) = (examples.len(), through.join(" and "));
+        let of_document =
+            format!("{refusals} refusals and {examples} example{} of the document", if examples == 1 { "" } else { "s" });
+        println!("{name}: {vectors} vectors, {of_document}, through {through}: {wrong} wrong");
+        wrong == 0 && vectors > 0 && examples > 0
     }
 
     /// Runs a vector through every implementation; how many did something else.
@@ -60,23 +65,31 @@ impl<A: Answer, T: Copy + PartialEq + Debug> Call<A, T> {
         wrong
     }
 
-    /// A row of the document has its refusal with nothing lent, and as many bytes as it says; no shorter input has that refusal.
-    fn wrong_row(&self, row: &Cells) -> usize {
-        let (first, second) = (row.bytes(self.names.first), self.second(row));
+    /// What a row of the document says of a refusal, with nothing lent.
+    fn refusal(&self, row: &Cells) -> Vector<A, T> {
         let (number, extra) = (row.number("Number"), self.names.extra.map_or(0, |name| row.number(name)));
-        let vector = Vector::refused(row.text("When"), &first, &second, number).at(row.place()).extra(extra).room(0);
+        let shows = format!("refusal {number} of the document");
+        Vector::refused(&shows, &row.bytes(self.names.first), &self.second(row), number).at(row.place()).extra(extra).room(0)
+    }
+
+    /// A row of the document has its refusal, and as many bytes as it says.
+    fn wrong_refusal(&self, row: &Cells) -> usize {
+        let vector = self.refusal(row);
+        let (first, second) = (vector.first.len(), vector.second.len());
         let mut wrong = self.wrong(&vector);
-        if first.len() + second.len() != row.number::<usize>("Bytes") {
+        if first + second != row.number::<usize>("Bytes") {
             wrong += 1;
-            println!(
-                "WRONG, {}: {} and {} bytes are not what the row of refusal {number} says",
-                self.name,
-                first.len(),
-                second.len()
-            );
+            println!("WRONG, {}: {first} and {second} bytes are not what the row of {} says", self.name, vector.shows);
         }
-        let with_first = shorter(&first).into_iter().map(|first| Vector { first, ..vector.clone() });
-        let with_second = shorter(&second).into_iter().map(|second| Vector { second, ..vector.clone() });
+        wrong
+    }
+
+    /// And of those that have it there is no shorter input.
+    fn wrong_row(&self, row: &Cells) -> usize {
+        let (vector, number) = (self.refusal(row), row.number("Number"));
+        let mut wrong = self.wrong_refusal(row);
+        let with_first = shorter(&vector.first).into_iter().map(|first| Vector { first, ..vector.clone() });
+        let with_second = shorter(&vector.second).into_iter().map(|second| Vector { second, ..vector.clone() });
         let as_short = |vector: &Vector<A, T>| {
             self.implementations.iter().any(|(_, call)| vector.run(self.fill, *call).answer.number() == number)
         };

@@ -40,6 +40,12 @@ struct Table {
     rows: Vec<Vec<String>>,
 }
 
+impl Table {
+    fn cells(&self) -> Vec<Cells> {
+        self.rows.iter().map(|row| Cells(self.heads.iter().cloned().zip(row.iter().cloned()).collect())).collect()
+    }
+}
+
 pub struct Document(Vec<Table>);
 
 /// The cells of a table's line without the ticks around them; `None` if the line is of no table.
@@ -71,22 +77,32 @@ impl Document {
         Document(tables)
     }
 
-    /// The table with this first head in the section whose heading names the call.
-    fn table(&self, call: &str, head: &str) -> &Table {
+    /// The tables in the section whose heading names the call.
+    fn tables<'d>(&'d self, call: &str) -> impl Iterator<Item = &'d Table> {
         let ticked = format!("`{call}`");
-        let found = self.0.iter().find(|table| table.section.contains(&ticked) && table.heads[0] == head);
+        self.0.iter().filter(move |table| table.section.contains(&ticked))
+    }
+
+    /// The one among them with this first head.
+    fn table(&self, call: &str, head: &str) -> &Table {
+        let found = self.tables(call).find(|table| table.heads[0] == head);
         found.unwrap_or_else(|| panic!("the document's section of {call} has no table of `{head}`"))
     }
 
     /// The rows of a call's table of refusals.
     pub fn rows(&self, call: &str) -> Vec<Cells> {
-        let table = self.table(call, "Number");
-        table.rows.iter().map(|row| Cells(table.heads.iter().cloned().zip(row.iter().cloned()).collect())).collect()
+        self.table(call, "Number").cells()
     }
 
-    /// An example's names with what stands beside them.
-    pub fn example(&self, call: &str) -> Cells {
-        Cells(self.table(call, "Example").rows.iter().map(|row| (row[0].clone(), row[1].clone())).collect())
+    /// The rows of a call's table of factors, if it has one.
+    pub fn factors(&self, call: &str) -> Vec<Cells> {
+        self.tables(call).filter(|table| table.heads[0] == "Factor").flat_map(Table::cells).collect()
+    }
+
+    /// Of each example of a call the names with what stands beside them.
+    pub fn examples(&self, call: &str) -> Vec<Cells> {
+        let examples = self.tables(call).filter(|table| table.heads[0].starts_with("Example"));
+        examples.map(|table| Cells(table.rows.iter().map(|row| (row[0].clone(), row[1].clone())).collect())).collect()
     }
 
     /// The fields of a struct with their offsets, from the table with the struct's name as its first head; or nothing.

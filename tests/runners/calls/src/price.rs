@@ -2,6 +2,7 @@
 
 mod choice;
 mod currency;
+mod factors;
 mod granted;
 mod refusals;
 mod rounding;
@@ -19,8 +20,18 @@ use second::PriceAnswer;
 /// A line: text number, level, place of its granted name, amount.
 pub type Line = (u32, char, u8, i64);
 
-pub fn line_bytes((text, level, place, amount): &Line) -> Vec<u8> {
-    [&text.to_be_bytes()[..], &[*level as u8, *place], &amount.to_be_bytes()].concat()
+pub const LINE_BYTES: usize = 16;
+
+/// The factor of a line without a condition, and of every line of a question of version 1.
+const ONE: u16 = 1_000;
+
+pub fn line_bytes(line: &Line) -> Vec<u8> {
+    line_with(line, ONE)
+}
+
+/// A line with its factor behind it.
+pub fn line_with((text, level, place, amount): &Line, factor: u16) -> Vec<u8> {
+    [&text.to_be_bytes()[..], &[*level as u8, *place], &amount.to_be_bytes(), &factor.to_be_bytes()].concat()
 }
 
 type Vector = crate::vector::Vector<PriceAnswer, u8>;
@@ -86,6 +97,7 @@ pub fn call() -> Call<PriceAnswer, u8> {
         choice::vectors(),
         currency::vectors(),
         granted::vectors(),
+        factors::vectors(),
         rounding::vectors(),
         totals::vectors(),
         refusals::vectors(),

@@ -1,20 +1,19 @@
 -- `question::names::granted_end` meets its contract: the names that are left decide about all of them, by the laws `count-..`.
-use Rattle.rules.specs.Bytes.{name}
-use Rattle.layout.specs.Reads.{nameStop, nameAt}
+use Rattle.rules.specs.Question.{grantedIn}
 use Rattle.layout.specs.Counted.{Left}
 use borrow.Author.Needs.{needs}
 use Rattle.layout.proofs.CountedLaws.{count-cut, count-many, count-start, count-end, count-broken, count-again}
-use Rattle.layout.proofs.NameEndLaws.{name-ends}
+use Rattle.question.specs.Parts.{grantedAt, grantedStop}
 use Rattle.question.proofs.names.granted_end.Statement.{statement}
 use Rattle.question.proofs.names.granted_end.Tie as tie
 
-ruleset laws = (needs, count-cut, count-many, count-start, count-end, count-broken, count-again, name-ends)
+ruleset laws = (needs, count-cut, count-many, count-start, count-end, count-broken, count-again)
 
 abbrev Inv-loop : tie.InvT-loop
-Inv-loop s at n₀ end₀ n end = Left (name 1 20) nameAt nameStop s at end n
+Inv-loop s at version n₀ end₀ n end = Left (grantedIn version) (grantedAt version) (grantedStop version) s at end n
 
 abbrev μ-loop : tie.MeasureT-loop
-μ-loop s at n₀ end₀ n end = n
+μ-loop s at version n₀ end₀ n end = n
 
 pub granted-end-spec : {M : Type 1} → statement M
 granted-end-spec =
@@ -28,7 +27,7 @@ granted-end-spec =
     (λ c. count-many _ _ _ _ _ (search needs) (search needs))  -- returns-2
     (λ c. search needs)  -- add-end
     (λ c. search laws)  -- loop-holds
-    (λ c κs. search laws)  -- name-end-requires
+    (λ c κs. search laws)  -- grant-end-requires
     (λ c. search laws)  -- returns-3
     (λ c. search needs)  -- sub-n
     (λ c. search needs)  -- loop-less

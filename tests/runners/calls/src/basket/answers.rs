@@ -1,13 +1,13 @@
 //! Answers: each question's is its own, in the order of the questions, and the lines stand behind them all.
 
-use super::{answered, priced, without, written, Part, Vector};
+use super::{answered, priced, priced_times, without, written, Part, Vector};
 use crate::book;
 use crate::parts::{ask, base, extra, hex, k, off, DAY};
 use crate::price::Line;
-use second::make::{self, Article, Price, Question, Record};
+use second::make::{self, Article, Granted, Price, Question, Record};
 
 pub fn vectors() -> Vec<Vector> {
-    [sums(), refused_between(), own_terms(), own_names(), lengths()].concat()
+    [sums(), refused_between(), own_terms(), own_names(), own_factors(), lengths()].concat()
 }
 
 fn in_hex(shows: &str, questions: &[Question], bytes: &str) -> Vector {
@@ -17,9 +17,9 @@ fn in_hex(shows: &str, questions: &[Question], bytes: &str) -> Vector {
 /// P1 to P4 of book K, byte by byte: numbers, unit totals, totals, currencies, lines, unused sets and their counts; then lines.
 fn sums() -> Vec<Vector> {
     let oak = |date| ask(date).granted(&["oak"]);
-    let p1 = "01020304 42 00 0000000000002710 00000007 58 01 00000000000004e2 80000000 44 00 fffffffffffffe89";
-    let p2 = "ffffffff 42 00 0000000000002904 00000007 58 01 0000000000000521 80000000 44 00 fffffffffffffe77";
-    let p3 = "01020304 42 00 0000000000002710 80000000 44 00 fffffffffffffeb3";
+    let p1 = "01020304 42 00 0000000000002710 03e8 00000007 58 01 00000000000004e2 03e8 80000000 44 00 fffffffffffffe89 03e8";
+    let p2 = "ffffffff 42 00 0000000000002904 03e8 00000007 58 01 0000000000000521 03e8 80000000 44 00 fffffffffffffe77 03e8";
+    let p3 = "01020304 42 00 0000000000002710 03e8 80000000 44 00 fffffffffffffeb3 03e8";
     let one = "00 0000000000002a7b 0000000000002a7b 455552 0000000000000003 00000000 00";
     let three = "00 0000000000002a7b 0000000000007f71 455552 0000000000000003 00000000 00";
     let two = "00 0000000000002c9c 0000000000002c9c 455552 0000000000000003 00000000 00";
@@ -104,17 +104,41 @@ fn own_names() -> Vec<Vector> {
     ]
 }
 
+/// Questions of both versions, each with its own factors.
+fn own_factors() -> Vec<Vector> {
+    let book = book![base(1, 1_000), extra(2, 10).condition("OAK")];
+    let plain: Line = (1, 'B', 0, 1_000);
+    let oak = |factor, amount| {
+        let lines = [(plain, 1_000), ((2, 'X', 1, amount), factor)];
+        (ask(DAY).factored(&[("oak", factor)]), priced_times(&lines, 1_000 + amount))
+    };
+    let first = (ask(DAY).granted(&["oak"]), priced(&[plain, (2, 'X', 1, 10)], 1_010));
+    let none = (ask(DAY).version(2), priced(&[plain], 1_000));
+    let unused = (ask(DAY).factored(&[("ash", 0)]), priced(&[plain], 1_000).unused(1, 1));
+    let missing = (Question::new("A2", DAY).factored(&[("oak", 500)]), without(3));
+    vec![
+        answered("both versions by turns", &book, &[oak(500, 5), first.clone(), oak(2_500, 25), none, first.clone()]),
+        answered("without a price, and unused, between factors", &book, &[oak(0, 0), missing, unused, oak(10_000, 100), first]),
+    ]
+}
+
 /// Questions of different lengths, and no question at all.
 fn lengths() -> Vec<Vector> {
     let book = book![base(1, 1_000)];
     let part = priced(&[(1, 'B', 0, 1_000)], 1_000);
     let long = (0..32).fold(ask(DAY), |asked, _| asked.valued(30, &"V".repeat(30)));
-    let longest = Question { granted: vec![vec![b'A'; 20]; 32], ..long.clone() };
-    let few = [(ask(DAY), part.clone()), (long, part.clone()), (ask(DAY), part.clone()), (longest, part.unused(1, 1))];
+    let of_version_2 = (longest_of_version_2(&long), part.clone().unused(1, 1));
+    let longest = Question { granted: vec![Granted::new(vec![b'A'; 20]); 32], ..long.clone() };
+    let few =
+        [(ask(DAY), part.clone()), of_version_2, (long, part.clone()), (ask(DAY), part.clone()), (longest, part.unused(1, 1))];
     let none = answered("no question, and nothing is written", &book, &[]);
     vec![
         answered("the shortest and the longest questions", &book, &few),
         Vector { shows: "no question and no room".to_string(), ..none.clone().room(0) },
         none,
     ]
+}
+
+fn longest_of_version_2(long: &Question) -> Question {
+    Question { granted: vec![Granted { name: vec![b'A'; 20], factor: 10_000 }; 32], ..long.clone().version(2) }
 }

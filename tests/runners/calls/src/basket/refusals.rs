@@ -41,6 +41,7 @@ fn broken() -> Vec<Vector> {
         ("an empty article", Question::new("", DAY).bytes()),
         ("a sort that is none", bent(8, b'X')),
         ("an empty granted name", ask(DAY).granted(&[""]).bytes()),
+        ("a factor of 10,001", ask(DAY).factored(&[("oak", 10_001)]).bytes()),
         ("a value wider than its width", ask(DAY).valued(1, "AB").bytes()),
     ];
     let at_each_place = |(fault, bad): &(&str, Vec<u8>)| {

@@ -2,12 +2,12 @@
 
 use super::{at, without, Vector};
 use crate::book;
-use crate::parts::{ask, base, extra, hex, off, share};
+use crate::parts::{ask, base, extra, hex, k as parts_k, off, share};
 use second::make::{self, Article, Price};
 use second::Stretch;
 
 pub fn vectors() -> Vec<Vector> {
-    [k(), merged(), parted(), refused_days(), other_rows(), rows_never_chosen(), overlaps(), dearest()].concat()
+    [k(), factors(), merged(), parted(), refused_days(), other_rows(), rows_never_chosen(), overlaps(), dearest()].concat()
 }
 
 fn k() -> Vec<Vector> {
@@ -39,6 +39,30 @@ fn k() -> Vec<Vector> {
             20240101,
             &[without(20231231, 20231231, 4), at(20240101, 20240101, 9_667)],
         ),
+    ]
+}
+
+/// Twice oak in K: 2500, and 3.33 % of 12500 is 416.25; then 2625, and 3.33 % of 13125 is 437.0625. By 0 a change of row changes nothing.
+fn factors() -> Vec<Vector> {
+    let twice = [at(20240629, 20240630, 12_084), at(20240701, 20241231, 12_688), without(20250101, 20250102, 4)];
+    let rising = book![
+        base(1, 100),
+        extra(2, 10).condition("OAK").dates(20240101, 20240630),
+        extra(3, 20).condition("OAK").dates(20240701, 20241231)
+    ];
+    let oak = |factor| ask(20240629).factored(&[("oak", factor)]);
+    vec![
+        Vector::new("K with twice oak", &parts_k(), &oak(2_000), 20250102, &twice),
+        Vector::new(
+            "a surcharge that rises, by 10",
+            &rising,
+            &oak(10_000),
+            20240702,
+            &[at(20240629, 20240630, 200), at(20240701, 20240702, 300)],
+        ),
+        Vector::new("the same by 0: one stretch", &rising, &oak(0), 20240702, &[at(20240629, 20240702, 100)]),
+        Vector::refused("a factor of 10,001", &rising, &oak(10_001).bytes(), 20240702, 2),
+        Vector::refused("a factor of 10,001 goes before an end that is no day", &rising, &oak(10_001).bytes(), 0, 2),
     ]
 }
 

@@ -4,7 +4,7 @@ use super::{ask, book, written, Vector};
 use second::make::Scheme;
 
 pub fn vectors() -> Vec<Vector> {
-    [p8(), cupboard(), states(), characters(), widths(), many(), odd_values()].concat()
+    [p8(), version_2(), cupboard(), states(), characters(), widths(), many(), odd_values()].concat()
 }
 
 fn p8() -> Vec<Vector> {
@@ -15,6 +15,17 @@ fn p8() -> Vec<Vector> {
         written("P8: trimmed", &book("T100", scheme.clone().trim(1)), &question, "T100 OAK_--_XXX"),
         written("P8 with nothing shown for hidden", &book("T100", scheme.clone().visibility(0)), &question, "T100 OAK _XXX"),
         written("the same trimmed", &book("T100", scheme.visibility(0).trim(1)), &question, "T100 OAK_XXX"),
+    ]
+}
+
+/// The properties stand behind the factors, of however many names.
+fn version_2() -> Vec<Vector> {
+    let book = book("T100", Scheme::new("S", "", "_"));
+    let asked = |names: &[(&str, u16)]| ask("T100").factored(names).valued(4, "OAK").hidden(2).unselected(3);
+    vec![
+        written("P8 of version 2 without names", &book, &asked(&[]), "T100 OAK _--_XXX"),
+        written("P8 behind two factors", &book, &asked(&[("oak", 0), ("ash", 10_000)]), "T100 OAK _--_XXX"),
+        Vector::refused("P8 behind a factor of 10,001", &book, &asked(&[("oak", 10_001)]).bytes(), 2),
     ]
 }
 

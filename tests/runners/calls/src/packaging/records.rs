@@ -4,7 +4,7 @@ use super::{any, ask, book, own, Vector, ITEMS, PACKS, WIDTH};
 use second::make::{self, Article, Packaging, Question, Record};
 
 pub fn vectors() -> Vec<Vector> {
-    [own_or_any(), first_counts(), granted(), below_zero_and_back()].concat()
+    [own_or_any(), first_counts(), granted(), factors(), below_zero_and_back()].concat()
 }
 
 /// Whole packs alone; bit 7 of the presence bits.
@@ -39,6 +39,18 @@ fn first_counts() -> Vec<Vector> {
         counted("of two unconditioned records the first", &plain, &[], 1),
         counted("of two own records the first", &mine, &["OAK"], 11),
         counted("of two star records the first", &stars, &["OAK"], 101),
+    ]
+}
+
+/// Cartons weigh what they weigh: a factor multiplies none of them, and 0 takes none away.
+fn factors() -> Vec<Vector> {
+    let book = book(&[packs(own(""), 1), packs(own("OAK"), 10), packs(any("ASH"), 100)]);
+    let with = |names: &[(&str, u16)]| ask(&[]).factored(names);
+    let all = [0, 0, 0, 0, 0, 0, 0, 111];
+    vec![
+        Vector::packed("factors of 0 and 10", &book, &with(&[("oak", 0), ("ash", 10_000), ("OAK", 1)]), 0x80, all, 0),
+        Vector::packed("version 2 without names", &book, &with(&[]), 0x80, [0, 0, 0, 0, 0, 0, 0, 1], 0),
+        Vector::refused("a factor of 10,001", &book, &with(&[("oak", 10_001)]).bytes(), 2),
     ]
 }
 

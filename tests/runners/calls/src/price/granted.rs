@@ -1,6 +1,6 @@
 //! Granted names: raised, each once at its first place; where a name has no line, its place is in the set of unused ones.
 
-use super::{Line, Vector};
+use super::{Line, Vector, LINE_BYTES};
 use crate::book;
 use crate::parts::{ask, base, extra, off, share, DAY};
 use second::make::{self, Article, Price, Question, Record};
@@ -123,6 +123,6 @@ fn all_lines() -> Vec<Vector> {
     let records: Vec<Record> = lines.iter().rev().map(row).chain([Article::new("A1", "").into()]).collect();
     let question = granting_all(&names).quantity(2);
     let vector = Vector::priced("99 lines, the most there can be", &make::book(&records), &question, &lines, 6_228).total(12_456);
-    let full = vector.clone().room(1_386);
+    let full = vector.clone().room(lines.len() * LINE_BYTES);
     vec![vector, full]
 }

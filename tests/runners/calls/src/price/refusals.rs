@@ -1,7 +1,7 @@
 //! Refusals: of several faults the first in the order 1 to 7 is told; and the room for the lines. The least input for each number
 //! stands in the document.
 
-use super::Vector;
+use super::{Vector, LINE_BYTES};
 use crate::book;
 use crate::parts::{ask, base, extra, off, share, DAY};
 use second::make::{self, Record};
@@ -34,7 +34,7 @@ fn ladder() -> Vec<Vector> {
         Vector::refused("a foreign line behind a total out of range", &all, &foreign, 5).room(0),
         Vector::refused("a total out of range, and no room", &all, &high, 6).room(0),
         Vector::refused("no room", &fair, &high, 7).room(0),
-        Vector::priced("nothing wrong", &fair, &ask(DAY), &[(1, 'B', 0, 100_000_000)], 100_000_000).room(14),
+        Vector::priced("nothing wrong", &fair, &ask(DAY), &[(1, 'B', 0, 100_000_000)], 100_000_000).room(LINE_BYTES),
     ]
 }
 
@@ -63,18 +63,18 @@ fn bent() -> Vec<Vector> {
     ]
 }
 
-/// Two lines are 28 bytes.
 fn room() -> Vec<Vector> {
+    let due = 2 * LINE_BYTES;
     let book = book![base(1, 1_000), off(2, -1)];
     let priced = Vector::priced("", &book, &ask(DAY), &[(1, 'B', 0, 1_000), (2, 'D', 0, -1)], 999);
     let refused = Vector::refused("", &book, &ask(DAY).bytes(), 7);
     let of = |vector: &Vector, shows: &str, room| Vector { shows: shows.to_string(), ..vector.clone().room(room) };
     vec![
-        of(&priced, "room for two lines, just enough", 28),
-        of(&priced, "a byte more than enough", 29),
+        of(&priced, "room for two lines, just enough", due),
+        of(&priced, "a byte more than enough", due + 1),
         of(&priced, "much more than enough", 5_000),
-        of(&refused, "a byte short", 27),
-        of(&refused, "room for one line of two", 14),
+        of(&refused, "a byte short", due - 1),
+        of(&refused, "room for one line of two", LINE_BYTES),
         of(&refused, "a single byte", 1),
         of(&refused, "no room at all", 0),
     ]
