@@ -81,7 +81,7 @@ extern "C" {
 
 /* This header's version. The first number changes when a program has to be compiled anew, the second when something is added. */
 #define RAFTTWINE_VERSION_MAJOR 2
-#define RAFTTWINE_VERSION_MINOR 0
+#define RAFTTWINE_VERSION_MINOR 1
 #define RAFTTWINE_VERSION_PATCH 0
 /* As one number that grows from version to version, and as text with dots between. */
 #define RAFTTWINE_VERSION_NUMBER (RAFTTWINE_VERSION_MAJOR * 10000 + RAFTTWINE_VERSION_MINOR * 100 + RAFTTWINE_VERSION_PATCH)

@@ -481,6 +481,9 @@ impl Scene {
         for _ in 0..self.random.below(5) {
             records.push(self.rounding().into());
         }
+        if self.random.percent(25) {
+            self.half_row(&mut records);
+        }
         self.packagings(&mut records);
         for _ in 0..self.random.below(4) {
             records.push(self.scheme().into());
@@ -670,6 +673,26 @@ impl Scene {
             add_before: self.random.pick(if tame { &ADDS[..10] } else { &ADDS }),
             add_after: self.random.pick(if tame { &ADDS[..10] } else { &ADDS }),
         }
+    }
+
+    /// A row that comes to a half of a step with what is added before, to one side of zero or the other, and its rounding, whose
+    /// number no other has.
+    fn half_row(&mut self, records: &mut Vec<Record>) {
+        let step = self.random.pick(&[2, 10, 50, 100, 1_000]);
+        let add_before = self.random.pick(&[0, 0, 1, -1, step, -step, 2 * step, -2 * step]);
+        let half_steps = self.random.pick(&[-3, -1, -1, -1, 1, 3]);
+        let number = 4;
+        let row = Price {
+            article: self.article.clone(),
+            sort: self.sort,
+            fixed: 1,
+            value: half_steps * step / 2 - add_before,
+            rounding: number,
+            ..self.price_row()
+        };
+        records.push(row.into());
+        let (way, add_after) = (2, self.random.pick(&ADDS[..8]));
+        records.push(Rounding { number, way, step: step as u32, add_before, add_after }.into());
     }
 
     fn packagings(&mut self, records: &mut Vec<Record>) {

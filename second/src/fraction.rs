@@ -43,9 +43,13 @@ impl Fraction {
         -(-self.numerator).div_euclid(self.denominator)
     }
 
-    /// The nearest whole number; of two equally near ones the greater.
+    /// The nearest whole number; of two equally near ones the one farther from zero.
     pub fn nearest(self) -> i128 {
-        self.plus(Fraction::over(1, 2)).floor()
+        if self.numerator < 0 {
+            self.plus(Fraction::over(-1, 2)).ceiling()
+        } else {
+            self.plus(Fraction::over(1, 2)).floor()
+        }
     }
 }
 
@@ -53,13 +57,33 @@ impl Fraction {
 mod tests {
     use super::Fraction;
 
+    /// The whole number not above, the one not below, and the nearest.
+    fn rounded(numerator: i128, denominator: i128) -> (i128, i128, i128) {
+        let fraction = Fraction::over(numerator, denominator);
+        (fraction.floor(), fraction.ceiling(), fraction.nearest())
+    }
+
     #[test]
-    fn rounds_below_zero_as_above() {
-        let half = Fraction::over(-1, 2);
-        assert_eq!((half.floor(), half.ceiling(), half.nearest()), (-1, 0, 0));
-        let more = Fraction::over(-3, 2);
-        assert_eq!((more.floor(), more.ceiling(), more.nearest()), (-2, -1, -1));
-        let whole = Fraction::whole(-7);
-        assert_eq!((whole.floor(), whole.ceiling(), whole.nearest()), (-7, -7, -7));
+    fn halves_go_away_from_zero() {
+        assert_eq!(rounded(1, 2), (0, 1, 1));
+        assert_eq!(rounded(-1, 2), (-1, 0, -1));
+        assert_eq!(rounded(3, 2), (1, 2, 2));
+        assert_eq!(rounded(-3, 2), (-2, -1, -2));
+        assert_eq!(rounded(-10, 4), (-3, -2, -3));
+    }
+
+    #[test]
+    fn what_is_no_half_goes_to_the_nearest() {
+        for near in [499, 501] {
+            let up = i128::from(near > 500);
+            assert_eq!(rounded(near, 1_000), (0, 1, up));
+            assert_eq!(rounded(-near, 1_000), (-1, 0, -up));
+            assert_eq!(rounded(7_000 + near, 1_000), (7, 8, 7 + up));
+            assert_eq!(rounded(-7_000 - near, 1_000), (-8, -7, -7 - up));
+        }
+        for whole in [-7, -1, 0, 1, 7] {
+            assert_eq!(rounded(whole, 1), (whole, whole, whole));
+            assert_eq!(rounded(3 * whole, 3), (whole, whole, whole));
+        }
     }
 }

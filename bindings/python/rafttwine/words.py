@@ -43,7 +43,7 @@ class Rule(IntEnum):
 
 
 class Way(IntEnum):
-    """To which multiple of its step an amount is rounded: not above it, not below it, or the nearest (halves to the greater)."""
+    """To which multiple of its step an amount is rounded: not above it, not below it, or the nearest (halves away from zero)."""
 
     DOWN = 0
     UP = 1

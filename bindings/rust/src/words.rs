@@ -38,7 +38,7 @@ pub enum Way {
     Down,
     /// To the one that is not below it.
     Up,
-    /// To the nearest, halves to the greater.
+    /// To the nearest, halves to the multiple farther from zero.
     Commercial,
 }
 

@@ -1,17 +1,19 @@
--- Whole numbers of steps, as code comes to them: up by what is added before going down, and the nearest by what is left over.
+-- Whole numbers of steps, as code comes to them: up by what is added before going down, and the nearest by what is left over, counted from zero
+-- either way.
 use Prim.Native.Nat.{ℕ, _+_, _*_, _<_, _≤_}
-use mathlib.Core.Path.{_≡_, sym}
+use mathlib.Core.Path.{_≡_, refl, sym, ap, _∙_}
 use native.Mathlib.Nat.{mul-zero}
 use native.Mathlib.Omega.{arith}
-use lib.IntN.{ℤ, pos, negℤ, natAbs, _+ℤ_, _-ℤ_, _*ℤ_, +ℤ-one, sucℤ-*ℤ}
+use lib.IntN.{ℤ, pos, negsuc, negℤ, natAbs, _+ℤ_, _-ℤ_, _*ℤ_, +ℤ-one, +ℤ-idl, sucℤ-*ℤ}
 use lib.Dec.{T, leb, leb→le}
 use lib.Signed.{_≤ℤ_, _<ℤ_}
 use mir.Syntax.{w64}
 use mir.Val.{SFits}
 use Rattle.integers.specs.Floor.{floor}
-use Rattle.integers.proofs.Signed.{parts, up-mul, dn-mul, up, dn, le-in, lt-in, le-of, lt-of, fits64, abs-add, abs-neg, abs-parts, abs-le, sum-parts, sub-parts, mul-pos-pos}
-use Rattle.integers.proofs.FloorLaws.{floor-le, floor-lt, floor-unique}
+use Rattle.integers.proofs.Signed.{parts, up-mul, dn-mul, up, dn, le-in, lt-in, le-of, lt-of, fits64, abs-add, abs-mul, abs-neg, abs-parts, abs-le, sum-parts, sub-parts, mul-pos-pos}
+use Rattle.integers.proofs.FloorLaws.{floor-le, floor-lt, floor-abs, floor-unique}
 use Rattle.rules.specs.Amounts.{ceiling, nearest}
+use Rattle.amounts.specs.Contracts.{InSteps, fromHalfOn}
 use Rattle.rules.proofs.RoundingLaws.{ceiling-ge, ceiling-lt}
 
 -- ---- up: all but one part of a step more, and then down
@@ -68,9 +70,8 @@ module _ (z full : ℤ) (n : ℕ) (some : 0 < n) (is : full ≡ floor z n) where
   pub left-in : natAbs (z -ℤ full *ℤ pos n) ≤ n
   left-in = begun-in (full *ℤ pos n) z n low high
 
-  pub nearest-full : ((z -ℤ full *ℤ pos n) *ℤ pos 2) <ℤ pos n → full ≡ nearest z n
-  unfolding nearest
-  nearest-full h =
+  pub half-full : ((z -ℤ full *ℤ pos n) *ℤ pos 2) <ℤ pos n → full ≡ fromHalfOn z n
+  half-full h =
       floor-unique (z *ℤ pos 2 +ℤ pos n) full (n * 2) (omega arith)
       (rw mul-pos-pos (full-low (full *ℤ pos n) z n low high))
       (rw mul-pos-pos (full-high (full *ℤ pos n) z n low high h))
@@ -78,9 +79,37 @@ module _ (z full : ℤ) (n : ℕ) (some : 0 < n) (is : full ≡ floor z n) where
   next-is : (full +ℤ pos 1) *ℤ pos (n * 2) ≡ full *ℤ pos n *ℤ pos 2 +ℤ pos (n * 2)
   next-is = rw (+ℤ-one, sucℤ-*ℤ, mul-pos-pos)
 
-  pub nearest-next : pos n ≤ℤ ((z -ℤ full *ℤ pos n) *ℤ pos 2) → full +ℤ pos 1 ≡ nearest z n
-  unfolding nearest
-  nearest-next h =
+  pub half-next : pos n ≤ℤ ((z -ℤ full *ℤ pos n) *ℤ pos 2) → full +ℤ pos 1 ≡ fromHalfOn z n
+  half-next h =
       floor-unique (z *ℤ pos 2 +ℤ pos n) (full +ℤ pos 1) (n * 2) (omega arith)
       (rw next-is (next-low (full *ℤ pos n) z n low high h))
       (rw next-is (next-high (full *ℤ pos n) z n low high))
+
+-- ---- from zero up, and below zero
+
+pub nearest-above : (z : ℤ) (n : ℕ) → pos 0 ≤ℤ z → fromHalfOn z n ≡ nearest z n
+unfolding nearest floor
+nearest-above (pos a) n h = refl
+nearest-above (negsuc a) n h = absurd (h .le)
+
+-- as far below zero as above it
+turned : (z : ℤ) (n : ℕ) → z <ℤ pos 0 → negℤ (fromHalfOn (negℤ z) n) ≡ nearest z n
+unfolding nearest floor
+turned (pos a) n h = absurd (omega (arith, lt-in h))
+turned (negsuc a) n h = refl
+
+pub nearest-below : (z : ℤ) (n : ℕ) → z <ℤ pos 0 → pos 0 -ℤ fromHalfOn (pos 0 -ℤ z) n ≡ nearest z n
+nearest-below z n h = +ℤ-idl (negℤ (fromHalfOn (pos 0 -ℤ z) n)) ∙ (ap (λ (x : ℤ). negℤ (fromHalfOn x n)) (+ℤ-idl (negℤ z)) ∙ turned z n h)
+
+module _ (z : ℤ) (n : ℕ) (ok : InSteps z n) where
+  pub turned-in : InSteps (pos 0 -ℤ z) n
+  turned-in = record { some = ok .some; few = ok .few; z-in = omega (arith, abs-add (pos 0) (negℤ z), abs-neg z, ok .z-in) }
+
+  pub turned-fits : SFits w64 (pos 0 -ℤ z)
+  turned-fits = fits64 (pos 0 -ℤ z) (omega (arith, turned-in .z-in))
+
+  pub half-fits : SFits w64 (pos 0 -ℤ fromHalfOn z n)
+  half-fits =
+      let x = z *ℤ pos 2 +ℤ pos n in
+      fits64 (pos 0 -ℤ fromHalfOn z n)
+      (omega (arith, abs-add (pos 0) (negℤ (fromHalfOn z n)), abs-neg (fromHalfOn z n), floor-abs x (n * 2), abs-add (z *ℤ pos 2) (pos n), abs-mul z (pos 2), ok .z-in, ok .few))

@@ -2,10 +2,11 @@
 -- 10^4 are a cent; by a factor of up to 10^4 thousandths it has 10^18 parts, 10^7 to a cent. A fixed amount stays far below, 10^8 times 10^4. What is
 -- added before is up to 10^6 cents, 10^13 parts, and a step up to 10^6 cents, 10^13 parts too: so nothing that is counted in steps is over 1.00001
 -- times 10^18 parts, twice a begun step is at most 2 times 10^13, and 64 bits hold 9 times 10^18.
-use Prim.Native.Nat.{ℕ, _+_, _<_, _≤_}
+use Prim.Native.Nat.{ℕ, _+_, _*_, _<_, _≤_}
 use mathlib.Core.Path.{_≡_}
 use mathlib.Core.Bool.{true, cond}
-use lib.IntN.{ℤ, natAbs, _+ℤ_}
+use lib.IntN.{ℤ, pos, natAbs, _+ℤ_, _*ℤ_}
+use Rattle.integers.specs.Floor.{floor}
 use Rattle.rules.specs.Amounts.{exact, factored, rounded, SoundRounding}
 use Rattle.rules.specs.Question.{mostFactor}
 use Rattle.rules.specs.Bytes.{eitherSide}
@@ -54,6 +55,10 @@ pub record InSteps (z : ℤ) (n : ℕ) : Type 0 where
   pub some : 0 < n
   pub few : n ≤ 10_000_000_000_000
   pub z-in : natAbs z ≤ 1_000_010_000_000_000_000
+
+-- how many steps they are if one that is begun counts from its half on
+abbrev pub fromHalfOn : ℤ → ℕ → ℤ
+fromHalfOn z n = floor (z *ℤ pos 2 +ℤ pos n) (n * 2)
 
 -- a rounding as a book may have it, and an amount
 pub record Roundable (r : Rounding) (x : Fraction) : Type 0 where

@@ -12,7 +12,7 @@ ghost use mathlib.Core.Path.{_≡_};
 ghost use Prim.Native.Nat.{_<_};
 ghost use Rattle.integers.specs.Floor.{floor};
 ghost use Rattle.rules.specs.Amounts.{ceiling, nearest, stepsBy};
-ghost use Rattle.amounts.specs.Contracts.{BookValue, ExactAmount, Factorable, FactoredAmount, InSteps, Roundable, RoundedCents, Addable, totalAfter};
+ghost use Rattle.amounts.specs.Contracts.{BookValue, ExactAmount, Factorable, FactoredAmount, InSteps, fromHalfOn, Roundable, RoundedCents, Addable, totalAfter};
 
 // ---- the exact amount
 
@@ -67,13 +67,25 @@ fn up(z: i64, n: u64) -> i64
 }
 
 // A step that is begun counts from its half on.
-fn nearest(z: i64, n: u64) -> i64
+fn from_half_on(z: i64, n: u64) -> i64
     requires { ⌜ InSteps z n ⌝ }
-    ensures { λ r. ⌜ r ≡ nearest z n ⌝ }
+    ensures { λ r. ⌜ r ≡ fromHalfOn z n ⌝ }
 {
     let full = down(z, n);
     let begun = z - full * (n as i64);
     if begun * 2 < n as i64 { full } else { full + 1 }
+}
+
+// Below zero the same, as far from zero as above it.
+fn nearest(z: i64, n: u64) -> i64
+    requires { ⌜ InSteps z n ⌝ }
+    ensures { λ r. ⌜ r ≡ nearest z n ⌝ }
+{
+    if z < 0 {
+        -from_half_on(-z, n)
+    } else {
+        from_half_on(z, n)
+    }
 }
 
 fn steps_by(way: Way, z: i64, n: u64) -> i64

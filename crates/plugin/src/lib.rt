@@ -103,7 +103,7 @@ pub extern "C" fn rafttwine_write_prices(book: &[u8], out: &mut [u8]) -> PlacedA
 // The library's version: major times 10,000, minor times 100, patch. A program that loads the library can hold it against its header.
 #[no_mangle]
 pub extern "C" fn rafttwine_version() -> u32
-    ensures { λ r. ⌜ r ≡ 20000 ⌝ }
+    ensures { λ r. ⌜ r ≡ 20100 ⌝ }
 {
-    20_000
+    20_100
 }

@@ -1,10 +1,10 @@
 -- "Factors on conditions": a factor of 1,000 changes no amount, and a name that is sent again changes nothing by its factor.
-use Prim.Native.Nat.{ℕ, suc, _+_, _*_, _/_}
+use Prim.Native.Nat.{ℕ, zero, suc, _+_, _*_, _/_, _<_}
 use mathlib.Core.Path.{_≡_, refl, sym, _∙_, ap}
 use mathlib.Core.Bool.{Bool, true, false, _&&_, _||_, not, false≢true}
 use mathlib.Core.List.{List, [], _∷_, _++_, map}
 use mathlib.Core.Option.{Option, some, none, Option·map}
-use native.Mathlib.Nat.{zero-add, add-zero, mul-zero, zero-mul, mul-add, mul-sub, suc-mul, mul-comm, mul-right-comm, mul-div-mul-right, div-div-eq-div-mul, add-mul-div-right, div-eq-of-lt}
+use native.Mathlib.Nat.{zero-add, add-zero, mul-zero, zero-mul, add-mul, mul-add, mul-sub, suc-mul, mul-comm, mul-right-comm, mul-div-mul-right, div-div-eq-div-mul, add-mul-div-right, div-eq-of-lt}
 use native.Mathlib.Omega.{arith}
 use lib.Dec.{eqb}
 use lib.IntN.{ℤ, pos, negsuc, negℤ, _+ℤ_, _*ℤ_, *ℤ-comm}
@@ -15,7 +15,7 @@ use Rattle.rules.specs.Bytes.{raise}
 use Rattle.rules.specs.Book.{Record, Row, articleOf, rows, roundings, roundingFor, base, surcharge, discount}
 use Rattle.rules.specs.Question.{Question, Granted, Grant, placed, firsts, grants, plainFactor, questionOf, on}
 use Rattle.rules.specs.Choice.{choose}
-use Rattle.rules.specs.Amounts.{exact, factored, ceiling, nearest, stepsBy, plus, multipleBy, rounded}
+use Rattle.rules.specs.Amounts.{exact, factored, ceiling, nearestOf, nearest, stepsBy, plus, multipleBy, rounded}
 use Rattle.rules.specs.Lines.{Line, Slot, namedSlot, slotsAt, slots, Chosen, chosenIn, rowsAt, chosenAt, chosen, percentOf, lineAfter, linesAfter, linesOf, total}
 use Rattle.rules.specs.Refusals.{done, _>>=_, orRefuse}
 use Rattle.rules.specs.Price.{priced, answered, answerOf, unusedOf, price}
@@ -64,16 +64,25 @@ times-sum y z n =
     ∙ (λ i. *ℤ-comm (pos n) y i +ℤ *ℤ-comm (pos n) z i)
 
 module _ (j : ℕ) where
+  near-scale : (a n : ℕ) → nearestOf (a * k j) (n * k j) ≡ nearestOf a n
+  near-scale a n =
+      ap (λ (m : ℕ). m / (n * k j * 2)) (sums a n)
+      ∙ ap (λ (m : ℕ). (a * 2 + n) * k j / m) (mul-right-comm n (k j) 2)
+      ∙ mul-div-mul-right (a * 2 + n) (n * 2) (omega arith)
+    where
+      sums : (a n : ℕ) → a * k j * 2 + n * k j ≡ (a * 2 + n) * k j
+      sums a n = ap (λ (m : ℕ). m + n * k j) (mul-right-comm a (k j) 2) ∙ sym (add-mul (a * 2) n (k j))
+
+  nearest-below : (m n : ℕ) → 0 < m → nearest (negℤ (pos m)) n ≡ negℤ (pos (nearestOf m n))
+  unfolding nearest
+  nearest-below zero n h = absurd (omega arith)
+  nearest-below (suc m) n h = refl
+
   nearest-scale : (z : ℤ) (n : ℕ) → nearest (z *ℤ pos (k j)) (n * k j) ≡ nearest z n
   unfolding nearest
-  nearest-scale z n =
-      ap (λ (x : ℤ). floor (x +ℤ pos (n * k j)) (n * k j * 2)) twice
-      ∙ ap (λ (x : ℤ). floor x (n * k j * 2)) (sym (times-sum (z *ℤ pos 2) (pos n) (k j)))
-      ∙ ap (λ (m : ℕ). floor ((z *ℤ pos 2 +ℤ pos n) *ℤ pos (k j)) m) (mul-right-comm n (k j) 2)
-      ∙ floor-scale j (z *ℤ pos 2 +ℤ pos n) (n * 2)
-    where
-      twice : z *ℤ pos (k j) *ℤ pos 2 ≡ z *ℤ pos 2 *ℤ pos (k j)
-      twice = sym (mul-pos-pos z (k j) 2) ∙ ap (λ (m : ℕ). z *ℤ pos m) (mul-comm (k j) 2) ∙ mul-pos-pos z 2 (k j)
+  nearest-scale (pos a) n = ap pos (near-scale a n)
+  nearest-scale (negsuc a) n =
+      nearest-below (suc a * k j) (n * k j) (omega (arith, suc-mul a (k j))) ∙ ap (λ (m : ℕ). negℤ (pos m)) (near-scale (suc a) n)
 
   steps-scale : (way : Way) (z : ℤ) (n : ℕ) → stepsBy way (z *ℤ pos (k j)) (n * k j) ≡ stepsBy way z n
   unfolding stepsBy

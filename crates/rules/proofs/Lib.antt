@@ -32,6 +32,7 @@ pub mod StaysLaws
 pub mod MarkedLaws
 pub mod WalkLaws
 pub mod FactorLaws
+pub mod HalvesLaws
 pub mod CallLaws
 pub mod BasketLaws
 pub mod PeriodLaws

@@ -6,7 +6,8 @@ use mathlib.Core.List.{List, [], _∷_, _++_, map}
 use mathlib.Core.Option.{Option, some, none, Option·some-injective}
 use lib.Count.{ones}
 use lib.Dec.{eqb, leb}
-use lib.IntN.{ℤ, pos, _*ℤ_}
+use mathlib.Core.Logic.{_⊎_}
+use lib.IntN.{ℤ, pos, _+ℤ_, _*ℤ_}
 use native.Mathlib.Omega.{arith}
 use lib.ListN.{length, take, drop, getD, replicate}
 use Rattle.rules.specs.Lists.{any, join}
@@ -17,7 +18,7 @@ use Rattle.rules.specs.BookLayout.{records}
 use Rattle.rules.specs.Question.{Granted, Question, grants, questionOf, noCurrency}
 use Rattle.rules.specs.Questions.{questionsOf}
 use Rattle.rules.specs.Choice.{step₅, choose}
-use Rattle.rules.specs.Amounts.{multipleBy}
+use Rattle.rules.specs.Amounts.{multipleBy, rounded}
 use Rattle.rules.specs.Lines.{Line, sum, amounts, total, slotsAt, chosen, linesOf, lineBytes, mostLinesSize}
 use Rattle.rules.specs.Refusals.{Result, done, refused, _>>=_, orRefuse, refuseUnless, numberOf, lentAfter}
 use Rattle.rules.specs.Price as Price
@@ -31,6 +32,8 @@ use Rattle.rules.specs.Text as Text
 use Rattle.rules.specs.Letters.{text}
 use Rattle.rules.specs.Program.{mostInput, behind, bookIn, questionIn, endIn, output}
 use Rattle.rules.specs.declared.Way.{Way}
+use Rattle.rules.specs.declared.Way.the-variants.{Commercial}
+use Rattle.rules.specs.declared.Rounding as Rounded
 use Rattle.rules.specs.declared.Fraction.{Fraction}
 use Rattle.rules.proofs.DayLaws as Days
 use Rattle.rules.proofs.GivesLaws.{question-sound, version-1}
@@ -41,6 +44,7 @@ use Rattle.rules.proofs.UnusedLaws as Unused
 use Rattle.rules.proofs.FactorLaws as Factor
 use Rattle.rules.proofs.FactorLaws.{granting}
 use Rattle.rules.proofs.RoundingLaws as Rounding
+use Rattle.rules.proofs.HalvesLaws as Halves
 use Rattle.rules.proofs.CalendarLaws as Calendar
 use Rattle.rules.proofs.CallLaws as Calls
 use Rattle.rules.proofs.QuestionsLaws as Questions
@@ -140,13 +144,24 @@ one-walk = Choice.one-walk
 -- ---- amounts
 
 -- Down gives the greatest multiple of the step that is not above the amount, up the least that is not below it, commercial the nearest, and of two
--- equally near ones the greater.
+-- equally near ones the one farther from zero.
 pub rounding-right : (way : Way) (step : ℕ) (x : Fraction) → 0 < x .bottom → 0 < step → Rounding.Rounded way step x (multipleBy way step x)
 rounding-right = Rounding.rounded-means
 
 -- No other number is that.
 pub only-rounding : (way : Way) (step : ℕ) (x : Fraction) → 0 < x .bottom → 0 < step → (m : ℤ) → Rounding.Rounded way step x m → m ≡ multipleBy way step x
 only-rounding = Rounding.rounded-unique
+
+-- Of an amount that, with the cents added before, is a half below zero, the commercial way gives one step less than one that sends every half to
+-- the greater number.
+pub halves-below-zero : (r : Rounded.Rounding) (x : Fraction) → r .way ≡ Commercial → 0 < x .bottom → 0 < r .step → Halves.HalfAmount r x
+    → rounded r x +ℤ pos (r .step) ≡ Halves.roundedBefore r x
+halves-below-zero = Halves.step-less
+
+-- Of every other amount it gives what such a way gives.
+pub no-other-half : (r : Rounded.Rounding) (x : Fraction) → r .way ≡ Commercial → 0 < x .bottom → 0 < r .step
+    → Halves.HalfAmount r x ⊎ (rounded r x ≡ Halves.roundedBefore r x)
+no-other-half = Halves.amount-stays
 
 -- ---- days
 

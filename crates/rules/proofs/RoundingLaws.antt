@@ -2,16 +2,17 @@
 -- the one number that is meant.
 use Prim.Native.Nat.{ℕ, suc, _+_, _*_, _/_, _<_, _≤_}
 use mathlib.Core.Path.{_≡_, refl, sym, ap, _∙_}
-use mathlib.Core.Logic.{inl, inr}
-use native.Mathlib.Nat.{mul-zero, add-mul, suc-mul, mul-comm, mul-le-mul-right, le-of-suc-le-suc, lt-of-mul-lt-mul-right, le-refl}
+use mathlib.Core.Logic.{_⊎_, inl, inr, ⊎-elim}
+use mathlib.Core.Bool.{Bool, true, false}
+use native.Mathlib.Nat.{mul-zero, zero-mul, add-mul, suc-mul, mul-comm, mul-le-mul-right, le-of-suc-le-suc, lt-of-mul-lt-mul-right, le-refl, mul-assoc, lt-div-mul-add, div-mul-le-self}
 use native.Mathlib.Omega.{arith}
 use lib.IntN.{ℤ, pos, negsuc, negℤ, natAbs, _+ℤ_, _-ℤ_, _*ℤ_}
-use lib.Signed.{_≤ℤ_, _<ℤ_}
+use lib.Signed.{_≤ℤ_, _<ℤ_, leZ}
 use Rattle.integers.specs.Floor.{floor}
 use Rattle.integers.proofs.Multiples.{Apart, mul-mono, apart}
-use Rattle.integers.proofs.Signed.{up, dn, parts, abs-add, abs-near, abs-mul, sum-parts, sub-parts, abs-le, abs-parts, eq-parts, le-in, le-of, lt-in, lt-of, mul-pos-pos}
+use Rattle.integers.proofs.Signed.{up, dn, parts, abs-add, abs-near, abs-mul, sum-parts, sub-parts, abs-le, abs-parts, eq-parts, le-in, le-of, lt-in, lt-of, mul-pos-pos, leZ-true, leZ-false}
 use Rattle.integers.proofs.FloorLaws.{floor-le, floor-lt, cancel-mul}
-use Rattle.rules.specs.Amounts.{ceiling, nearest, stepsBy, plus, multipleBy, rounded}
+use Rattle.rules.specs.Amounts.{ceiling, nearestOf, nearest, stepsBy, plus, multipleBy, rounded}
 use Rattle.rules.specs.declared.Way.{Way}
 use Rattle.rules.specs.declared.Way.the-variants.{Down, Up, Commercial}
 use Rattle.rules.specs.declared.Rounding.{Rounding}
@@ -44,10 +45,11 @@ pub record LeastNotBelow (step : ℕ) (x : Fraction) (m : ℤ) : Type 0 where
   pub not-below : NotBelow m x
   pub least : (k : ℤ) → MultipleOf step k → NotBelow k x → m ≤ℤ k
 
--- commercial: no multiple is nearer, and one that is as near is not greater
+-- commercial: no multiple is nearer, and one that is as near is not farther from zero: of an amount from zero up it is not greater, below zero not less
 pub record Nearest (step : ℕ) (x : Fraction) (m : ℤ) : Type 0 where
   pub nearest : (k : ℤ) → MultipleOf step k → distance m x ≤ distance k x
-  pub greater : (k : ℤ) → MultipleOf step k → distance k x ≡ distance m x → k ≤ℤ m
+  pub greater : pos 0 ≤ℤ x .top → (k : ℤ) → MultipleOf step k → distance k x ≡ distance m x → k ≤ℤ m
+  pub less : x .top <ℤ pos 0 → (k : ℤ) → MultipleOf step k → distance k x ≡ distance m x → m ≤ℤ k
 
 abbrev pub Meant : Way → ℕ → Fraction → ℤ → Type 0
 Meant Down = GreatestNotAbove
@@ -69,33 +71,58 @@ pub ceiling-lt : (z : ℤ) (n : ℕ) → 0 < n → (ceiling z n *ℤ pos n) <ℤ
 unfolding ceiling
 ceiling-lt z n p = lt-of (simp (parts, mul-zero) (omega (arith, simp (parts, mul-zero) at (lt-in (floor-lt (negℤ z) n p)))))
 
--- a half goes to the greater number, also below zero
+-- a half goes to the number farther from zero
 half-up : nearest (pos 1) 2 ≡ pos 1
-unfolding nearest floor
+unfolding nearest
 half-up = refl
 
-half-up-below-zero : nearest (negsuc 0) 2 ≡ pos 0
-unfolding nearest floor
-half-up-below-zero = refl
+half-below-zero : nearest (negsuc 0) 2 ≡ negsuc 0
+unfolding nearest
+half-below-zero = refl
 
 -- twice as much, since half a step need not be whole
-pub nearest-lt : (z : ℤ) (n : ℕ) → 0 < n → (z *ℤ pos 2 +ℤ pos n) <ℤ (nearest z n *ℤ pos n *ℤ pos 2 +ℤ pos (n * 2))
-unfolding nearest
-nearest-lt z n p = rw (← mul-pos-pos) (floor-lt (z *ℤ pos 2 +ℤ pos n) (n * 2) (omega arith))
+near-lt : (a n : ℕ) → 0 < n → a * 2 + n < nearestOf a n * n * 2 + n * 2
+near-lt a n p = omega (arith, lt-div-mul-add {a = a * 2 + n} {b = n * 2} (omega arith), mul-assoc (nearestOf a n) n 2)
 
-pub nearest-le : (z : ℤ) (n : ℕ) → 0 < n → (nearest z n *ℤ pos n *ℤ pos 2) ≤ℤ (z *ℤ pos 2 +ℤ pos n)
+near-le : (a n : ℕ) → nearestOf a n * n * 2 ≤ a * 2 + n
+near-le a n = omega (arith, div-mul-le-self (a * 2 + n) (n * 2), mul-assoc (nearestOf a n) n 2)
+
+pub nearest-lt : (z : ℤ) (n : ℕ) → 0 < n → pos 0 ≤ℤ z → (z *ℤ pos 2 +ℤ pos n) <ℤ (nearest z n *ℤ pos n *ℤ pos 2 +ℤ pos (n * 2))
 unfolding nearest
-nearest-le z n p = rw (← mul-pos-pos) (floor-le (z *ℤ pos 2 +ℤ pos n) (n * 2) (omega arith))
+nearest-lt (pos a) n p h = lt-of (omega (arith, near-lt a n p))
+nearest-lt (negsuc a) n p h = absurd (h .le)
+
+pub nearest-le : (z : ℤ) (n : ℕ) → 0 < n → pos 0 ≤ℤ z → (nearest z n *ℤ pos n *ℤ pos 2) ≤ℤ (z *ℤ pos 2 +ℤ pos n)
+unfolding nearest
+nearest-le (pos a) n p h = le-of (omega (arith, near-le a n))
+nearest-le (negsuc a) n p h = absurd (h .le)
+
+-- and below zero, the other way round
+pub nearest-gt : (z : ℤ) (n : ℕ) → 0 < n → z <ℤ pos 0 → (nearest z n *ℤ pos n *ℤ pos 2 +ℤ pos n) <ℤ (z *ℤ pos 2 +ℤ pos (n * 2))
+unfolding nearest
+nearest-gt (pos a) n p h = absurd (omega (arith, lt-in h))
+nearest-gt (negsuc a) n p h = lt-of (simp (parts, mul-zero, zero-mul) (omega (arith, near-lt (suc a) n p)))
+
+pub nearest-ge : (z : ℤ) (n : ℕ) → 0 < n → z <ℤ pos 0 → (z *ℤ pos 2) ≤ℤ (nearest z n *ℤ pos n *ℤ pos 2 +ℤ pos n)
+unfolding nearest
+nearest-ge (pos a) n p h = absurd (omega (arith, lt-in h))
+nearest-ge (negsuc a) n p h = le-of (simp (parts, mul-zero, zero-mul) (omega (arith, near-le (suc a) n)))
 
 raise : (M K x : ℤ) (D : ℕ) → M <ℤ (x +ℤ pos D) → x ≤ℤ K → M <ℤ (K +ℤ pos D)
 raise M K x D h k = lt-of (omega (arith, lt-in h, le-in k, sum-parts x (pos D), sum-parts K (pos D)))
 
 -- ---- the nearest, over whole numbers M (meant), K (another) and x, D being the step
 
+-- what is at most half a step away is nearest
+near : (M K x : ℤ) (D : ℕ) → natAbs (M -ℤ x) ≤ D / 2 → Apart D K M → natAbs (M -ℤ x) ≤ natAbs (K -ℤ x)
+near M K x D half (inl a) = omega (arith, half, le-in a, sum-parts K (pos D), sub-parts M x, sub-parts K x, abs-parts (M -ℤ x), abs-parts (K -ℤ x))
+near M K x D half (inr (inl e)) = rw e (le-refl (natAbs (M -ℤ x)))
+near M K x D half (inr (inr a)) = omega (arith, half, le-in a, sum-parts M (pos D), sub-parts M x, sub-parts K x, abs-parts (M -ℤ x), abs-parts (K -ℤ x))
+
+-- from zero up: at most half a step above x, and less than half a step below it
 module _ (M K x : ℤ) (D : ℕ)
     (low : (M *ℤ pos 2) ≤ℤ (x *ℤ pos 2 +ℤ pos D))
     (high : (x *ℤ pos 2 +ℤ pos D) <ℤ (M *ℤ pos 2 +ℤ pos (D * 2))) where
-  -- M is at most half a step above x, and less than half a step below it
   half-above : (up M + dn x) * 2 ≤ (up x + dn M) * 2 + D
   half-above = omega (arith, simp (parts, mul-zero) at (le-in low))
 
@@ -105,14 +132,39 @@ module _ (M K x : ℤ) (D : ℕ)
   half : natAbs (M -ℤ x) ≤ D / 2
   half = abs-le (M -ℤ x) (omega (arith, half-above, sub-parts M x)) (omega (arith, half-below, sub-parts M x))
 
-  near : Apart D K M → natAbs (M -ℤ x) ≤ natAbs (K -ℤ x)
-  near (inl a) = omega (arith, half, le-in a, sum-parts K (pos D), sub-parts M x, sub-parts K x, abs-parts (M -ℤ x), abs-parts (K -ℤ x))
-  near (inr (inl e)) = rw e (le-refl (natAbs (M -ℤ x)))
-  near (inr (inr a)) = omega (arith, half, le-in a, sum-parts M (pos D), sub-parts M x, sub-parts K x, abs-parts (M -ℤ x), abs-parts (K -ℤ x))
-
   -- what is as near is not a step above
   as-near : natAbs (K -ℤ x) ≡ natAbs (M -ℤ x) → K <ℤ (M +ℤ pos D)
   as-near e = lt-of (omega (arith, half, half-below, sum-parts M (pos D), sub-parts K x, abs-parts (K -ℤ x)))
+
+-- below zero: less than half a step above x, and at most half a step below it
+module _ (M K x : ℤ) (D : ℕ)
+    (high : (M *ℤ pos 2 +ℤ pos D) <ℤ (x *ℤ pos 2 +ℤ pos (D * 2)))
+    (low : (x *ℤ pos 2) ≤ℤ (M *ℤ pos 2 +ℤ pos D)) where
+  less-above : (up M + dn x) * 2 < (up x + dn M) * 2 + D
+  less-above = omega (arith, simp (parts, mul-zero) at (lt-in high))
+
+  less-below : (up x + dn M) * 2 ≤ (up M + dn x) * 2 + D
+  less-below = omega (arith, simp (parts, mul-zero) at (le-in low))
+
+  less-half : natAbs (M -ℤ x) ≤ D / 2
+  less-half = abs-le (M -ℤ x) (omega (arith, less-above, sub-parts M x)) (omega (arith, less-below, sub-parts M x))
+
+  -- what is as near is not a step below
+  less-near : natAbs (K -ℤ x) ≡ natAbs (M -ℤ x) → M <ℤ (K +ℤ pos D)
+  less-near e = lt-of (omega (arith, less-half, less-above, sum-parts K (pos D), sub-parts K x, abs-parts (K -ℤ x)))
+
+-- from zero up, or below it
+sign : (z : ℤ) → (pos 0 ≤ℤ z) ⊎ (z <ℤ pos 0)
+sign z = go (leZ (pos 0) z) refl
+  where
+    go : (b : Bool) → leZ (pos 0) z ≡ b → (pos 0 ≤ℤ z) ⊎ (z <ℤ pos 0)
+    go true e = inl (leZ-true (pos 0) z e)
+    go false e = inr (leZ-false (pos 0) z e)
+
+pub nearest-half : (z : ℤ) (n : ℕ) → 0 < n → natAbs (nearest z n *ℤ pos n -ℤ z) ≤ n / 2
+nearest-half z n p =
+    let M = nearest z n *ℤ pos n in
+    ⊎-elim (λ h. half M M z n (nearest-le z n p h) (nearest-lt z n p h)) (λ h. less-half M M z n (nearest-gt z n p h) (nearest-ge z n p h)) (sign z)
 
 -- ---- the three ways
 
@@ -161,11 +213,10 @@ module _ (s : ℕ) (x : Fraction) (p : 0 < x .bottom) (q : 0 < s) where
   is-near =
       let n = x .bottom * s in
       let c = nearest (x .top) n in
-      let low = rw in-parts at (nearest-le (x .top) n n-pos) in
-      let high = rw in-parts at (nearest-lt (x .top) n n-pos) in
       record {
-        nearest = λ k m. rw (m .is) (near (fine c) (fine (m .times)) (x .top) n low high (rw (← in-parts c, ← in-parts (m .times)) (apart n (m .times) c)));
-        greater = λ k m e. rw (m .is) (within-step (m .times) c (as-near (fine c) (fine (m .times)) (x .top) n low high (rw (m .is) at e)));
+        nearest = λ k m. rw (m .is) (near (fine c) (fine (m .times)) (x .top) n (rw in-parts at (nearest-half (x .top) n n-pos)) (rw (← in-parts c, ← in-parts (m .times)) (apart n (m .times) c)));
+        greater = λ h k m e. rw (m .is) (within-step (m .times) c (as-near (fine c) (fine (m .times)) (x .top) n (rw in-parts at (nearest-le (x .top) n n-pos h)) (rw in-parts at (nearest-lt (x .top) n n-pos h)) (rw (m .is) at e)));
+        less = λ h k m e. rw (m .is) (within-step c (m .times) (less-near (fine c) (fine (m .times)) (x .top) n (rw in-parts at (nearest-gt (x .top) n n-pos h)) (rw in-parts at (nearest-ge (x .top) n n-pos h)) (rw (m .is) at e)));
       }
 
   means : (way : Way) → Meant way s x (multipleBy way s x)
@@ -187,13 +238,14 @@ module _ (s : ℕ) (x : Fraction) (p : 0 < x .bottom) (q : 0 < s) where
   only Commercial m k g =
       let d = multipleBy Commercial s x in
       let e : distance m x ≡ distance d x = omega (arith, is-near .nearest m k, g .nearest d (is-multiple Commercial)) in
-      eq-parts m d (omega (arith, le-in (is-near .greater m k e), le-in (g .greater d (is-multiple Commercial) (sym e))))
+      ⊎-elim (λ h. eq-parts m d (omega (arith, le-in (is-near .greater h m k e), le-in (g .greater h d (is-multiple Commercial) (sym e)))))
+      (λ h. eq-parts m d (omega (arith, le-in (is-near .less h m k e), le-in (g .less h d (is-multiple Commercial) (sym e))))) (sign (x .top))
 
 -- ---- the promise: for every amount, below zero too, and every step
 
 module _ (way : Way) (step : ℕ) (x : Fraction) (p : 0 < x .bottom) (q : 0 < step) where
   -- What the definition gives is a multiple of the step, and the one that is meant: going down the greatest that is not above the amount, going up
-  -- the least that is not below it, commercially the nearest, and of two that are as near the greater.
+  -- the least that is not below it, commercially the nearest, and of two that are as near the one farther from zero.
   pub rounded-means : Rounded way step x (multipleBy way step x)
   rounded-means = record { multiple = is-multiple step x p q way; meant = means step x p q way }
 
@@ -215,8 +267,7 @@ steps-reach Up z n p =
     let M = ceiling z n *ℤ pos n in
     reach M z n (omega (arith, lt-in (ceiling-lt z n p), sum-parts z (pos n))) (omega (arith, le-in (ceiling-ge z n p)))
 steps-reach Commercial z n p =
-    let M = nearest z n *ℤ pos n in
-    omega (arith, half M M z n (nearest-le z n p) (nearest-lt z n p))
+    omega (arith, nearest-half z n p)
 
 divide : (a t k b : ℕ) → 0 < b → a * b ≤ t + k * b → a ≤ t + k
 divide a t k b p h =

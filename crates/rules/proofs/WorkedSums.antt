@@ -37,6 +37,10 @@ book5 = bookOf (in2024 base 1 (fixed (pos 50)) EUR 0 0 ∷ in2024 discount 2 (pe
 abbrev book6 : ℕ → ℕ → List ℕ
 book6 way step = bookOf (in2024 base 1 (fixed (pos 10500)) EUR 0 0 ∷ in2024 surcharge 1 (percent (pos 1250)) EUR 0 7 ∷ []) (roundingBytes 7 way step (pos 0) (pos 0) ∷ [])
 
+-- the same as a discount, with cents added before and after
+abbrev bookHalves : ℕ → ℤ → ℤ → List ℕ
+bookHalves step before after = bookOf (in2024 base 1 (fixed (pos 10500)) EUR 0 0 ∷ in2024 discount 1 (percent (minus 1250)) EUR 0 7 ∷ []) (roundingBytes 7 2 step before after ∷ [])
+
 abbrev book7 : List ℕ
 book7 = bookOf (in2024 base 1 (fixed (pos 9000)) EUR 9 0 ∷ in2024 base 1 (fixed (pos 8000)) EUR 0 0 ∷ []) []
 
@@ -75,11 +79,18 @@ sums =
     -- P4
     ∷ case AskPrice bookK (ask 20250101 1 (oak ∷ [])) (Refusal 4)
     -- P5
-    ∷ case AskPrice book5 (ask 20240630 1 []) (Listed (pos 50 ∷ pos 0 ∷ []) (pos 50))
+    ∷ case AskPrice book5 (ask 20240630 1 []) (Listed (pos 50 ∷ minus 1 ∷ []) (pos 49))
     -- P6: commercial by 5, up by 100, down by 100
     ∷ case AskPrice (book6 2 5) (ask 20240630 1 []) (Listed (pos 10500 ∷ pos 1315 ∷ []) (pos 11815))
     ∷ case AskPrice (book6 1 100) (ask 20240630 1 []) (Listed (pos 10500 ∷ pos 1400 ∷ []) (pos 11900))
     ∷ case AskPrice (book6 0 100) (ask 20240630 1 []) (Listed (pos 10500 ∷ pos 1300 ∷ []) (pos 11800))
+    -- halves of a discount: -1312.5 by 1, by 5 (no half), by 25; a half only once 12 are added; one above zero once 2625 are; the 14 behind it do not count
+    ∷ case AskPrice (bookHalves 1 (pos 0) (pos 0)) (ask 20240630 1 []) (Listed (pos 10500 ∷ minus 1313 ∷ []) (pos 9187))
+    ∷ case AskPrice (bookHalves 5 (pos 0) (pos 0)) (ask 20240630 1 []) (Listed (pos 10500 ∷ minus 1315 ∷ []) (pos 9185))
+    ∷ case AskPrice (bookHalves 25 (pos 0) (pos 0)) (ask 20240630 1 []) (Listed (pos 10500 ∷ minus 1325 ∷ []) (pos 9175))
+    ∷ case AskPrice (bookHalves 1 (pos 12) (pos 0)) (ask 20240630 1 []) (Listed (pos 10500 ∷ minus 1301 ∷ []) (pos 9199))
+    ∷ case AskPrice (bookHalves 25 (pos 2625) (pos 0)) (ask 20240630 1 []) (Listed (pos 10500 ∷ pos 1325 ∷ []) (pos 11825))
+    ∷ case AskPrice (bookHalves 25 (pos 0) (pos 1400)) (ask 20240630 1 []) (Listed (pos 10500 ∷ pos 75 ∷ []) (pos 10575))
     -- P7: quantities 9 and 10
     ∷ case AskPrice book7 (ask 20240630 9 []) (Listed (pos 9000 ∷ []) (pos 9000))
     ∷ case AskPrice book7 (ask 20240630 10 []) (Listed (pos 8000 ∷ []) (pos 8000))

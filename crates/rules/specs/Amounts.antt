@@ -1,6 +1,6 @@
 -- "From rows to a total": the exact amount of a row, and its rounding.
-use Prim.Native.Nat.{ℕ, _*_, _≤_}
-use lib.IntN.{ℤ, pos, negℤ, _+ℤ_, _*ℤ_, natAbs}
+use Prim.Native.Nat.{ℕ, suc, _+_, _*_, _/_, _≤_}
+use lib.IntN.{ℤ, pos, negsuc, negℤ, _+ℤ_, _*ℤ_, natAbs}
 use Rattle.integers.specs.Floor.{floor}
 use Rattle.rules.specs.declared.Cents.{Cents}
 use Rattle.rules.specs.declared.Value.{Value}
@@ -23,9 +23,14 @@ factored f x = record { top = x .top *ℤ pos f; bottom = x .bottom * 1000 }
 unfoldable pub ceiling : ℤ → ℕ → ℤ
 ceiling z n = negℤ (floor (negℤ z) n)
 
--- the whole number nearest to z / n, halves to the greater
+-- the whole number nearest to a / n, a half to the greater
+abbrev pub nearestOf : ℕ → ℕ → ℕ
+nearestOf a n = (a * 2 + n) / (n * 2)
+
+-- "Halves of a discount": counted from zero, either way, so that a half goes to the number farther from zero
 unfoldable pub nearest : ℤ → ℕ → ℤ
-nearest z n = floor (z *ℤ pos 2 +ℤ pos n) (n * 2)
+nearest (pos a) n = pos (nearestOf a n)
+nearest (negsuc a) n = negℤ (pos (nearestOf (suc a) n))
 
 -- an amount measured in steps, made whole by way
 unfoldable pub stepsBy : Way → ℤ → ℕ → ℤ

@@ -1,90 +1,51 @@
--- `amounts::nearest` meets its contract: what is left over is less than a step, and `nearest-full` and `nearest-next` say what its half decides.
-use Prim.Native.Nat.{_≤_}
-use mathlib.Core.Path.{_≡_}
-use native.Mathlib.Omega.{arith}
+-- `amounts::nearest` meets its contract: below zero by `nearest-below`, else by `nearest-above`.
+use mathlib.Core.Path.{_≡_, _∙_, ap}
 use borrow.Author.Needs.{needs}
-use lib.IntN.{ℤ, pos, natAbs, _+ℤ_, _-ℤ_, _*ℤ_}
+use lib.IntN.{ℤ, pos, _-ℤ_}
 use mir.Syntax.{w64}
 use mir.Val.{SFits, toZ}
-use mir.ValLaws.{toZ-ofZ, toZ-pos}
-use Rattle.integers.specs.Floor.{floor}
-use Rattle.integers.proofs.Signed.{fits64, ok64, abs-add, abs-mul, ltZ-true, ltZ-false}
-use Rattle.integers.proofs.FloorLaws.{floor-abs}
-use Rattle.amounts.proofs.Steps.{full-in, left-in, nearest-full, nearest-next}
+use mir.ValLaws.{toZ-ofZ}
+use Rattle.integers.proofs.Signed.{ok64, ltZ-true, ltZ-false}
+use Rattle.amounts.specs.Contracts.{fromHalfOn}
+use Rattle.amounts.proofs.Steps.{nearest-above, nearest-below, turned-in, turned-fits, half-fits}
 use Rattle.amounts.proofs.nearest.Statement.{statement}
 use Rattle.amounts.proofs.nearest.Tie as tie
 
--- ---- after the count of full steps: the numbers on the way, and that they fit
-module _ (c : tie.After-down) where
+sub-from-half-on : tie.Need-sub-from-half-on
+sub-from-half-on c = simp (toZ-ofZ, c .before .fits .z) (turned-fits (c .before .args .z) (c .before .args .n) (c .before .pre))
+
+from-half-on-requires : tie.Need-from-half-on-requires
+from-half-on-requires c κs =
+    let s = c .before in
+    simp (toZ-ofZ, s .fits .z, turned-fits (s .args .z) (s .args .n) (s .pre)) (turned-in (s .args .z) (s .args .n) (s .pre))
+
+module _ (c : tie.After-from-half-on) where
   abbrev z : ℤ
-  z = c .before .args .z
+  z = c .before .before .args .z
 
-  abbrev full : ℤ
-  full = c .down .result
+  half-is : c .from-half-on .result ≡ fromHalfOn (pos 0 -ℤ z) (c .before .before .args .n)
+  half-is =
+      simp (toZ-ofZ, c .before .before .fits .z, turned-fits z (c .before .before .args .n) (c .before .before .pre)) at (c .from-half-on .ensures)
 
-  abbrev step : ℤ
-  step = pos (c .before .args .n)
+  result-fits : SFits w64 (pos 0 -ℤ c .from-half-on .result)
+  result-fits = rw half-is (half-fits (pos 0 -ℤ z) (c .before .before .args .n) (turned-in z (c .before .before .args .n) (c .before .before .pre)))
 
-  full-is : full ≡ floor z (c .before .args .n)
-  full-is = simp (toZ-ofZ, c .before .fits .z) at (c .down .ensures)
-
-  cast : toZ w64 (c .before .args .n) ≡ step
-  cast = toZ-pos w64 (c .before .args .n) (omega arith)
-
-  full-fits : SFits w64 full
-  full-fits = ok64 full (c .down .ok)
-
-  parts-fit : SFits w64 (full *ℤ step)
-  parts-fit = fits64 (full *ℤ step) (omega (arith, full-in z full (c .before .args .n) (c .before .pre .some) full-is))
-
-  left-small : natAbs (z -ℤ full *ℤ step) ≤ 10_000_000_000_000
-  left-small = omega (arith, left-in z full (c .before .args .n) (c .before .pre .some) full-is)
-
-  left-fits : SFits w64 (z -ℤ full *ℤ step)
-  left-fits = fits64 (z -ℤ full *ℤ step) (omega (arith, left-small))
-
-  twice-fits : SFits w64 ((z -ℤ full *ℤ step) *ℤ pos 2)
-  twice-fits = fits64 ((z -ℤ full *ℤ step) *ℤ pos 2) (omega (arith, left-small, abs-mul (z -ℤ full *ℤ step) (pos 2)))
-
-  next-fits : SFits w64 (full +ℤ pos 1)
-  next-fits = fits64 (full +ℤ pos 1) (rw full-is (omega (arith, floor-abs z (c .before .args .n), abs-add (floor z (c .before .args .n)) (pos 1))))
-
-mul-begun : tie.Need-mul-begun
-mul-begun c = simp (toZ-ofZ, cast c, full-fits c) (parts-fit c)
-
-sub-begun : tie.Need-sub-begun
-sub-begun c = simp (toZ-ofZ, cast c, full-fits c, c .before .fits .z, parts-fit c) (left-fits c)
-
-mul-if1 : tie.Need-mul-if1
-mul-if1 c = simp (toZ-ofZ, cast c, full-fits c, c .before .fits .z, parts-fit c, left-fits c) (twice-fits c)
-
-add-result : tie.Need-add-result
-add-result c = simp (toZ-ofZ, full-fits (c .before)) (next-fits (c .before))
+sub-result : tie.Need-sub-result
+sub-result c = simp (toZ-ofZ, ok64 (c .from-half-on .result) (c .from-half-on .ok)) (result-fits c)
 
 returns : tie.Need-returns
 returns c =
-    let d = c .before in
-    let s = d .before in
-    let h = simp (toZ-ofZ, cast d, full-fits d, s .fits .z, parts-fit d, left-fits d, twice-fits d) at (c .if1 .taken) in
-    simp (toZ-ofZ, full-fits d) (nearest-full (z d) (full d) (s .args .n) (s .pre .some) (full-is d) (ltZ-true _ _ h))
+    let s = c .before .before in
+    let h = simp (toZ-ofZ, s .fits .z) at (c .before .if1 .taken) in
+    simp (toZ-ofZ, ok64 (c .from-half-on .result) (c .from-half-on .ok), result-fits c)
+    (ap (λ (x : ℤ). pos 0 -ℤ x) (half-is c) ∙ nearest-below (z c) (s .args .n) (ltZ-true (z c) (pos 0) h))
 
 returns-2 : tie.Need-returns-2
 returns-2 c =
-    let d = c .before in
-    let s = d .before in
-    let h = simp (toZ-ofZ, cast d, full-fits d, s .fits .z, parts-fit d, left-fits d, twice-fits d) at (c .if1 .left) in
-    simp (toZ-ofZ, full-fits d, next-fits d) (nearest-next (z d) (full d) (s .args .n) (s .pre .some) (full-is d) (ltZ-false _ _ h))
+    let s = c .before .before in
+    let h = simp (toZ-ofZ, s .fits .z) at (c .before .if1 .left) in
+    simp (toZ-ofZ, ok64 (c .from-half-on2 .result) (c .from-half-on2 .ok))
+    ((simp (toZ-ofZ, s .fits .z) at (c .from-half-on2 .ensures)) ∙ nearest-above (s .args .z) (s .args .n) (ltZ-false (s .args .z) (pos 0) h))
 
 pub nearest-spec : {M : Type 1} → statement M
-nearest-spec =
-    tie.close
-    (tie.spec
-    (λ c κs. search needs)
-    (λ c. search needs)
-    mul-begun
-    sub-begun
-    mul-if1
-    (λ c. search needs)
-    add-result
-    returns
-    returns-2)
+nearest-spec = tie.close (tie.spec sub-from-half-on from-half-on-requires sub-result (λ c κs. search needs) returns returns-2)

@@ -75,7 +75,7 @@ fn sums_of_k() -> Vec<Vector> {
     ]
 }
 
-/// P5 to P7.
+/// P5 to P7, and halves like that of P5.
 fn rounded_and_scaled() -> Vec<Vector> {
     let day = 20240615;
     let half_a_cent = book(&[base(50).into(), Price::percent("A1", b'D', 2, -100).into()]);
@@ -85,6 +85,12 @@ fn rounded_and_scaled() -> Vec<Vector> {
         let rounding = Rounding::new(1, way, step);
         let rounded = book(&[base(10_500).into(), surcharge.into(), rounding.into()]);
         vectors.push(price(&rounded, ask(day)));
+    }
+    // Halves of a step on either side of zero, with and without "add before".
+    for (value, add_before) in [(-5, 0), (5, 0), (-15, 0), (5, -10), (-5, 10), (-4, 0), (-6, 0)] {
+        let discount = Price::fixed("A1", b'D', value).rounding(1);
+        let rounding = Rounding::new(1, 2, 10).adds(add_before, 0);
+        vectors.push(price(&book(&[base(100).into(), discount.into(), rounding.into()]), ask(day)));
     }
     let scaled = book(&[base(900).up_to(9).into(), base(800).into()]);
     vectors.extend([9, 10].map(|quantity| price(&scaled, ask(day).quantity(quantity))));

@@ -31,10 +31,10 @@ fn p1_to_p4() -> Vec<Vector> {
 }
 
 fn p5_and_p6() -> Vec<Vector> {
-    // One percent of 50 is half a cent; of -0.5 the nearest greater is 0.
+    // One percent of 50 is half a cent; -0.5 goes to -1, which is farther from zero than 0.
     let cheap = book![base(1, 50), share(2, b'D', 2, -100)];
-    let p5 = ["00000001 42 00 0000000000000032 03e8", "00000002 44 00 0000000000000000 03e8"];
-    let mut vectors = vec![Vector::in_hex("P5: half a cent of discount is none", &cheap, &ask(DAY), &p5, 50)];
+    let p5 = ["00000001 42 00 0000000000000032 03e8", "00000002 44 00 ffffffffffffffff 03e8"];
+    let mut vectors = vec![Vector::in_hex("P5: half a cent of discount is a cent", &cheap, &ask(DAY), &p5, 49)];
     // 12.5 % of 10500 is 1312.5 in each.
     for (way, step, surcharge, unit) in [
         (2, 5, "00000002 58 00 0000000000000523 03e8", 11_815),
