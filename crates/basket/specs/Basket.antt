@@ -29,7 +29,7 @@ use Rattle.basket.specs.declared.answers.Answers.{Answers}
 abbrev pub asked : List ℕ → List Question
 asked s = ifSome (questionsOf mostBasket s) [] (λ qs. qs)
 
--- they stand at these places, and this is what the book has for each
+-- they stand at these positions, and this is what the book has for each
 pub record Basketed (b s starts ends : List ℕ) (found : Sights) (n : ℕ) : Type 0 where
   pub is-book : records b ≡ some (recordsLeft b 5)
   pub are : questionsOf mostBasket s ≡ some (asked s)

@@ -15,7 +15,7 @@ use Rattle.wanted.specs.declared.Sights.{Sights}
 use Rattle.wanted.specs.Entries.{foundFor}
 use Rattle.basket.specs.declared.located.Located.{Located}
 
--- whether b is a book, and what one has for the question at each of n places
+-- whether b is a book, and what one has for the question at each of n positions
 pub record LocatedIs (b s starts ends : List ℕ) (n : ℕ) (r : Located) : Type 0 where
   pub ok : r .ok ≡ isSome (records b)
   pub has : r .ok ≡ true → (j : ℕ) → j < n → (q : Question) → questionOf (part s (getD starts j 0) (getD ends j 0)) ≡ some q

@@ -14,7 +14,7 @@ use Rattle.price.specs.Call.{PriceIs}
 abbrev pub linesBefore : List ℕ → List (List ℕ) → ℕ → ℕ
 linesBefore b parts j = length (join (take j (map (λ p. linesIn (price b p mostLinesSize)) parts)))
 
--- at the place of question j of n stands this answer, and behind all answers and the lines before them stand these lines
+-- where the answer of question j of n belongs stands this one, and behind all answers and the lines before them stand these lines
 pub record StandsFor (after : List ℕ) (n before j : ℕ) (a : PriceAnswer) (own : List ℕ) : Type 0 where
   pub answer : take answerSize (drop (answerSize * j) after) ≡ answerBytes a
   pub lines : take (lineSize * a .lines) (drop (answerSize * n + before) after) ≡ take (lineSize * a .lines) own

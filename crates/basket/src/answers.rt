@@ -18,7 +18,7 @@ pub const ANSWER_SIZE: usize = 33;
 // Of the answers of the largest basket.
 pub const ANSWERS_SIZE: usize = 6600;
 
-// The answers stand at the front, zeros behind them. The lines that were kept end at `end`; a place behind what was lent for them says that
+// The answers stand at the front, zeros behind them. The lines that were kept end at `end`; a position behind what was lent for them says that
 // they were too many.
 pub struct Answers {
     pub bytes: [u8; ANSWERS_SIZE],

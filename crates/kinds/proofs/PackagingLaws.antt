@@ -15,7 +15,7 @@ use Rattle.rules.specs.Layout.{_such_, bytes, whole, times}
 use Rattle.rules.specs.Bytes.{signed, signedOf, eitherSide}
 use Rattle.rules.specs.Book.{PackagingRecord}
 use Rattle.rules.specs.BookLayout.{packagingBody, zeroUnlessPresent, has, lengthUnits, volumeUnits, weightUnits, noUnit, star}
-use Rattle.layout.specs.Reads.{Reads, part, placesAt}
+use Rattle.layout.specs.Reads.{Reads, part, positionsAt}
 use Rattle.layout.specs.Ensures.{Accepts, Number, Says, NameEnd}
 use Rattle.layout.proofs.LayoutLaws.{then-reads, such-reads, give-reads, if-reads, byte-at, bytes-reads, signed-reads, times-reads, body-as, taken-are, not-sized, sized-then, sized-give, sized-if, sized-such, sized-byte, sized-bytes, sized-signed, sized-times}
 use Rattle.layout.proofs.NameLaws.{name-rest}
@@ -60,7 +60,7 @@ both {a} {x} {b} {y} p q = record { is = sym (and-mix a x b y) ∙ (λ i. p .is 
 
 module _ (s : List ℕ) (p : ℕ) where
   value-reads : (most n k : ℕ) → p + (k + n * 4) ≤ length s
-      → Reads (times n (signed 4 such eitherSide most)) s (p + k) (all (λ at. eitherSide most (signedAt s at)) (placesAt p 4 k n)) (valuesAt s p k n) (p + (k + n * 4))
+      → Reads (times n (signed 4 such eitherSide most)) s (p + k) (all (λ at. eitherSide most (signedAt s at)) (positionsAt p 4 k n)) (valuesAt s p k n) (p + (k + n * 4))
   value-reads most n k h = times-reads (signed 4 such eitherSide most) s p 4 (λ at. eitherSide most (signedAt s at)) (signedAt s) (λ k g. such-reads (signed 4) (eitherSide most) (signed-reads s p 4 k g)) n k h
 
   abbrev value : ℕ → ℤ

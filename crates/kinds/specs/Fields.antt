@@ -1,4 +1,4 @@
--- The fields of each kind of record, by their places in its bytes.
+-- The fields of each kind of record, by where they stand in its bytes.
 use Prim.Native.Nat.{ℕ, _+_}
 use mathlib.Core.List.{List, [], _∷_, _++_, map}
 use lib.IntN.{ℤ}
@@ -7,7 +7,7 @@ use Rattle.rules.specs.Bytes.{big, signedOf}
 use Rattle.rules.specs.Book.{Record, ArticleRecord, PriceRecord, RoundingRecord, PackagingRecord, SchemeRecord, Article, Row, Pack, Scheme}
 use Rattle.rules.specs.BookLayout.{valueOf, wayOf}
 use Rattle.rules.specs.declared.Rounding.{Rounding}
-use Rattle.layout.specs.Reads.{part, nameStop, placesAt}
+use Rattle.layout.specs.Reads.{part, nameStop, positionsAt}
 
 -- the kind byte of a record
 abbrev pub kindOf : Record → ℕ
@@ -17,7 +17,7 @@ kindOf (RoundingRecord r) = 3
 kindOf (PackagingRecord p) = 4
 kindOf (SchemeRecord s) = 5
 
--- ---- numbers at a place
+-- ---- numbers at a position
 
 abbrev pub numberAt : ℕ → List ℕ → ℕ → ℕ
 numberAt k s at = big (take k (drop at s))
@@ -27,7 +27,7 @@ signedAt s at = signedOf 4 (numberAt 4 s at)
 
 -- n signed numbers, from k bytes behind p on
 abbrev pub valuesAt : List ℕ → ℕ → ℕ → ℕ → List ℤ
-valuesAt s p k n = map (signedAt s) (placesAt p 4 k n)
+valuesAt s p k n = map (signedAt s) (positionsAt p 4 k n)
 
 -- where the second of two names ends, and the third of three
 abbrev pub secondStop : List ℕ → ℕ → ℕ

@@ -1,5 +1,5 @@
 // The bodies of articles, prices, roundings and schemes, each from the byte behind the kind to the end of its record. That of a rounding has no
-// names; of the others each is handed the end of its first two, which is the place of the field behind them.
+// names; of the others each is handed the end of its first two, where the field behind them stands.
 use layout::names::is_name_byte;
 use layout::names::name_end;
 use layout::numbers::four_at;

@@ -13,7 +13,7 @@ use lib.Seq.{drop-cons, drop-drop}
 use Rattle.rules.specs.Lists.{any, all, isSome}
 use Rattle.rules.specs.Layout.{Layout, andThen, _>>=_, give, giveIf, _such_, bytes, byte, front, times, whole, wholly}
 use Rattle.rules.specs.Bytes.{number, signed, oneOf, big, signedOf}
-use Rattle.layout.specs.Reads.{only, when, Reads, Sized, placesAt}
+use Rattle.layout.specs.Reads.{only, when, Reads, Sized, positionsAt}
 use Rattle.layout.specs.Ensures.{Accepts}
 
 -- ---- the next n bytes
@@ -234,13 +234,13 @@ not-sized m p s at h = sized-whole m p (drop at s) (rw length-drop h)
 
 -- ---- n bytes one by one, and n values of one layout, w bytes each, from k bytes behind p on
 
-pub taken-are : (s : List ℕ) (p n k : ℕ) → p + (k + n) ≤ length s → take n (drop (p + k) s) ≡ map (λ at. getD s at 0) (placesAt p 1 k n)
+pub taken-are : (s : List ℕ) (p n k : ℕ) → p + (k + n) ≤ length s → take n (drop (p + k) s) ≡ map (λ at. getD s at 0) (positionsAt p 1 k n)
 taken-are s p zero k h = refl
 taken-are s p (suc n) k h =
     let e : suc (p + k) ≡ p + (k + 1) = omega arith in
     ap (take (suc n)) (drop-cons s (p + k) 0 (omega arith)) ∙ ap (λ t. getD s (p + k) 0 ∷ t) (rw e (taken-are s p n (k + 1) (omega arith)))
 
 module _ {A : Type 0} (m : Layout A) (s : List ℕ) (p w : ℕ) (ok : ℕ → Bool) (v : ℕ → A) (each : (k : ℕ) → p + (k + w) ≤ length s → Reads m s (p + k) (ok (p + k)) (v (p + k)) (p + (k + w))) where
-  pub times-reads : (n k : ℕ) → p + (k + n * w) ≤ length s → Reads (times n m) s (p + k) (all ok (placesAt p w k n)) (map v (placesAt p w k n)) (p + (k + n * w))
+  pub times-reads : (n k : ℕ) → p + (k + n * w) ≤ length s → Reads (times n m) s (p + k) (all ok (positionsAt p w k n)) (map v (positionsAt p w k n)) (p + (k + n * w))
   times-reads zero k h = reads-as give-reads refl (omega arith)
   times-reads (suc n) k h = reads-as (then-reads _ _ (each k (omega arith)) (then-reads _ _ (times-reads n (k + w) (omega arith)) give-reads)) (simp and-true) (omega arith)

@@ -14,10 +14,10 @@ counted m = do
   n ← byte such between 0 32
   times n m
 
--- ---- where values stand, by the value at a place and the place where it stops
+-- ---- where values stand, by the value at a position and the position where it stops
 
 module _ {A : Type 0} (value : List ℕ → ℕ → A) (stop : List ℕ → ℕ → ℕ) where
-  -- n values from a place on, each where the one before it stops
+  -- n values from a position on, each where the one before it stops
   unfoldable pub valuesAt : List ℕ → ℕ → ℕ → List A
   valuesAt s at zero = []
   valuesAt s at (suc n) = value s at ∷ valuesAt s (stop s at) n

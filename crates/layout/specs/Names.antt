@@ -1,4 +1,4 @@
--- A list of names, by the places where each starts and ends in lent bytes.
+-- A list of names, by the positions where each starts and ends in lent bytes.
 use Prim.Native.Nat.{ℕ, _≤_, _<_}
 use mathlib.Core.List.{List}
 use lib.ListN.{length, getD}

@@ -1,4 +1,4 @@
--- What a layout does at a place of a byte string.
+-- What a layout does at a position of a byte string.
 use Prim.Native.Nat.{ℕ, zero, suc, _+_, _-_, _<_}
 use mathlib.Core.Path.{_≡_}
 use mathlib.Core.List.{List, [], _∷_}
@@ -39,7 +39,7 @@ nameStop s at = at + 1 + getD s at 0
 abbrev pub nameAt : List ℕ → ℕ → List ℕ
 nameAt s at = part s (at + 1) (nameStop s at)
 
--- n places, w apart, from k behind p on
-abbrev pub placesAt : ℕ → ℕ → ℕ → ℕ → List ℕ
-placesAt p w k zero = []
-placesAt p w k (suc n) = (p + k) ∷ placesAt p w (k + w) n
+-- n positions, w apart, from k behind p on
+abbrev pub positionsAt : ℕ → ℕ → ℕ → ℕ → List ℕ
+positionsAt p w k zero = []
+positionsAt p w k (suc n) = (p + k) ∷ positionsAt p w (k + w) n

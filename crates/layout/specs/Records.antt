@@ -1,4 +1,4 @@
--- What stands at the places of a book: a record from its length on, the records that are left, and where a pass over them stands.
+-- What stands at the positions of a book: a record from its length on, the records that are left, and where a pass over them stands.
 use Prim.Native.Nat.{ℕ, _+_, _≤_, _<_}
 use mathlib.Core.Path.{_≡_}
 use mathlib.Core.Bool.{true}

@@ -1,4 +1,4 @@
-// Numbers in bytes, the highest byte first: read at a place, written at a place, and tests of a byte.
+// Numbers in bytes, the highest byte first: read and written at a position, and tests of a byte.
 ghost use Prim.Native.Nat.{_+_, _/_, _<_, _≤_};
 ghost use mathlib.Core.List.{[], _∷_};
 ghost use lib.Dec.{eqb};

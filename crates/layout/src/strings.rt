@@ -1,4 +1,4 @@
-// Byte strings written at a place: a copy of one, and one byte over and over. Each says where what was written ends.
+// Byte strings written at a position: a copy of one, and one byte over and over. Each says where what was written ends.
 ghost use Prim.Native.Nat.{_+_, _≤_};
 ghost use lib.ListN.{length, replicate};
 ghost use Rattle.layout.specs.Ensures.{PutsTo};

@@ -27,7 +27,7 @@ pub record StandFor (book : List Record) (q : Question) (picks : List Pick) (n :
 
 -- ---- base and currency
 
--- `r` is the place of the first base row of the first n, or n
+-- `r` says which of the first n is the first base row, from 0, or n
 pub record FirstBase (picks : List Pick) (n r : ℕ) : Type 0 where
   pub is : first isBase (viewsIn picks n) ≡ only (ltb r n) (viewIn (getD picks r noPick))
   pub within : r ≤ n

@@ -16,7 +16,7 @@ ghost use Rattle.layout.specs.Ensures.{Says};
 ghost use Rattle.lines.specs.Views.{viewsIn, amountsIn, viewsBytes};
 ghost use Rattle.price.specs.Answered.{Ready, Listed, PutsIfRoom, AnsweredIs};
 
-// What a caller reads, and where the lines end. Where they found no room, that is a place behind the whole output.
+// What a caller reads, and where the lines end. Where they found no room, that is a position behind the whole output.
 pub struct Answered {
     pub answer: PriceAnswer,
     pub end: usize,

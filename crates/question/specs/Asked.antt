@@ -52,7 +52,7 @@ pub record AskAt (s : List ℕ) (a g : ℕ) : Type 0 where
   pub names-end : g ≡ namesStop (versionOf s) s (a + 12 + 1) (getD s (a + 12) 0)
   pub is : questionOf s ≡ some (questionAt s a g)
 
--- the definition's question, of the places in s
+-- the definition's question, of what stands in s
 abbrev pub askIn : List ℕ → Ask → Question
 askIn s r = record {
   article = take (r .article .size) (drop (r .article .at) s);
@@ -64,7 +64,7 @@ askIn s r = record {
   properties = propertiesAt s (r .properties) (r .count);
 }
 
--- `r` is the question that s is, and its places are where the layout has them
+-- `r` is the question that s is, and its parts stand where the layout has them
 pub record AskIs (s : List ℕ) (r : Ask) : Type 0 where
   pub is : questionOf s ≡ some (askIn s r)
   pub version-is : r .version ≡ versionOf s

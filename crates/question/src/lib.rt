@@ -22,8 +22,8 @@ ghost use Rattle.layout.specs.Ensures.{Says};
 ghost use Rattle.question.specs.Asked.{AskAt, AskIs};
 ghost use Rattle.question.specs.Parts.{currencyOk, termsOk};
 
-// A question, read by value. The names in it stay there: `granted` is the place of the first granted name's length byte,
-// `conditions` how many there are, and the version says whether each has a factor behind it; `properties` is the place of the first property, `count` how many there are.
+// A question, read by value. The names in it stay there: `granted` is the position of the first granted name's length byte,
+// `conditions` how many there are, and the version says whether each has a factor behind it; `properties` is that of the first property, `count` how many there are.
 // A currency of three zeros: none is asked.
 pub struct Ask {
     pub article: rules::Part,
