@@ -1,10 +1,6 @@
 // A field of a line: where its text stands, how long the text is, and where the line goes on.
-use layout::names::is_name_byte;
 ghost use Prim.Native.Nat.{_≤_, _<_};
 ghost use lib.ListN.{length};
-ghost use Rattle.rules.specs.Lists.{all};
-ghost use Rattle.rules.specs.Bytes.{nameByte};
-ghost use Rattle.layout.specs.Ensures.{Says};
 ghost use Rattle.fields.specs.Field.{Closing, CutAt, PastSpaces, Bare, Opened, NoField, FieldIs, NextIs};
 
 // What stands from `from` to `to` is the field's text, unless it is longer than the text: then each quote in it stands twice.
@@ -87,19 +83,6 @@ fn past_spaces(line: &[u8], at: usize) -> usize
         i += 1;
     }
     i
-}
-
-// Whether all bytes are printable. A flag to the end, with no way out before it: many bytes are then tested at a time.
-pub fn all_named(s: &[u8]) -> bool
-    ensures { λ r. ⌜ Says (all nameByte (now (s .entry))) r ⌝ }
-{
-    let mut ok = true;
-    let mut i = 0;
-    while i < s.len() {
-        ok = ok & is_name_byte(s[i]);
-        i += 1;
-    }
-    ok
 }
 
 // A field that is none.

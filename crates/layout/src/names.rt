@@ -14,7 +14,7 @@ pub fn is_name_byte(b: u8) -> bool
 }
 
 // A flag to the end, with no way out before it: many bytes are then tested at a time.
-fn all_name_bytes(s: &[u8]) -> bool
+pub fn all_name_bytes(s: &[u8]) -> bool
     ensures { λ r. ⌜ Says (all nameByte (now (s .entry))) r ⌝ }
 {
     let mut ok = true;

@@ -1,6 +1,5 @@
 // What a field of the price file means, by the column that it stands in. A field's own bytes are read: where quotes in them stand twice, it is bad.
 use fields::field::Field;
-use fields::field::all_named;
 use figures::Amount;
 use figures::Capitals;
 use figures::Figure;
@@ -11,6 +10,7 @@ use figures::date_in;
 use figures::one_of_three;
 use figures::one_of_two;
 use figures::quantity_in;
+use layout::names::all_name_bytes;
 ghost use mathlib.Core.List.{[], _∷_};
 ghost use Rattle.rules.specs.Lists.{all};
 ghost use Rattle.rules.specs.Bytes.{nameByte};
@@ -25,7 +25,7 @@ pub fn named_in(line: &[u8], f: Field) -> bool
 {
     let from = f.from;
     let to = f.to;
-    all_named(&line[from..to])
+    all_name_bytes(&line[from..to])
 }
 
 // Sale or purchase.

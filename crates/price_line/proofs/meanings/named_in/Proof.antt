@@ -10,8 +10,8 @@ pub named-in-spec : {M : Type 1} → statement M
 named-in-spec =
     tie.close
     (tie.spec
-    (λ c. search needs)  -- sub-all-named
-    (λ c. search needs)  -- part-all-named-start
-    (λ c. search needs)  -- part-all-named-end
-    (λ c κs. search laws)  -- all-named-requires
+    (λ c. search needs)  -- sub-all-name-bytes
+    (λ c. search needs)  -- part-all-name-bytes-start
+    (λ c. search needs)  -- part-all-name-bytes-end
+    (λ c κs. search laws)  -- all-name-bytes-requires
     (λ c. search laws))  -- returns

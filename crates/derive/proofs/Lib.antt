@@ -1,0 +1,9 @@
+pub mod NameLaws
+pub mod ShortLaws
+pub mod NamedLaws
+pub mod DerivationLaws
+pub mod OutLaws
+pub mod Promises
+pub mod WriteLaws
+pub mod PutLaws
+pub mod CallLaws

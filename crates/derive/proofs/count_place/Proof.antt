@@ -1,0 +1,18 @@
+-- `derive::count_place` meets its contract.
+use borrow.Author.Needs.{needs}
+use Rattle.derive.proofs.CallLaws.{no-question, question-there, grants-some, grants-none}
+use Rattle.derive.proofs.count_place.Statement.{statement}
+use Rattle.derive.proofs.count_place.Tie as tie
+
+ruleset laws = (needs, no-question, question-there, grants-some, grants-none)
+
+pub count-place-spec : {M : Type 1} → statement M
+count-place-spec =
+    tie.close
+    (tie.spec
+    (λ c κs. search laws)  -- question-ok-requires
+    (λ c. search laws)  -- returns
+    (λ c κs. search laws)  -- ask-of-requires
+    (λ c. search laws)  -- returns-2
+    (λ c. search needs)  -- sub-result
+    (λ c. search laws))  -- returns-3

@@ -1,0 +1,3 @@
+pub mod PricedLaws
+pub mod CallLaws
+pub mod Promises

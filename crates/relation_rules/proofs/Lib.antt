@@ -1,0 +1,14 @@
+pub mod ReaderLaws
+pub mod TokenLaws
+pub mod SoundLaws
+pub mod ReadLaws
+pub mod DepthLaws
+pub mod TokenEnds
+pub mod PlaceLaws
+pub mod FaultLaws
+pub mod ExactLaws
+pub mod TruthLaws
+pub mod MoveLaws
+pub mod DerivedLaws
+pub mod Cases
+pub mod Promises

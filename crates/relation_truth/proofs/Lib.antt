@@ -1,0 +1,4 @@
+pub mod Laws
+pub mod ValueLaws
+pub mod OrderLaws
+pub mod SignLaws

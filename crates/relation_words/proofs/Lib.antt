@@ -1,0 +1,11 @@
+pub mod PartLaws
+pub mod ByteLaws
+pub mod WordLaws
+pub mod ReadLaws
+pub mod CapitalLaws
+pub mod RunLaws
+pub mod DigitLaws
+pub mod HeardLaws
+pub mod EndLaws
+pub mod TokenLaws
+pub mod NothingLaws

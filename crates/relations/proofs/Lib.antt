@@ -1,0 +1,11 @@
+pub mod PlaceLaws
+pub mod JoinLaws
+pub mod AmongLaws
+pub mod SimpleLaws
+pub mod FirstLaws
+pub mod ConditionLaws
+pub mod StartLaws
+pub mod ChainLaws
+pub mod AssignmentLaws
+pub mod NameLaws
+pub mod TextLaws

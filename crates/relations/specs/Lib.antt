@@ -1,0 +1,5 @@
+pub mod Places
+pub mod Reading
+pub mod Starts
+pub mod Assignments
+pub mod Names
