@@ -3,9 +3,10 @@ from __future__ import annotations
 
 import re
 from datetime import date
-from typing import Any, Callable, Mapping, Optional
+from typing import Any, Callable, Mapping, Optional, Union
 
 from rafttwine import Cents, Factor, Percent
+from rafttwine.relation_texts import RESERVED, WORD
 
 Reader = Callable[[str], Any]
 
@@ -52,10 +53,27 @@ def name_of(least: int, most: int) -> Reader:
     return read
 
 
-def file_of(cell: str) -> str:
-    if not cell:
-        raise Unfit("the name of a file beside this sheet, as ocd_price.csv")
-    return cell
+def file_of(example: str) -> Reader:
+    def read(cell: str) -> str:
+        if not cell:
+            raise Unfit(f"the name of a file beside this sheet, as {example}")
+        return cell
+    return read
+
+
+def property_of(cell: str) -> str:
+    """The name of a property as relations see it, in capitals."""
+    if not re.fullmatch(WORD, cell) or cell.upper() in RESERVED:
+        raise Unfit("a name that a relation can have: letters, digits and _, and no reserved word")
+    return name_of(1, 255)(cell.upper())
+
+
+def chosen_of(cell: str) -> Union[str, int, None]:
+    """What was chosen for a property: a text in quotes, a whole number, or nothing."""
+    text, number = re.fullmatch("'([^']*)'", cell), re.fullmatch("-?[0-9]{1,18}", cell)
+    if not (text or number or not cell):
+        raise Unfit("a text in quotes, as 'oak', a whole number of up to 18 digits, or empty")
+    return name_of(0, 255)(text[1]) if text else int(cell) if number else None
 
 
 def currency_of(cell: str) -> str:

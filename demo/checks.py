@@ -9,6 +9,7 @@ from typing import Any, Iterable, Mapping, NamedTuple, Optional
 import rafttwine
 from cells import Unfit
 from makers import PriceFile
+from relations import Relation
 from rows import Fault, Row, Section, Sheet, Unreadable, Wrong, content_of
 from sections import SECTIONS, Kind
 
@@ -31,14 +32,20 @@ class Checked:
         read = {name: self._section(sheet, name, kind) for name, kind in SECTIONS.items()}
         self._references(read)
         self.made = {name: [self._made(name, one) for one in rows] for name, rows in read.items()}
-        self.price_files = [file for one in read["file"] if (file := self._price_file(sheet, one))]
+        self.price_files = [PriceFile(*found, one.values["first text"]) for one in read["file"]
+                            if (found := self._file(sheet, "file", one))]
+        self.relations = [Relation(*found, made) for one, made in zip(read["relation"], self.made["relation"])
+                          if (found := self._file(sheet, "relation", one))]
+        self._chosen_for_nothing(sheet, read)
         wrong = told(sheet.file, self._faults)
         articles = None if "article" in faulty(self._faults) else {one.values["number"] for one in read["article"]}
         for file in self.price_files:
             wrong += told(file.path, file.faults(articles))
+        for relation in self.relations:
+            wrong += told(relation.path, relation.faults())
         if wrong:
             raise Wrong(wrong)
-        self.warnings = told(sheet.file, self._warnings)
+        self.warnings = told(sheet.file, self._warnings) + [one for relation in self.relations for one in relation.warnings()]
 
     def _fault(self, section: str, row: Row, column: str, sentence: str) -> None:
         self._faults.append(Fault(row.line, sentence, section, column, row.cells[column]))
@@ -116,14 +123,19 @@ class Checked:
                     if values[column] and not wildcard and values[column] not in there:
                         self._fault(name, row, column, f"not in [{target}]")
 
-    def _price_file(self, sheet: Sheet, read: Read) -> Optional[PriceFile]:
-        """The file that a row names, from the folder of the sheet; None if it cannot be read."""
+    def _file(self, sheet: Sheet, section: str, read: Read) -> Optional[tuple[str, bytes]]:
+        """Path and content of the file that a row names, in the folder of the sheet; None if it cannot be read."""
         path = os.path.join(os.path.dirname(sheet.file), read.values["name"])
         try:
-            return PriceFile(path, content_of(path), read.values["first text"])
+            return path, content_of(path)
         except Unreadable as unreadable:
-            self._fault("file", read.row, "name", str(unreadable))
+            self._fault(section, read.row, "name", str(unreadable))
             return None
+
+    def _chosen_for_nothing(self, sheet: Sheet, read: Mapping[str, list[Read]]) -> None:
+        """What was chosen says nothing without a relation."""
+        if read["chosen"] and "relation" not in sheet.sections:
+            self._faults.append(Fault(sheet.sections["chosen"].line, "there is no [relation] that looks at it", "chosen"))
 
     def _made(self, name: str, read: Read) -> Any:
         """What the row stands for; None if its builder finds a fault that no cell has by itself."""

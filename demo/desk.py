@@ -27,6 +27,7 @@ class Desk:
         except ValueError as error:
             raise Wrong([f"{sheet.file}: {error}"]) from None
         self.asked, self.properties, self.offer = made["question"][0], made["property"], made["offer"]
+        self.relations, self.chosen = checked.relations, made["chosen"]
 
     def read_price_files(self) -> None:
         """Puts the rows of the maker's price file into the book. The library reads them, so that this comes after the checks."""

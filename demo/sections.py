@@ -6,17 +6,19 @@ from dataclasses import dataclass, field
 from datetime import date
 from typing import Any, Callable, Iterator, Mapping, Optional
 
-from cells import (Reader, condition_of, currency_of, day_of, file_of, if_given, name_of, parts_of, several, value_of, whole_of,
-                   word_of, yes_or_no)
+from cells import (Reader, chosen_of, condition_of, currency_of, day_of, file_of, if_given, name_of, parts_of, property_of, several,
+                   value_of, whole_of, word_of, yes_or_no)
 from makers import MakersFile
-from rafttwine import (Article, Factor, Granted, Level, PackagingRow, Percent, PriceRow, Property, Question, Rounding, Rule, Scheme,
-                       Way)
+from rafttwine import (Article, Factor, Granted, Held, Level, PackagingRow, Percent, PriceRow, Property, Question, Rounding, Rule,
+                       Scheme, Way)
+from relations import Related
 
 Values = Mapping[str, Any]
 # The longest period of a price calendar.
 MOST_DAYS = 1096
 MOST_LISTED = 32
 MOST_OFFERED = 200
+MOST_CHOSEN = 64
 LONGEST_TEXT = 65_535
 MOST_FIRST_TEXT = 1_000_000
 
@@ -122,9 +124,12 @@ def units(**known: str) -> dict[str, Column]:
 TEXT = name_of(0, LONGEST_TEXT)
 MEASURE = if_given(parts_of(3, -10_000_000, 10_000_000))
 COUNT = if_given(whole_of(-10_000, 10_000))
-ASKED_FOR = {
+PIECES = {
     **named(1, 40, "article"),
     "quantity": Column("quantity", whole_of(1, 100_000)),
+}
+ASKED_FOR = {
+    **PIECES,
     "granted": Column("granted", several(condition_of, 0, MOST_LISTED, "names")),
 }
 
@@ -178,7 +183,16 @@ SECTIONS: Mapping[str, Kind] = {
         "day": Column("day", day_of),
     }, most=MOST_OFFERED, refers={"article": "article"}),
     "file": Kind(MakersFile, {
-        "name": Column("name", file_of),
+        "name": Column("name", file_of("ocd_price.csv")),
         "first text": Column("first_text", whole_of(1, MOST_FIRST_TEXT, empty=0)),
     }, most=1),
+    "relation": Kind(Related, {
+        "name": Column("name", file_of("desk.relation")),
+        **PIECES,
+        "day": Column("day", day_of),
+    }, most=1, refers={"article": "article"}),
+    "chosen": Kind(Held, {
+        "property": Column("name", property_of),
+        "value": Column("value", chosen_of),
+    }, most=MOST_CHOSEN, key=("property",)),
 }

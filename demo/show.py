@@ -10,8 +10,9 @@ from decimal import Decimal
 from typing import Callable, Iterable, Optional, Union
 
 from desk import Desk
-from rafttwine import (Factor, Granted, Line, Packaging, Price, Refusal, Refused, Stretch, basket, calendar, final_number, packaging,
-                       price, text)
+from rafttwine import (Factor, Granted, Held, Line, Packaging, Price, Refusal, Refused, Stretch, basket, calendar, final_number,
+                       packaging, price, text)
+from relations import Relation
 from rows import Sheet, Wrong
 from sections import Offered
 
@@ -53,7 +54,8 @@ def show(desk: Desk) -> None:
     asked = desk.asked
     some_day = desk.question(asked.days[0])
     sections = {
-        **{f"Price on {day:%A} {day.day} {day:%B %Y}": answered(desk, lambda: itemised(desk, day)) for day in asked.days},
+        **{f"Price on {long(day)}": answered(desk, lambda: itemised(desk, day)) for day in asked.days},
+        **{f"Price by relation on {long(one.related.day)}": derived(desk, one) for one in desk.relations},
         **({"Offer": answered(desk, lambda: offer(desk))} if desk.offer else {}),
         "Calendar of the price of one piece": answered(desk, lambda: stretches(desk)),
         "Order number": answered(desk, lambda: [(final_number(desk.book, some_day), "", "")]),
@@ -84,10 +86,26 @@ def print_aligned(sections: dict[str, list[Shown]]) -> None:
 
 
 def itemised(desk: Desk, day: date) -> list[Shown]:
+    return lines_of(desk, price(desk.book, desk.question(day)))
+
+
+def derived(desk: Desk, relation: Relation) -> list[Shown]:
+    """What was chosen, what the relation grants for it, and what that costs."""
+    chosen, names = ", ".join(map(choice, desk.chosen)), ", ".join(relation.names(desk.chosen))
+    told = [f"Chosen: {chosen or 'nothing'}", f"Granted by {relation.related.name}: {names or 'nothing'}"]
+    price_lines = answered(desk, lambda: lines_of(desk, relation.price(desk.book, desk.chosen)))
+    return [*((sentence, "", "") for sentence in told), *price_lines]
+
+
+def choice(one: Held) -> str:
+    value = f"'{one.value}'" if isinstance(one.value, str) else "none" if one.value is None else one.value
+    return f"{one.name} {value}"
+
+
+def lines_of(desk: Desk, answer: Price) -> list[Shown]:
     """The lines with their texts, what one piece costs and what all cost, and which wishes are in no line."""
-    answer, asked = price(desk.book, desk.question(day)), desk.asked
     lines = [(line_text(desk, line), line.amount) for line in answer.lines]
-    totals = [("One piece", answer.unit), *([(pieces(asked.quantity), answer.total)] if asked.quantity > 1 else [])]
+    totals = [("One piece", answer.unit), *([(pieces(answer.quantity), answer.total)] if answer.quantity > 1 else [])]
     listed, summed = ([(name, amount(cents), answer.currency) for name, cents in rows] for rows in (lines, totals))
     return [*listed, RULE, *summed, *((f"No price line for {name}", "", "") for name in answer.unused_names)]
 
@@ -176,6 +194,10 @@ def pieces(quantity: int) -> str:
 
 def amount(cents: int) -> str:
     return f"{Decimal(cents) / 100:,.2f}"
+
+
+def long(day: date) -> str:
+    return f"{day:%A} {day.day} {day:%B %Y}"
 
 
 def short(day: date) -> str:

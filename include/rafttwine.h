@@ -1,20 +1,21 @@
 /*
  * Rafttwine for C and C++: prices of an article or of a whole basket, price calendars, final article numbers, packaging data and line
- * texts for planning tools; and a maker's own price file, read to price records and written from them.
+ * texts for planning tools; the conditions that a maker's relation derives; and a maker's own price file, read to price records and
+ * written from them.
  *
  * A maker's price rows stand in a price book, a string of bytes that was packed beforehand; what the lines of a price are called stands
  * in text books. A tool lends a book together with a question: which article, on which day, how many, and which conditions the planned
  * piece grants. The calls work on lent bytes alone and are proved to answer by the rules, on every input.
  *
- * Three files go with this header, in share/doc/rafttwine where it is installed: FORMAT.md has the bytes of price books, questions
- * and text books in tables, for whoever packs them, and the lines of price files; CALLS.md has each call with an example, and with the
- * smallest input for each of its refusals; price.c is a whole program. In the source they are docs/FORMAT.md, docs/CALLS.md and
- * examples/c/price.c.
+ * Four files go with this header, in share/doc/rafttwine where it is installed: FORMAT.md has the bytes of price books, questions,
+ * property lists and text books in tables, for whoever packs them, and the lines of price files; CALLS.md has each call with an
+ * example, and with the smallest input for each of its refusals; RELATIONS.md has the grammar of relations and what they mean; price.c
+ * is a whole program. In the source they are docs/FORMAT.md, docs/CALLS.md, docs/RELATIONS.md and examples/c/price.c.
  *
  * WHAT YOU MAY COUNT ON
  *
  * - Lend any bytes of any length. What is no book, or no question, or has no answer gets a refusal number, in a fixed order. Beside a
- *   refusal every other field is 0, but for the place of a bad line or record beside 13; and no lent byte is written.
+ *   refusal every other field is 0, but for the place beside 13 to 16; and no lent byte is written.
  * - A call that is not refused writes the front of the lent output, and leaves what stands behind that as it was.
  * - Every call returns. None keeps or shares anything: no heap, no globals, no locks, no files, no clock, no locale, no errno. So any
  *   number of threads may call at once, over the same book too, and the same bytes always give the same answer.
@@ -81,7 +82,7 @@ extern "C" {
 
 /* This header's version. The first number changes when a program has to be compiled anew, the second when something is added. */
 #define RAFTTWINE_VERSION_MAJOR 2
-#define RAFTTWINE_VERSION_MINOR 1
+#define RAFTTWINE_VERSION_MINOR 2
 #define RAFTTWINE_VERSION_PATCH 0
 /* As one number that grows from version to version, and as text with dots between. */
 #define RAFTTWINE_VERSION_NUMBER (RAFTTWINE_VERSION_MAJOR * 10000 + RAFTTWINE_VERSION_MINOR * 100 + RAFTTWINE_VERSION_PATCH)
@@ -105,7 +106,8 @@ uint32_t rafttwine_version(void);
 enum rafttwine_refusal {
     RAFTTWINE_DONE = 0,               /* not refused: the other fields hold the answer */
     RAFTTWINE_BROKEN_BOOK = 1,        /* the price book, or one of the two text books, is not laid out as such a book */
-    RAFTTWINE_BROKEN_QUESTION = 2,    /* a question is not laid out as above, its day is not in the calendar, or a basket has too many */
+    RAFTTWINE_BROKEN_QUESTION = 2,    /* a question or a property list is not laid out as here, a day is not in the calendar, a basket
+                                         has too many questions, or one grants names beside a relation */
     RAFTTWINE_NO_ARTICLE = 3,         /* the book does not have the article */
     RAFTTWINE_NO_BASE_LINE = 4,       /* no base price of the article holds: it has no price that day, in that quantity */
     RAFTTWINE_MIXED_CURRENCIES = 5,   /* a fixed amount among the lines is in another currency than the first base line */
@@ -116,7 +118,10 @@ enum rafttwine_refusal {
     RAFTTWINE_MANY_STRETCHES = 10,    /* over 1200 stretches; a period is too short for that, so nobody meets this number */
     RAFTTWINE_UNFIT_PACKAGING = 11,   /* packaging data in different units, or a sum of them below zero */
     RAFTTWINE_NO_TEXT = 12,           /* neither text book has the number */
-    RAFTTWINE_BAD_ROW = 13            /* a line of a price file makes no price record, or a price record no line; a place says which */
+    RAFTTWINE_BAD_ROW = 13,           /* a line of a price file makes no price record, or a price record no line; a place says which */
+    RAFTTWINE_BAD_RELATION = 14,      /* a relation goes on, or ends, as none does; a place says where */
+    RAFTTWINE_DEEP_RELATION = 15,     /* a parenthesis of a relation's condition is over sixteen deep; a place says which */
+    RAFTTWINE_UNFIT_NAME = 16         /* a relation derives a name that no question can grant, or a 33rd; a place says which */
 };
 
 /* A refusal in English, for a message or a log. A later library may have further numbers. */
@@ -124,7 +129,9 @@ static inline const char *rafttwine_refusal_text(unsigned number) {
     switch (number) {
     case RAFTTWINE_DONE: return "done";
     case RAFTTWINE_BROKEN_BOOK: return "the price book, or one of the text books, is not laid out as such a book";
-    case RAFTTWINE_BROKEN_QUESTION: return "a question is not laid out as one, its day is not in the calendar, or there are too many questions";
+    case RAFTTWINE_BROKEN_QUESTION:
+        return "a question or its property list is not laid out as such, its day is not in the calendar, there are too many questions, "
+               "or it grants names beside a relation";
     case RAFTTWINE_NO_ARTICLE: return "the book does not have the article";
     case RAFTTWINE_NO_BASE_LINE: return "the article has no base price on that day, in that quantity";
     case RAFTTWINE_MIXED_CURRENCIES: return "a fixed amount is in another currency than the first base line";
@@ -136,6 +143,9 @@ static inline const char *rafttwine_refusal_text(unsigned number) {
     case RAFTTWINE_UNFIT_PACKAGING: return "packaging data are in different units, or sum up to less than zero";
     case RAFTTWINE_NO_TEXT: return "neither text book has the number";
     case RAFTTWINE_BAD_ROW: return "a line of the price file makes no price record, or a price record of the book makes no line";
+    case RAFTTWINE_BAD_RELATION: return "the relation has something that no relation has at that place, or it ends too early";
+    case RAFTTWINE_DEEP_RELATION: return "a condition of the relation has parentheses that are over sixteen deep";
+    case RAFTTWINE_UNFIT_NAME: return "the relation derives a name that no question can grant, or over 32 names";
     default: return "unknown refusal";
     }
 }
@@ -287,7 +297,7 @@ rafttwine_packaging_answer rafttwine_packaging(const uint8_t *book, size_t book_
  * line or of an output. */
 typedef struct rafttwine_placed {
     uint64_t length; /* how many bytes were written */
-    uint64_t place;  /* beside 13, which line or which byte it is about, from 1; otherwise 0 */
+    uint64_t place;  /* beside 13 to 16, which line or which byte it is about, from 1; otherwise 0 */
     uint8_t number;  /* 0, or the refusal */
 } rafttwine_placed;
 
@@ -312,6 +322,55 @@ rafttwine_placed rafttwine_read_prices(const uint8_t *file, size_t file_length, 
 #define RAFTTWINE_MOST_FILE_BYTES(book_length) (3 * (book_length))
 
 rafttwine_placed rafttwine_write_prices(const uint8_t *book, size_t book_length, uint8_t *out, size_t out_length);
+
+/* ---- Conditions that a maker's relation derives from the properties of the planned piece ---- */
+
+/* A tool that cannot evaluate a maker's relations lends the relation, what the properties hold, and a question that grants no condition
+ * itself. A relation is a text in Latin-1 of assignments such as
+ *
+ *   $VARCOND = 'OAK' IF TOP = 'oak' AND WIDTH >= 1600, $VARCOND = 'TRAY' IF NOT SPECIFIED SHELF
+ *
+ * each of which grants its name if its condition is plainly true; RELATIONS.md has the grammar, and what its conditions mean. The
+ * properties are a list:
+ *
+ *   1 byte    how many properties there are, at most 64; then for each of them
+ *                a name   what the relation calls it, of 0 to 255 bytes. Small letters a to z count as capitals
+ *                1 byte   0 if it has no value, 1 if that is a text, 2 if it is a number
+ *                a name   of a text: its 0 to 255 bytes
+ *                8 bytes  of a number: it, signed (two's complement)
+ *             Of properties with one name the first counts
+ *
+ * Beside 14, 15 and 16 the place is that of a byte in the relation, from 1: of 14 the first byte that no relation has behind those before
+ * it, or one past the end of a relation that is cut; of 15 the parenthesis that is too deep; of 16 the $ of the assignment. A line ends
+ * with its line feed: the line of a place is one more than the line feeds before it, the column one more than the bytes behind the last
+ * of these. */
+
+/* Writes the question with the names that the relation derives, in order, where granted conditions stand; in version 2 with
+ * RAFTTWINE_FACTOR_ONE behind each. All else of it stays, its version too. What is written is a question for any other call.
+ *
+ * The refusal is 2, 14 or 15, 16 or 7, the first that applies: 2 also for the properties, and for a question that grants names itself; of
+ * 14 and 15 the one whose place is earlier. Room for RAFTTWINE_MOST_DERIVED_BYTES of the question's length is always enough. */
+#define RAFTTWINE_MOST_DERIVED_BYTES(question_length) ((question_length) + 736)
+
+rafttwine_placed rafttwine_derive(const uint8_t *question, size_t question_length, const uint8_t *properties, size_t properties_length,
+                                  const uint8_t *relation, size_t relation_length, uint8_t *out, size_t out_length);
+
+/* The price of that question, which is not written: what rafttwine_price answers to it, lines and all, with places of names in the order
+ * in which they were derived. The refusal is 1, 2, 14 or 15, 16, 3, 4, 5, 6 or 7, the first that applies, each as above. */
+typedef struct rafttwine_derived_answer {
+    int64_t unit;         /* the price of one piece in cents: the sum of the lines' amounts */
+    int64_t total;        /* that times the quantity */
+    uint64_t lines;       /* how many lines were written */
+    uint64_t place;       /* beside 14, 15 and 16, which byte of the relation it is about, from 1; otherwise 0 */
+    uint32_t unused;      /* which derived names brought no line: the lowest bit for place 1; a repeated name is never among them */
+    uint8_t unused_count; /* how many those are */
+    uint8_t number;       /* 0, or the refusal */
+    uint8_t currency[3];  /* the currency of the first base line, three capitals */
+} rafttwine_derived_answer;
+
+rafttwine_derived_answer rafttwine_price_derived(const uint8_t *book, size_t book_length, const uint8_t *question, size_t question_length,
+                                                 const uint8_t *properties, size_t properties_length, const uint8_t *relation,
+                                                 size_t relation_length, uint8_t *lines, size_t lines_length);
 
 #ifdef __cplusplus
 }

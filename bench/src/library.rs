@@ -5,7 +5,7 @@
 #[path = "../../tests/runners/calls/src/archive.rs"]
 mod archive;
 
-pub use archive::{basket, calendar, price, read_prices, write_prices};
+pub use archive::{basket, calendar, derive, price, price_derived, read_prices, write_prices};
 
 #[link(name = "measured", kind = "static")]
 extern "C" {

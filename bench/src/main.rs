@@ -10,9 +10,13 @@ mod cut;
 mod dice;
 mod library;
 mod plain_file;
+mod plain_relation;
 mod price;
+mod price_derived;
 mod price_file;
 mod reference;
+mod relation;
+mod relation_texts;
 mod timing;
 
 const SEED: u64 = 20_240_630;
@@ -25,5 +29,7 @@ fn main() {
     rows.extend(cut::measure(&mut dice));
     rows.extend(basket::measure(&mut dice));
     rows.extend(price_file::measure(&mut dice));
+    rows.extend(relation::measure(&mut dice));
+    rows.extend(price_derived::measure(&mut dice));
     timing::print_table(&rows);
 }

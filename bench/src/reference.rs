@@ -1,5 +1,6 @@
-//! Which bytes are a price book, in plain Rust: written for the benchmark from the scope paper ("The price book"), to compare with.
-//! It reads field after field and leaves at the first fault. Nothing in it is tuned, and nothing is done twice.
+//! Which bytes are a price book, and which are a question that grants nothing, in plain Rust: written for the benchmark from the scope
+//! paper ("The price book", "The question") and the request for factors, to compare with. It reads field after field and leaves at
+//! the first fault. Nothing in it is tuned, and nothing is done twice.
 
 const MOST_BYTES: usize = 4_194_304;
 
@@ -88,26 +89,70 @@ fn scheme(body: &mut Reader) -> Option<()> {
     Some(())
 }
 
-fn is_name_byte(byte: u8) -> bool {
+/// Where a question says how many names it grants, if it is a good one and grants none.
+pub fn place_of_no_names(question: &[u8]) -> Option<usize> {
+    let mut reader = Reader { rest: question };
+    holds(reader.number()? as usize == question.len())?;
+    reader.one_of(&[1, 2])?; // version
+    reader.name(1, 40)?;
+    reader.one_of(b"SP")?;
+    let currency = reader.take(3)?;
+    holds(currency == [0; 3] || currency.iter().all(u8::is_ascii_uppercase))?;
+    holds(is_day(reader.number()?))?;
+    holds((1..=100_000).contains(&reader.number()?))?;
+    let place = question.len() - reader.rest.len();
+    reader.one_of(&[0])?;
+    let properties = reader.byte()?;
+    holds(properties <= 32)?;
+    for _ in 0..properties {
+        property(&mut reader)?;
+    }
+    holds(reader.rest.is_empty())?;
+    Some(place)
+}
+
+fn property(reader: &mut Reader) -> Option<()> {
+    let width = reader.byte()?;
+    holds((1..=30).contains(&width))?;
+    let value = match reader.one_of(&[0, 1, 2])? {
+        0 => reader.name(1, width.into())?,
+        _ => reader.name(0, 0)?,
+    };
+    holds(!value.iter().any(|byte| matches!(byte, b' ' | 160 | b'\\')))
+}
+
+fn is_day(date: u32) -> bool {
+    let (year, month, day) = (date / 10_000, date / 100 % 100, date % 100);
+    let leap = year % 4 == 0 && (year % 100 != 0 || year % 400 == 0);
+    let days = match month {
+        1 | 3 | 5 | 7 | 8 | 10 | 12 => 31,
+        4 | 6 | 9 | 11 => 30,
+        2 => 28 + u32::from(leap),
+        _ => 0,
+    };
+    (1..=9_999).contains(&year) && (1..=days).contains(&day)
+}
+
+pub fn is_name_byte(byte: u8) -> bool {
     matches!(byte, 32..=126 | 160..=255)
 }
 
-fn holds(fact: bool) -> Option<()> {
+pub fn holds(fact: bool) -> Option<()> {
     fact.then_some(())
 }
 
-struct Reader<'a> {
-    rest: &'a [u8],
+pub struct Reader<'a> {
+    pub rest: &'a [u8],
 }
 
 impl<'a> Reader<'a> {
-    fn take(&mut self, count: usize) -> Option<&'a [u8]> {
+    pub fn take(&mut self, count: usize) -> Option<&'a [u8]> {
         let taken = self.rest.get(..count)?;
         self.rest = &self.rest[count..];
         Some(taken)
     }
 
-    fn byte(&mut self) -> Option<u8> {
+    pub fn byte(&mut self) -> Option<u8> {
         Some(self.take(1)?[0])
     }
 
@@ -130,7 +175,7 @@ impl<'a> Reader<'a> {
         allowed.contains(&byte).then_some(byte)
     }
 
-    fn name(&mut self, least: usize, most: usize) -> Option<&'a [u8]> {
+    pub fn name(&mut self, least: usize, most: usize) -> Option<&'a [u8]> {
         let length = self.byte()?.into();
         holds((least..=most).contains(&length))?;
         let name = self.take(length)?;

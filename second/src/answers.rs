@@ -12,6 +12,21 @@ pub struct PriceAnswer {
     pub currency: [u8; 3],
 }
 
+/// The price with names that a relation derives.
+#[repr(C)]
+#[derive(Debug, Default, PartialEq, Eq, Clone, Copy)]
+pub struct DerivedAnswer {
+    pub unit: i64,
+    pub total: i64,
+    pub lines: u64,
+    /// A byte of the relation, from 1; 0 where the number tells no place.
+    pub place: u64,
+    pub unused: u32,
+    pub unused_count: u8,
+    pub number: u8,
+    pub currency: [u8; 3],
+}
+
 #[repr(C)]
 #[derive(Debug, Default, PartialEq, Eq, Clone, Copy)]
 pub struct CalendarAnswer {
@@ -31,7 +46,7 @@ pub struct Written {
 #[derive(Debug, Default, PartialEq, Eq, Clone, Copy)]
 pub struct Placed {
     pub length: u64,
-    /// A line of the file or a byte of the book, from 1; 0 where the number tells no place.
+    /// A line of the file, or a byte of the book or of the relation, from 1; 0 where the number tells no place.
     pub place: u64,
     pub number: u8,
 }
@@ -68,6 +83,21 @@ pub struct TextAnswer {
 impl PriceAnswer {
     pub fn refused(number: u8) -> Self {
         PriceAnswer { number, ..Self::default() }
+    }
+}
+
+impl DerivedAnswer {
+    /// The place is 0 for a number that tells none.
+    pub fn refused_at(number: u8, place: u64) -> Self {
+        DerivedAnswer { number, place, ..Self::default() }
+    }
+}
+
+/// A price that was found: no place is told.
+impl From<PriceAnswer> for DerivedAnswer {
+    fn from(answer: PriceAnswer) -> Self {
+        let PriceAnswer { unit, total, lines, unused, unused_count, number, currency } = answer;
+        DerivedAnswer { unit, total, lines, place: 0, unused, unused_count, number, currency }
     }
 }
 

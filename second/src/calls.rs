@@ -1,6 +1,6 @@
 //! The calls as something that has several implementations.
 
-use crate::answers::{CalendarAnswer, PackagingAnswer, Placed, PriceAnswer, Stretch, TextAnswer, Written};
+use crate::answers::{CalendarAnswer, DerivedAnswer, PackagingAnswer, Placed, PriceAnswer, Stretch, TextAnswer, Written};
 
 pub trait Calls {
     fn price(&self, book: &[u8], question: &[u8], out: &mut [u8]) -> PriceAnswer;
@@ -16,6 +16,12 @@ pub trait Calls {
 pub trait FileCalls {
     fn read_prices(&self, file: &[u8], out: &mut [u8]) -> Placed;
     fn write_prices(&self, book: &[u8], out: &mut [u8]) -> Placed;
+}
+
+/// The two calls that derive conditions from a relation.
+pub trait RelationCalls {
+    fn price_derived(&self, book: &[u8], question: &[u8], properties: &[u8], relation: &[u8], out: &mut [u8]) -> DerivedAnswer;
+    fn derive(&self, question: &[u8], properties: &[u8], relation: &[u8], out: &mut [u8]) -> Placed;
 }
 
 /// This library.
@@ -61,13 +67,29 @@ impl FileCalls for Second {
     }
 }
 
+impl RelationCalls for Second {
+    fn price_derived(&self, book: &[u8], question: &[u8], properties: &[u8], relation: &[u8], out: &mut [u8]) -> DerivedAnswer {
+        crate::price_derived(book, question, properties, relation, out)
+    }
+
+    fn derive(&self, question: &[u8], properties: &[u8], relation: &[u8], out: &mut [u8]) -> Placed {
+        crate::derive(question, properties, relation, out)
+    }
+}
+
 /// The linked archive.
 #[cfg(feature = "archive")]
 pub struct Archive;
 
+/// What this library is held against: the linked archive, or itself where none is linked.
+#[cfg(feature = "archive")]
+pub const THEIRS: Archive = Archive;
+#[cfg(not(feature = "archive"))]
+pub const THEIRS: Second = Second;
+
 #[cfg(feature = "archive")]
 mod linked {
-    use super::{CalendarAnswer, PackagingAnswer, Placed, PriceAnswer, Stretch, TextAnswer, Written};
+    use super::{CalendarAnswer, DerivedAnswer, PackagingAnswer, Placed, PriceAnswer, Stretch, TextAnswer, Written};
 
     extern "C" {
         pub fn rafttwine_price(
@@ -122,6 +144,28 @@ mod linked {
         ) -> Written;
         pub fn rafttwine_read_prices(file: *const u8, file_len: usize, out: *mut u8, out_len: usize) -> Placed;
         pub fn rafttwine_write_prices(book: *const u8, book_len: usize, out: *mut u8, out_len: usize) -> Placed;
+        pub fn rafttwine_price_derived(
+            book: *const u8,
+            book_len: usize,
+            question: *const u8,
+            question_len: usize,
+            properties: *const u8,
+            properties_len: usize,
+            relation: *const u8,
+            relation_len: usize,
+            lines: *mut u8,
+            lines_len: usize,
+        ) -> DerivedAnswer;
+        pub fn rafttwine_derive(
+            question: *const u8,
+            question_len: usize,
+            properties: *const u8,
+            properties_len: usize,
+            relation: *const u8,
+            relation_len: usize,
+            out: *mut u8,
+            out_len: usize,
+        ) -> Placed;
     }
 }
 
@@ -199,5 +243,40 @@ impl FileCalls for Archive {
 
     fn write_prices(&self, book: &[u8], out: &mut [u8]) -> Placed {
         unsafe { linked::rafttwine_write_prices(book.as_ptr(), book.len(), out.as_mut_ptr(), out.len()) }
+    }
+}
+
+#[cfg(feature = "archive")]
+impl RelationCalls for Archive {
+    fn price_derived(&self, book: &[u8], question: &[u8], properties: &[u8], relation: &[u8], out: &mut [u8]) -> DerivedAnswer {
+        unsafe {
+            linked::rafttwine_price_derived(
+                book.as_ptr(),
+                book.len(),
+                question.as_ptr(),
+                question.len(),
+                properties.as_ptr(),
+                properties.len(),
+                relation.as_ptr(),
+                relation.len(),
+                out.as_mut_ptr(),
+                out.len(),
+            )
+        }
+    }
+
+    fn derive(&self, question: &[u8], properties: &[u8], relation: &[u8], out: &mut [u8]) -> Placed {
+        unsafe {
+            linked::rafttwine_derive(
+                question.as_ptr(),
+                question.len(),
+                properties.as_ptr(),
+                properties.len(),
+                relation.as_ptr(),
+                relation.len(),
+                out.as_mut_ptr(),
+                out.len(),
+            )
+        }
     }
 }

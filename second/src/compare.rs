@@ -1,12 +1,12 @@
 //! Runs one call of a case and keeps everything that can be seen of it.
 
-use crate::answers::{CalendarAnswer, PackagingAnswer, Placed, PriceAnswer, Stretch, TextAnswer, Written};
+use crate::answers::{CalendarAnswer, DerivedAnswer, PackagingAnswer, Placed, PriceAnswer, Stretch, TextAnswer, Written};
 use crate::basket::{parts, Part, ANSWER_LENGTH};
 use crate::calendar::{stretches, STRETCH_LENGTH};
 use crate::calls::{Calls, Second};
 use crate::cases::{Case, Inputs};
 use crate::price::LINE_LENGTH;
-use crate::refusal::BAD_ROW;
+use crate::refusal::{BAD_DERIVED_NAME, BAD_RELATION, BAD_ROW, TOO_DEEP};
 
 #[derive(Debug, Clone, Copy, PartialEq, Eq)]
 pub enum Call {
@@ -66,6 +66,7 @@ pub const QUESTION_NUMBERS: [u8; 5] = [0, 3, 4, 5, 6];
 #[derive(Debug, Clone, Copy, PartialEq, Eq)]
 pub enum Answer {
     Price(PriceAnswer),
+    Derived(DerivedAnswer),
     Calendar(CalendarAnswer),
     Written(Written),
     Placed(Placed),
@@ -77,6 +78,7 @@ impl Answer {
     pub fn number(&self) -> u8 {
         match self {
             Answer::Price(answer) => answer.number,
+            Answer::Derived(answer) => answer.number,
             Answer::Calendar(answer) => answer.number,
             Answer::Written(answer) => answer.number,
             Answer::Placed(answer) => answer.number,
@@ -237,9 +239,16 @@ pub fn broken_promise(outcome: &Outcome) -> Option<&'static str> {
     let number = outcome.answer.number();
     let (empty, bytes_written, records_written) = match outcome.answer {
         Answer::Price(answer) => (answer == PriceAnswer::refused(number), answer.lines as usize * LINE_LENGTH, 0),
+        Answer::Derived(answer) => {
+            let refused = DerivedAnswer::refused_at(number, place_beside(number, answer.place));
+            (answer == refused, answer.lines as usize * LINE_LENGTH, 0)
+        }
         Answer::Calendar(answer) => (answer == CalendarAnswer::refused(number), answer.length as usize, answer.length as usize),
         Answer::Written(answer) => (answer == Written::refused(number), answer.length as usize, 0),
-        Answer::Placed(answer) => (answer == placed_beside(&answer), answer.length as usize, 0),
+        Answer::Placed(answer) => {
+            let refused = Placed::refused_at(number, place_beside(number, answer.place));
+            (answer == refused, answer.length as usize, 0)
+        }
         Answer::Packaging(answer) => (answer == PackagingAnswer::refused(number), 0, 0),
         Answer::Text(answer) => (answer == TextAnswer::refused(number), 0, 0),
     };
@@ -256,11 +265,11 @@ pub fn broken_promise(outcome: &Outcome) -> Option<&'static str> {
     None
 }
 
-/// A refusal with nothing beside it but the place that 13 must have.
-fn placed_beside(answer: &Placed) -> Placed {
-    match answer.number {
-        BAD_ROW => Placed::refused_at(BAD_ROW, answer.place.max(1)),
-        number => Placed::refused(number),
+/// The place beside a refusal: some numbers must have one, the others have none.
+fn place_beside(number: u8, place: u64) -> u64 {
+    match number {
+        BAD_ROW | BAD_RELATION | TOO_DEEP | BAD_DERIVED_NAME => place.max(1),
+        _ => 0,
     }
 }
 

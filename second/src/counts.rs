@@ -2,13 +2,15 @@
 
 use crate::compare::{Call, ALL_CALLS, PROGRAM_NUMBERS, QUESTION_NUMBERS, STRETCH_NUMBERS};
 use crate::file_compare::{FileCall, FILE_CALLS};
+use crate::relation_compare::{RelationCall, RELATION_CALLS};
 
 /// Refusal numbers, and 0 for done.
-const NUMBERS: usize = 14;
+const NUMBERS: usize = 17;
 
 // Places of the rows behind those of the calls.
 const FILES: usize = ALL_CALLS.len();
-const PROGRAM: usize = FILES + FILE_CALLS.len();
+const RELATIONS: usize = FILES + FILE_CALLS.len();
+const PROGRAM: usize = RELATIONS + RELATION_CALLS.len();
 const STRETCHES: usize = PROGRAM + 1;
 const QUESTIONS: usize = STRETCHES + 1;
 
@@ -18,8 +20,8 @@ struct Row {
     counts: [u64; NUMBERS],
 }
 
-/// A row for each call, those of the price file behind the others, for the program, for the stretches and for the questions of
-/// baskets, in this order.
+/// A row for each call, those of the price file and of relations behind the others, for the program, for the stretches and for the
+/// questions of baskets, in this order.
 pub struct Counts {
     rows: Vec<Row>,
 }
@@ -32,6 +34,9 @@ impl Default for Counts {
             rows.push(row(call.name(), call.possible()));
         }
         for call in FILE_CALLS {
+            rows.push(row(call.name(), call.possible()));
+        }
+        for call in RELATION_CALLS {
             rows.push(row(call.name(), call.possible()));
         }
         rows.push(row("program", &PROGRAM_NUMBERS));
@@ -48,6 +53,10 @@ impl Counts {
 
     pub fn file_call(&mut self, call: FileCall, number: u8) {
         self.rows[FILES + call as usize].counts[usize::from(number)] += 1;
+    }
+
+    pub fn relation_call(&mut self, call: RelationCall, number: u8) {
+        self.rows[RELATIONS + call as usize].counts[usize::from(number)] += 1;
     }
 
     pub fn program(&mut self, number: u8) {

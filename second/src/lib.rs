@@ -5,6 +5,7 @@
 //! another one, so the only thing that counts is that each rule can be recognised in the code.
 
 pub mod answers;
+pub mod bad_relations;
 pub mod basket;
 pub mod book;
 pub mod calendar;
@@ -27,10 +28,13 @@ pub mod question;
 pub mod random;
 pub mod reader;
 pub mod refusal;
+pub mod relation;
+pub mod relation_cases;
+pub mod relation_compare;
 pub mod shrink;
 pub mod texts;
 
-pub use answers::{CalendarAnswer, PackagingAnswer, Placed, PriceAnswer, Stretch, TextAnswer, Written};
+pub use answers::{CalendarAnswer, DerivedAnswer, PackagingAnswer, Placed, PriceAnswer, Stretch, TextAnswer, Written};
 pub use basket::basket;
 pub use book::book_ok;
 pub use calendar::{calendar, calendar_list};
@@ -40,4 +44,5 @@ pub use price::price;
 pub use price_file::{read_prices, write_prices};
 pub use program::program;
 pub use question::question_ok;
+pub use relation::{derive, price_derived};
 pub use texts::{text, text_book_ok};

@@ -95,6 +95,22 @@ pub struct Property {
     pub value: Vec<u8>,
 }
 
+/// A property of the list that stands beside a question.
+#[derive(Debug, Clone, PartialEq, Eq)]
+pub struct Listed {
+    pub name: Vec<u8>,
+    pub value: ListedValue,
+}
+
+#[derive(Debug, Clone, PartialEq, Eq)]
+pub enum ListedValue {
+    None,
+    Text(Vec<u8>),
+    Number(i64),
+    /// The byte that says which sort it is, and what follows, as they are.
+    Raw(Vec<u8>),
+}
+
 #[derive(Debug, Clone, PartialEq, Eq)]
 pub struct TextRecord {
     pub number: u32,
@@ -152,6 +168,27 @@ pub fn question(question: &Question) -> Vec<u8> {
 /// Questions laid end to end.
 pub fn basket(questions: &[Question]) -> Vec<u8> {
     questions.iter().flat_map(question).collect()
+}
+
+/// The list of properties beside a question.
+pub fn properties(listed: &[Listed]) -> Vec<u8> {
+    let mut bytes = vec![listed.len() as u8];
+    for property in listed {
+        put_name(&mut bytes, &property.name);
+        match &property.value {
+            ListedValue::None => bytes.push(0),
+            ListedValue::Text(text) => {
+                bytes.push(1);
+                put_name(&mut bytes, text);
+            }
+            ListedValue::Number(number) => {
+                bytes.push(2);
+                bytes.extend(number.to_be_bytes());
+            }
+            ListedValue::Raw(raw) => bytes.extend(raw),
+        }
+    }
+    bytes
 }
 
 pub fn text_book(records: &[TextRecord]) -> Vec<u8> {
@@ -438,6 +475,21 @@ impl Granted {
     /// A name whose factor changes nothing.
     pub fn new(name: Vec<u8>) -> Self {
         Granted { name, factor: FACTOR_OF_ONE }
+    }
+}
+
+impl Listed {
+    /// A property without a value.
+    pub fn none(name: &str) -> Self {
+        Listed { name: latin1(name), value: ListedValue::None }
+    }
+
+    pub fn text(name: &str, text: &str) -> Self {
+        Listed { name: latin1(name), value: ListedValue::Text(latin1(text)) }
+    }
+
+    pub fn number(name: &str, number: i64) -> Self {
+        Listed { name: latin1(name), value: ListedValue::Number(number) }
     }
 }
 

@@ -51,6 +51,10 @@ impl<'a> Reader<'a> {
         Some(i32::from_be_bytes(self.array()?))
     }
 
+    pub fn i64(&mut self) -> Option<i64> {
+        Some(i64::from_be_bytes(self.array()?))
+    }
+
     /// A name whose length lies in `shortest..=longest`.
     pub fn name(&mut self, shortest: usize, longest: usize) -> Option<Vec<u8>> {
         let length = usize::from(self.byte()?);

@@ -6,6 +6,7 @@ use crate::cases::Case;
 use crate::file_cases::FileCase;
 use crate::make::Question;
 use crate::question::FACTOR_OF_ONE;
+use crate::relation_cases::RelationCase;
 
 /// Very big cases take long to try; what is reached after this time is small enough.
 const LONGEST: Duration = Duration::from_secs(10);
@@ -50,6 +51,26 @@ pub fn shrunk_file(case: &FileCase, still: &dyn Fn(&FileCase) -> bool) -> FileCa
         smaller |= drop_parts(&mut best, |case| &mut case.book_damages, still, &late);
         smaller |= drop_parts(&mut best, |case| &mut case.lines, still, &late);
         smaller |= drop_parts(&mut best, |case| &mut case.book, still, &late);
+        if !smaller || late() {
+            return best;
+        }
+    }
+}
+
+/// Leaves out bytes of the relation, records of the book, properties of both lists, names and damages while `still` holds.
+pub fn shrunk_relation(case: &RelationCase, still: &dyn Fn(&RelationCase) -> bool) -> RelationCase {
+    let started = Instant::now();
+    let late = || started.elapsed() >= LONGEST;
+    let mut best = case.clone();
+    loop {
+        let mut smaller = false;
+        smaller |= drop_parts(&mut best, |case| &mut case.damages, still, &late);
+        smaller |= drop_parts(&mut best, |case| &mut case.relation, still, &late);
+        smaller |= drop_runs(&mut best, |case| &mut case.relation, still, &late);
+        smaller |= drop_parts(&mut best, |case| &mut case.properties, still, &late);
+        smaller |= drop_parts(&mut best, |case| &mut case.book, still, &late);
+        smaller |= drop_parts(&mut best, |case| &mut case.question.granted, still, &late);
+        smaller |= drop_parts(&mut best, |case| &mut case.question.properties, still, &late);
         if !smaller || late() {
             return best;
         }
@@ -112,6 +133,30 @@ fn drop_parts<C: Clone, T>(
             }
         }
         piece /= 2;
+    }
+    list(best).len() < before
+}
+
+/// Tries to leave out runs of a list, long ones first, wherever they start: what is left of a text has to be one again.
+fn drop_runs<C: Clone, T>(
+    best: &mut C,
+    list: impl Fn(&mut C) -> &mut Vec<T>,
+    still: &dyn Fn(&C) -> bool,
+    late: &dyn Fn() -> bool,
+) -> bool {
+    const LONGEST_RUN: usize = 24;
+    let before = list(best).len();
+    for run in (2..=LONGEST_RUN).rev() {
+        let mut start = 0;
+        while start + run <= list(best).len() && !late() {
+            let mut candidate = best.clone();
+            list(&mut candidate).drain(start..start + run);
+            if still(&candidate) {
+                *best = candidate;
+            } else {
+                start += 1;
+            }
+        }
     }
     list(best).len() < before
 }

@@ -213,7 +213,9 @@ fn numbers_that_did_not_come_up_are_complained_of() {
     assert!(complaints.contains(&"program: number 9 has not come up".to_string()));
     assert!(complaints.contains(&"read_prices: number 13 has not come up".to_string()));
     assert!(complaints.contains(&"write_prices: number 13 has not come up".to_string()));
-    assert!(!complaints.iter().any(|complaint| complaint.starts_with("price")));
+    assert!(complaints.contains(&"price_derived: number 15 has not come up".to_string()));
+    assert!(complaints.contains(&"derive: number 16 has not come up".to_string()));
+    assert!(!complaints.iter().any(|complaint| complaint.starts_with("price:")));
     counts.call(Call::Calendar, 10);
     assert!(counts.complaints().contains(&"calendar: number 10 should never come up".to_string()));
 }

@@ -1,5 +1,5 @@
 """Prices of furniture by the Rafttwine library: itemised prices, baskets of them, price calendars, order numbers, packaging data,
-line texts; and makers' own price files.
+line texts; conditions derived by a maker's relations; and makers' own price files.
 
 A price in five lines, over a book made on the spot:
 
@@ -37,6 +37,17 @@ L7  1 piece   the book does not have the article
 Together             268.50 EUR
 Without a price: 2 of 3
 
+Conditions that a maker's relation derives from the properties of the planned piece, for any call or priced at once:
+
+>>> from rafttwine import derive, price_derived
+>>> relation = "$VARCOND = 'OAK' IF TOP = 'oak', $VARCOND = 'WIDE' IF WIDTH >= 1600 AND NOT SPECIFIED SHELF"
+>>> chosen = {"top": "Oak", "width": 1800, "shelf": None}
+>>> asked = derive(question("A1", june), chosen, relation)
+>>> asked.granted
+('OAK', 'WIDE')
+>>> price(table, asked.packed()).unit == price_derived(table, question("A1", june), chosen, relation).unit == 11_250
+True
+
 A maker's own price file, `ocd_price.csv`, as a book, with the article records that the maker's file does not have; and back:
 
 >>> from rafttwine import read_prices, write_prices
@@ -58,16 +69,17 @@ Some rows are right by the layout and do what hardly anybody wants, so making on
 - a base price in percent never counts, and a row that ends before it begins never holds.
 
 And so do two things in a question: a factor of 0, which leaves the lines of its condition there, and a repeated name with another
-factor, which is not the one that counts.
+factor, which is not the one that counts; and two in a list of properties: a name that no relation can have, and a repeated one.
 
 Reading a price file warns of the same, of days that are none, and of quantities: makers mean from how many pieces on a row counts,
 and a book means up to how many, so that 1 is for one piece alone and 0 for any number.
 
 Errors: a call that has no answer raises `Refused`, with the reason in `refusal`. A bad price file is `BadLine`, a `Refused` too,
-whose message reads like `ocd_price.csv, line 7, Currency: 'Eur' is no currency: three capitals, as EUR`. A value of a wrong type is
-a TypeError, and one that the layout does not allow a ValueError; a message reads like `PriceRow.article: 41 bytes, and at most 40
-are allowed`. Bytes that cannot be read are `BrokenBytes`, a ValueError with record and byte. A library that is not there or does
-not fit is an OSError.
+whose message reads like `ocd_price.csv, line 7, Currency: 'Eur' is no currency: three capitals, as EUR`. A bad relation is
+`BadRelation`, likewise: `relation, line 2, column 21: a sign, as = or <>, or IN is wanted, not 'oak'`. A value of a wrong type is a
+TypeError, and one that the layout does not allow a ValueError; a message reads like `PriceRow.article: 41 bytes, and at most 40 are
+allowed`. Bytes that cannot be read are `BrokenBytes`, a ValueError with record and byte. A library that is not there or does not
+fit is an OSError.
 
 The library is looked for when it is first needed: the file that the environment variable RAFTTWINE_LIBRARY names; else
 librafttwine.so.2 in the package's folder, or beside that; else in target/lib of the tree that the package stands in, where
@@ -81,17 +93,20 @@ from .granting import Granted
 from .packing import BrokenBytes
 from .price_files import BadLine, BadRecord, read_prices, text_names, write_prices
 from .properties import Property
+from .property_lists import Held, property_list, read_property_list
 from .questions import Question, question, read_question
 from .records import Article, PriceRow, Rounding, Scheme
 from .refusals import Refusal, Refused
+from .relations import BadRelation, derive, price_derived
 from .release import __version__
 from .texts import TextRow, read_text_book, text_book
 from .words import Cents, Factor, Level, NoDay, Percent, RowWarning, Rule, Sort, Way
 
 __all__ = [
-    "Article", "Asked", "BadLine", "BadRecord", "Basket", "BrokenBytes", "Cents", "DayPrice", "Factor", "Granted", "Level", "Line",
-    "NoDay", "Packaging", "PackagingRow", "Percent", "Price", "PriceRow", "Property", "Question", "Refusal", "Refused", "Rounding",
-    "RowWarning", "Rule", "Scheme", "Sort", "Source", "Stretch", "Text", "TextRow", "Way", "__version__", "basket", "book",
-    "calendar", "calendar_list", "final_number", "packaging", "price", "question", "read_book", "read_prices", "read_question",
-    "read_text_book", "text", "text_book", "text_names", "version", "write_prices",
+    "Article", "Asked", "BadLine", "BadRecord", "BadRelation", "Basket", "BrokenBytes", "Cents", "DayPrice", "Factor", "Granted",
+    "Held", "Level", "Line", "NoDay", "Packaging", "PackagingRow", "Percent", "Price", "PriceRow", "Property", "Question",
+    "Refusal", "Refused", "Rounding", "RowWarning", "Rule", "Scheme", "Sort", "Source", "Stretch", "Text", "TextRow", "Way",
+    "__version__", "basket", "book", "calendar", "calendar_list", "derive", "final_number", "packaging", "price", "price_derived",
+    "property_list", "question", "read_book", "read_prices", "read_property_list", "read_question", "read_text_book", "text",
+    "text_book", "text_names", "version", "write_prices",
 ]

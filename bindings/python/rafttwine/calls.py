@@ -44,7 +44,7 @@ def price(book: Lent, question: Lent) -> Price:
     lines = LinesRoom()
     answer = _accepted(call("price", book, question, lines))
     written = bytes(lines)[:answer.lines * LINE_BYTES]
-    return _price(question, answer.unit, answer.total, answer.currency, answer.unused, written)
+    return priced(question, answer.unit, answer.total, answer.currency, answer.unused, written)
 
 
 def basket(book: Lent, questions: Sequence[Lent]) -> Basket:
@@ -57,7 +57,7 @@ def basket(book: Lent, questions: Sequence[Lent]) -> Basket:
     entries: list[Union[Price, Refusal]] = []
     for one, (number, unit, total, currency, count, unused, _) in zip(asked, iter_unpack(ANSWER, answers)):
         own, lines = _split(lines, count * LINE_BYTES)
-        entries.append(Refusal(number) if number else _price(one, unit, total, currency, unused, own))
+        entries.append(Refusal(number) if number else priced(one, unit, total, currency, unused, own))
     return Basket(tuple(entries), tuple(map(asked_for, asked)))
 
 
@@ -105,7 +105,7 @@ def version() -> str:
     return version_of(library())
 
 
-def _price(question: Lent, unit: int, total: int, currency: Any, unused: int, lines: bytes) -> Price:
+def priced(question: Lent, unit: int, total: int, currency: Any, unused: int, lines: bytes) -> Price:
     """A price by its parts, with the names that its question grants."""
     quantity, names = asked_in(question)
     places = tuple(place for place in names if place and unused >> place - 1 & 1)

@@ -14,6 +14,11 @@ class PriceAnswer(Structure):
                 ("number", c_uint8), ("currency", c_uint8 * 3)]
 
 
+class DerivedAnswer(Structure):
+    _fields_ = [("unit", c_int64), ("total", c_int64), ("lines", c_uint64), ("place", c_uint64), ("unused", c_uint32),
+                ("unused_count", c_uint8), ("number", c_uint8), ("currency", c_uint8 * 3)]
+
+
 class CalendarAnswer(Structure):
     _fields_ = [("length", c_uint64), ("number", c_uint8)]
 
@@ -55,6 +60,8 @@ CALLS: dict[str, tuple[Any, dict[str, list[Any]]]] = {
     "text": (TextAnswer, {"asked": READ, "fallback": READ, "number": NUMBER}),
     "read_prices": (Placed, {"file": READ, "out": BYTES}),
     "write_prices": (Placed, {"book": READ, "out": BYTES}),
+    "derive": (Placed, {"question": READ, "properties": READ, "relation": READ, "out": BYTES}),
+    "price_derived": (DerivedAnswer, {"book": READ, "question": READ, "properties": READ, "relation": READ, "lines": BYTES}),
     "version": (c_uint32, {}),
 }
 

@@ -8,7 +8,7 @@ MOST_NUMBER = 255
 
 
 class Refusal(IntEnum):
-    """The numbers that a call refuses with. A later library may have more of them: `Refusal(14)` is then a refusal too, with 14 as
+    """The numbers that a call refuses with. A later library may have more of them: `Refusal(99)` is then a refusal too, with 99 as
     its value, though it is not listed here and its reason is not known."""
 
     BROKEN_BOOK = 1
@@ -24,6 +24,9 @@ class Refusal(IntEnum):
     UNFIT_PACKAGING = 11
     NO_TEXT = 12
     BAD_ROW = 13
+    BAD_RELATION = 14
+    DEEP_RELATION = 15
+    UNFIT_NAME = 16
 
     @classmethod
     def _missing_(cls, value: object) -> Optional[Refusal]:
@@ -57,7 +60,8 @@ _NO_PRICE = (Refusal.NO_BASE_LINE, Refusal.MIXED_CURRENCIES, Refusal.TOTAL_OUT_O
 
 _REASONS = {
     Refusal.BROKEN_BOOK: "the price book, or one of the text books, is not laid out as such a book",
-    Refusal.BROKEN_QUESTION: "a question is not laid out as one, its day is not in the calendar, or there are too many questions",
+    Refusal.BROKEN_QUESTION: "a question or its property list is not laid out as such, its day is not in the calendar, there are "
+                             "too many questions, or it grants names beside a relation",
     Refusal.NO_ARTICLE: "the book does not have the article",
     Refusal.NO_BASE_LINE: "the article has no base price on that day, in that quantity",
     Refusal.MIXED_CURRENCIES: "a fixed amount is in another currency than the first base line",
@@ -69,6 +73,9 @@ _REASONS = {
     Refusal.UNFIT_PACKAGING: "packaging data are in different units, or sum up to less than zero",
     Refusal.NO_TEXT: "neither text book has the number",
     Refusal.BAD_ROW: "a line of the price file makes no price record, or a price record of the book makes no line",
+    Refusal.BAD_RELATION: "the relation has something that no relation has at that place, or it ends too early",
+    Refusal.DEEP_RELATION: "a condition of the relation has parentheses that are over sixteen deep",
+    Refusal.UNFIT_NAME: "the relation derives a name that no question can grant, or over 32 names",
 }
 
 

@@ -8,8 +8,8 @@ import pathlib
 import sys
 from datetime import date
 
-from rafttwine import (Article, Cents, Factor, Granted, Level, PackagingRow, Percent, PriceRow, Property, Rounding, Rule, Scheme,
-                       Way, book, question, text_book)
+from rafttwine import (Article, Cents, Factor, Granted, Level, PackagingRow, Percent, PriceRow, Property, Question, Rounding, Rule,
+                       Scheme, Way, book, property_list, question, text_book)
 
 JANUARY, JUNE, JULY, DECEMBER = date(2024, 1, 1), date(2024, 6, 30), date(2024, 7, 1), date(2024, 12, 31)
 YEAR_END = date(2025, 1, 2)
@@ -58,6 +58,7 @@ QUESTIONS = {
     "june_factors": question("A1", JUNE, granted=("ash", TWICE_AND_A_HALF)),
     "july_oak": question("A1", JULY, granted=("oak",), currency="EUR"),
     "june": question("A1", JUNE),
+    "june_version_2": Question("A1", JUNE, version=2).packed(),
     "next_year": question("A1", YEAR_END),
     "calendar": question("A1", date(2024, 6, 29), granted=("oak",), currency="EUR"),
     "calendar_factors": question("A1", date(2024, 6, 29), granted=(TWICE_AND_A_HALF,)),
@@ -76,10 +77,19 @@ QUESTIONS = {
     "carton_wide": question("T200", JUNE, granted=("wide",)),
 }
 
+# What was chosen, and a relation that derives oak and ash from it.
+CHOSEN = {"top": "OAK", "Width": 900, "FINISH": None}
+PROPERTY_LIST = property_list(CHOSEN)
+RELATION = b"""$VARCOND = 'oak' IF TOP = 'Oak' AND NOT WIDTH < 800,
+$VARCOND = 'beech' IF TOP IN ('beech', 'birch') OR FINISH = 'oil',
+$varcond = 'ash' if not specified FINISH
+"""
+
 
 def write(folder: pathlib.Path) -> None:
     folder.mkdir(parents=True, exist_ok=True)
-    files = {"sample.book": BOOK, "asked.texts": ASKED, "fallback.texts": FALLBACK}
+    files = {"sample.book": BOOK, "asked.texts": ASKED, "fallback.texts": FALLBACK, "chosen.properties": PROPERTY_LIST,
+             "sample.relation": RELATION}
     files.update((f"{name}.question", asked) for name, asked in QUESTIONS.items())
     for name, content in files.items():
         (folder / name).write_bytes(content)

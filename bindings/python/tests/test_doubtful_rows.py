@@ -8,11 +8,12 @@ import warnings
 from datetime import date
 from typing import Callable
 
-from rafttwine import (Article, Cents, Factor, Granted, Level, PackagingRow, Percent, PriceRow, RowWarning, book, price, question,
-                       read_book, read_question)
+from rafttwine import (Article, Cents, Factor, Granted, Held, Level, PackagingRow, Percent, PriceRow, RowWarning, book, derive,
+                       price, property_list, question, read_book, read_property_list, read_question)
 
 TWICE_AND_A_HALF = Granted("oak", Factor("2.5"))
 RAISES = "raises the price; what lowers it is below zero"
+UNNAMED = "a name has letters, digits and _, and is no reserved word"
 NEVER = "is never granted: granted names are raised to capitals, so write"
 DOUBTFUL: list[tuple[list[str], Callable[[], object]]] = [
     ([f"PriceRow.condition: 'oak' {NEVER} 'OAK'"], lambda: PriceRow("A1", Level.BASE, Cents(1), condition="oak")),
@@ -31,6 +32,15 @@ DOUBTFUL: list[tuple[list[str], Callable[[], object]]] = [
     (["question.granted: name 3: 'Oak' repeats name 1, so that its factor is 2.5 and not 4",
       "question.granted: name 4: 'oak' repeats name 1, so that its factor is 2.5 and not 1"],
      lambda: question("A1", date.max, granted=[TWICE_AND_A_HALF, "ash", Granted("Oak", Factor(4)), "oak"])),
+    ([f"Held.name: no relation can name 'Seat height': {UNNAMED}"], lambda: Held("Seat height", 45)),
+    ([f"Held.name: no relation can name 'Höhe': {UNNAMED}"], lambda: property_list({"Höhe": 45})),
+    ([f"Held.name: no relation can name 'in': {UNNAMED}"], lambda: Held("in", "oak")),
+    ([f"Held.name: no relation can name '': {UNNAMED}"], lambda: Held("")),
+    (["property_list.values: property 3: 'Top' repeats property 1, whose value counts"],
+     lambda: property_list({"TOP": None, "WIDTH": 1, "Top": "oak"})),
+    (["derive.properties: property 2: 'TOP' repeats property 1, whose value counts"],
+     lambda: derive(question("A1", date.max), [Held("TOP"), Held("TOP", "oak")], "$VARCOND='A'")),
+    ([], lambda: property_list([Held("_", 1), Held("Seat_2", "no word of it"), Held("INS")])),
     ([], lambda: question("A1", date.max, granted=[TWICE_AND_A_HALF, TWICE_AND_A_HALF, "ash", "ASH", Granted("ash")])),
     ([], lambda: PriceRow("A1", Level.BASE, Cents(1), first=date(2024, 7, 1), last=date(2024, 7, 1))),
     ([], lambda: PriceRow("a1", Level.BASE, Cents(1), condition="OAK 2")),
@@ -82,7 +92,10 @@ class DoubtfulRowsTest(unittest.TestCase):
             warnings.simplefilter("ignore", RowWarning)
             rows = (PriceRow("A1", Level.DISCOUNT, Cents(10), condition="oak"), PackagingRow("A1", "oak"))
             asked = question("A1", date.max, granted=["oak", Granted("oak", Factor(0))])
+            held = Held("Seat height", 45), Held("TOP"), Held("top", "oak")
+            listed = property_list(held)
         with warnings.catch_warnings():
             warnings.simplefilter("error")
             self.assertEqual(read_book(book(*rows)), rows)
             self.assertEqual(read_question(asked).packed(), asked)
+            self.assertEqual(read_property_list(listed), held)

@@ -8,8 +8,8 @@ import warnings
 from ctypes import c_uint8
 from datetime import date
 
-from rafttwine import (Article, BadLine, Cents, Factor, Granted, Level, PackagingRow, PriceRow, Property, Rounding, RowWarning,
-                       Scheme, Way, book, packaging, question, read_prices, text, text_book, write_prices)
+from rafttwine import (Article, BadLine, Cents, Factor, Granted, Held, Level, PackagingRow, PriceRow, Property, Rounding, RowWarning,
+                       Scheme, Way, book, derive, packaging, property_list, question, read_prices, text, text_book, write_prices)
 from rafttwine.calls import LINE_BYTES
 from rafttwine.library import call
 from rafttwine.price_lines import FIELDS
@@ -27,6 +27,8 @@ BOOK = book(
 )
 QUESTION = question("T1", date(2026, 6, 29), 2, ["oak"], [Property(4, "ASH")], currency="EUR")
 WITH_FACTOR = question("T1", date(2026, 6, 29), 2, [Granted("oak", Factor("2.5"))], [Property(4, "ASH")], currency="EUR")
+PROPERTIES = [Held("TOP", "oak"), Held("WIDTH", -1), Held("SHELF")]
+RELATION = "$VARCOND='oak' IF TOP='OAK' AND WIDTH<0 AND NOT SPECIFIED SHELF"
 NEXT_QUESTION = question("T1", date(2026, 7, 1))
 TEXTS = text_book({7: b"Table"})
 CALENDAR_END = 20260701
@@ -62,7 +64,7 @@ def written(name: str, size: int, *words: object, asked: bytes = QUESTION) -> by
 
 class FormatTest(unittest.TestCase):
     def test_each_example_has_the_size_of_its_row(self) -> None:
-        self.assertEqual(len(TABLES), 13)
+        self.assertEqual(len(TABLES), 14)
         for heading, rows in TABLES.items():
             for field, size, _, *examples in rows:
                 for one in map(bytes.fromhex, examples):
@@ -84,6 +86,7 @@ class FormatTest(unittest.TestCase):
         self.assertEqual(example("Question"), QUESTION)
         self.assertEqual(example("Question of version 2"), WITH_FACTOR)
         self.assertEqual(example("Text book"), TEXTS)
+        self.assertEqual(example("Property list"), property_list(PROPERTIES))
 
     def test_the_library_writes_the_examples(self) -> None:
         self.assertEqual(written("price", LINE_BYTES), example("Line of a price"))
@@ -99,6 +102,10 @@ class FormatTest(unittest.TestCase):
     def test_the_library_accepts_the_cartons_and_the_text(self) -> None:
         self.assertEqual(packaging(BOOK, QUESTION).gross, 500 + 2 * 2000)
         self.assertEqual(bytes(text(TEXTS, TEXTS, 7).part), b"Table")
+
+    def test_the_library_derives_the_question(self) -> None:
+        asked = question("T1", date(2026, 6, 29), 2, [], [Property(4, "ASH")], currency="EUR")
+        self.assertEqual(derive(asked, example("Property list"), RELATION).packed(), QUESTION)
 
 
 def price_file() -> list[list[str]]:

@@ -12,9 +12,10 @@ import unittest
 from typing import Any, Iterator
 from unittest import mock
 
-from samples import ASKED, BOOK, FALLBACK, QUESTIONS, TABLE, YEAR_END
-from rafttwine import (Article, Refused, basket, book, calendar, calendar_list, final_number, library, packaging, price, read_book,
-                       read_prices, read_question, read_text_book, text, text_names, write_prices)
+from samples import ASKED, BOOK, CHOSEN, FALLBACK, PROPERTY_LIST, QUESTIONS, RELATION, TABLE, YEAR_END
+from rafttwine import (Article, Refused, basket, book, calendar, calendar_list, derive, final_number, library, packaging, price,
+                       price_derived, read_book, read_prices, read_property_list, read_question, read_text_book, text, text_names,
+                       write_prices)
 
 LARGE = book(*[Article("N" * 40)] * 90_000)
 PRICES = b"A1;;S;B;1;table;1;1;EUR;20240101;20241231;0;"
@@ -51,6 +52,16 @@ class LendingTest(unittest.TestCase):
             for (kind, one), (_, asked) in zip(lent(BOOK), lent(QUESTIONS[name])):
                 with self.subTest(call.__name__, kind=kind):
                     self.assertEqual(call(one, asked, *words), answer)
+
+    def test_relations_and_what_stands_beside_them_take_each_buffer(self) -> None:
+        question = QUESTIONS["june"]
+        priced, derived = price_derived(BOOK, question, CHOSEN, RELATION), derive(question, CHOSEN, RELATION)
+        for (kind, one), *others in zip(lent(BOOK), lent(question), lent(PROPERTY_LIST), lent(RELATION)):
+            buffers = [buffer for _, buffer in others]
+            with self.subTest(kind):
+                self.assertEqual(price_derived(one, *buffers), priced)
+                self.assertEqual(derive(*buffers), derived)
+                self.assertEqual(read_property_list(buffers[1]), read_property_list(PROPERTY_LIST))
 
     def test_a_basket_takes_a_list_of_buffers(self) -> None:
         due = basket(BOOK, [QUESTIONS["june_oak"], QUESTIONS["missing"]])

@@ -9,7 +9,7 @@ from samples import BOOK, JUNE, QUESTIONS
 from rafttwine import Refusal, Refused, Stretch, calls, price
 from rafttwine.library import CalendarAnswer, PriceAnswer
 
-LATER = 14
+LATER = 200
 LONGEST_WAIT = 60
 
 
@@ -23,7 +23,7 @@ def raise_refused(number: int) -> None:
 
 class RefusalTest(unittest.TestCase):
     def test_each_has_its_number_and_words(self) -> None:
-        self.assertEqual([refusal.value for refusal in Refusal], list(range(1, 14)))
+        self.assertEqual([refusal.value for refusal in Refusal], list(range(1, 17)))
         for refusal in Refusal:
             self.assertEqual(str(Refused(refusal)), f"{refusal.reason} (refusal {refusal.value})")
 
@@ -38,9 +38,9 @@ class RefusalTest(unittest.TestCase):
 
     def test_a_number_of_a_later_library_is_kept(self) -> None:
         later = Refusal(LATER)
-        self.assertEqual((later, later.value, later.name), (LATER, LATER, "REFUSAL_14"))
-        self.assertEqual(str(later), "the reason 14 of a later library, which this package does not know")
-        self.assertEqual(str(Refused(LATER)), f"{later} (refusal 14)")
+        self.assertEqual((later, later.value, later.name), (LATER, LATER, "REFUSAL_200"))
+        self.assertEqual(str(later), "the reason 200 of a later library, which this package does not know")
+        self.assertEqual(str(Refused(LATER)), f"{later} (refusal 200)")
         self.assertIs(Refusal(LATER), later)
         self.assertNotIn(later, list(Refusal))
 

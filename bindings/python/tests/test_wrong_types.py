@@ -9,10 +9,11 @@ from decimal import Decimal
 from typing import Any, Callable
 
 import rafttwine
-from rafttwine import (Article, Cents, Factor, Granted, Level, NoDay, PackagingRow, Percent, PriceRow, Property, Rounding, Rule,
-                       Scheme, Sort, TextRow, Way, basket, book, calendar, calendar_list, final_number, packaging, price, question,
-                       read_book, read_prices, read_question, read_text_book, text, text_book, text_names, write_prices)
-from samples import ASKED, BOOK, FALLBACK, QUESTIONS, TABLE, YEAR_END
+from rafttwine import (Article, Cents, Factor, Granted, Held, Level, NoDay, PackagingRow, Percent, PriceRow, Property, Rounding,
+                       Rule, Scheme, Sort, TextRow, Way, basket, book, calendar, calendar_list, derive, final_number, packaging,
+                       price, price_derived, property_list, question, read_book, read_prices, read_property_list, read_question,
+                       read_text_book, text, text_book, text_names, write_prices)
+from samples import ASKED, BOOK, CHOSEN, FALLBACK, PROPERTY_LIST, QUESTIONS, RELATION, TABLE, YEAR_END
 
 # One value of each type that somebody could come with.
 VALUES: dict[str, Any] = {
@@ -25,6 +26,8 @@ VALUES: dict[str, Any] = {
 TEXT, NUMBER, DAY, BUFFER = ("text",), ("number", "rule", "way"), ("day",), ("bytes",)
 MAYBE_TEXT, MAYBE_NUMBER = (*TEXT, "none"), (*NUMBER, "none")
 ROW_DAY, SEVERAL = (*DAY, "no day"), ("list", "tuple")
+BY_NAME = ("dict", *SEVERAL)
+RELATED = {"question": BUFFER, "properties": (*BY_NAME, *BUFFER), "relation": (*TEXT, *BUFFER), "name": TEXT}
 
 # What makes each, from good values, and the types that each field takes.
 TABLE_OF_TYPES: list[tuple[Callable[..., object], dict[str, Any], dict[str, tuple[str, ...]]]] = [
@@ -61,12 +64,19 @@ TABLE_OF_TYPES: list[tuple[Callable[..., object], dict[str, Any], dict[str, tupl
     (text, {"asked": ASKED, "fallback": FALLBACK, "number": TABLE}, {"asked": BUFFER, "fallback": BUFFER, "number": NUMBER}),
     *((read, {"file": b""}, {"file": BUFFER, "name": TEXT}) for read in (read_prices, text_names)),
     (write_prices, {"book": book()}, {"book": BUFFER}),
+    (Held, {"name": "TOP"}, {"name": TEXT, "value": (*MAYBE_TEXT, *NUMBER)}),
+    (property_list, {"values": CHOSEN}, {"values": BY_NAME}),
+    (derive, {"question": QUESTIONS["june"], "properties": CHOSEN, "relation": RELATION}, RELATED),
+    (price_derived, {"book": BOOK, "question": QUESTIONS["june"], "properties": CHOSEN, "relation": RELATION},
+     {"book": BUFFER, **RELATED}),
     *((read, {"data": data}, {"data": BUFFER})
-      for read, data in ((read_book, BOOK), (read_question, QUESTIONS["june"]), (read_text_book, ASKED))),
+      for read, data in ((read_book, BOOK), (read_question, QUESTIONS["june"]), (read_text_book, ASKED),
+                         (read_property_list, PROPERTY_LIST))),
 ]
 # What has no argument of its own to be wrong, or is answered and not made by the caller.
-LEFT_OUT = {"Asked", "BadLine", "BadRecord", "Basket", "BrokenBytes", "DayPrice", "Level", "Line", "Packaging", "Price", "Question",
-            "Refusal", "Refused", "RowWarning", "Rule", "Sort", "Source", "Stretch", "Text", "Way", "__version__", "version"}
+LEFT_OUT = {"Asked", "BadLine", "BadRecord", "BadRelation", "Basket", "BrokenBytes", "DayPrice", "Level", "Line", "Packaging",
+            "Price", "Question", "Refusal", "Refused", "RowWarning", "Rule", "Sort", "Source", "Stretch", "Text", "Way",
+            "__version__", "version"}
 
 
 class WrongTypesTest(unittest.TestCase):

@@ -6,8 +6,9 @@ from datetime import date, datetime
 from decimal import Decimal
 from typing import Callable
 
-from rafttwine import (Article, Cents, Factor, Granted, Level, NoDay, PackagingRow, Percent, PriceRow, Property, Question, Rounding,
-                       Scheme, TextRow, Way, basket, book, calendar, price, question, text, text_book)
+from rafttwine import (Article, Cents, Factor, Granted, Held, Level, NoDay, PackagingRow, Percent, PriceRow, Property, Question,
+                       Rounding, Scheme, TextRow, Way, basket, book, calendar, derive, price, price_derived, property_list, question,
+                       text, text_book)
 from samples import ASKED, BOOK, FALLBACK, QUESTIONS
 from sizes import MOST_BYTES, articles_of, texts_of
 
@@ -21,6 +22,10 @@ def asked(**words: object) -> Callable[[], object]:
 
 def row(**words: object) -> Callable[[], object]:
     return lambda: PriceRow(**{"article": "A1", "level": Level.BASE, "value": Cents(1), **words})
+
+
+def derived(**words: object) -> Callable[[], object]:
+    return lambda: derive(**{"question": question("A1", DAY), "properties": {}, "relation": "$VARCOND='OAK'", **words})
 
 
 def carton(**words: object) -> Callable[[], object]:
@@ -71,6 +76,24 @@ WRONG: list[tuple[type[Exception], str, Callable[[], object]]] = [
     (TypeError, "text_book.texts: text 2: TextRow is wanted, not bytes", lambda: text_book([TextRow(7, b"Table"), b"Table"])),
     (TypeError, "book.records: record 1: Article, PriceRow, Rounding, PackagingRow or Scheme is wanted, not a list",
      lambda: book([Article("A1")])),
+    (TypeError, "Held.value: a text, a whole number or None is wanted, not the number 1.5", lambda: Held("WIDTH", 1.5)),
+    (TypeError, "property_list.values: a dictionary of names and values, or a list of Held is wanted, not the text 'TOP'",
+     lambda: property_list("TOP")),
+    (TypeError, "property_list.values: 'WIDTH': a text, a whole number or None is wanted, not True",
+     lambda: property_list({"WIDTH": True})),
+    (TypeError, "property_list.values: a text is wanted, not the number 7", lambda: property_list({7: "oak"})),
+    (TypeError, "property_list.values: property 2: Held is wanted, not a tuple",
+     lambda: property_list([Held("TOP"), ("WIDTH", 900)])),
+    (TypeError, "derive.properties: 'TOP': a text, a whole number or None is wanted, not bytes",
+     derived(properties={"TOP": b"oak"})),
+    (TypeError, "derive.properties: bytes are wanted, or another contiguous buffer of bytes, not the text 'TOP'",
+     derived(properties="TOP")),
+    (TypeError, "derive.relation: bytes are wanted, or another contiguous buffer of bytes, not a list",
+     derived(relation=["$VARCOND='OAK'"])),
+    (TypeError, "derive.question: bytes are wanted, or another contiguous buffer of bytes, not a Question",
+     derived(question=Question("A1", DAY))),
+    (TypeError, "price_derived.properties: 'TOP': a text, a whole number or None is wanted, not a list",
+     lambda: price_derived(BOOK, QUESTIONS["june"], {"TOP": ["oak"]}, "$VARCOND='OAK'")),
     # Numbers out of range.
     (ValueError, "text.number: 4,294,967,303 is out of range, 0 to 4,294,967,295 is allowed",
      lambda: text(ASKED, FALLBACK, 2**32 + 7)),
@@ -111,6 +134,10 @@ WRONG: list[tuple[type[Exception], str, Callable[[], object]]] = [
     (ValueError, "PackagingRow.items: 10,001 is out of range, -10,000 to 10,000 is allowed", carton(items=10_001)),
     (ValueError, "Property.width: 31 is out of range, 1 to 30 is allowed", lambda: Property(31)),
     (ValueError, "NoDay.number: 20240102 is a day, which is given as datetime.date(2024, 1, 2)", lambda: NoDay(20240102)),
+    (ValueError, "Held.value: 9,223,372,036,854,775,808 is out of range, -9,223,372,036,854,775,808 to 9,223,372,036,854,775,807 is "
+     "allowed", lambda: Held("WIDTH", 1 << 63)),
+    (ValueError, "derive.properties: 65 properties, and at most 64 are allowed",
+     derived(properties={f"P{place}": place for place in range(65)})),
     # Names.
     (ValueError, "PriceRow.article: 41 bytes, and at most 40 are allowed", row(article="A" * 41)),
     (ValueError, "Article.number: it is empty, and 1 to 40 bytes are allowed", lambda: Article("")),
@@ -134,6 +161,10 @@ WRONG: list[tuple[type[Exception], str, Callable[[], object]]] = [
      asked(currency="eur")),
     (ValueError, "PriceRow.currency: a currency of three capitals is wanted, not the text 'EURO'", row(currency="EURO")),
     (ValueError, "basket.questions: 201 questions, and at most 200 are allowed", lambda: basket(BOOK, [QUESTIONS["june"]] * 201)),
+    (ValueError, "Held.name: 256 bytes, and at most 255 are allowed", lambda: Held("N" * 256)),
+    (ValueError, f"property_list.values: 'TOP': character 4 is '\u20ac' (U+20AC), and {LATIN_1}",
+     lambda: property_list({"TOP": "oak\u20ac"})),
+    (ValueError, "derive.relation: line 1, column 11: '\u20ac' (U+20AC) is not in Latin-1", derived(relation="$VARCOND='\u20ac'")),
     # What does not go together.
     (ValueError, "question.version: 1 has no factors, and 'oak' has 2.5; None is for the version that fits",
      lambda: Question("A1", DAY, granted=["ash", Granted("oak", Factor("2.5"))], version=1)),
@@ -180,6 +211,8 @@ RIGHT: list[Callable[[], object]] = [
     carton(width=-10_000_000, items=-10_000, length_unit="CMT", volume_unit="LTR"),
     lambda: (Scheme("S", between_values="--", trim=True), Scheme("S", between_values="-")),
     lambda: Scheme("S", hidden="+", between_values="-", trim=True),
+    lambda: (Held("N" * 255, "\xff" * 255), Held("WIDTH", -1 << 63), Held("WIDTH", (1 << 63) - 1), Held("TOP", "")),
+    derived(properties={f"P{place}": place for place in range(64)}),
     lambda: text(ASKED, text_book({2**32 - 1: bytes(65_535)}), 2**32 - 1),
 ]
 

@@ -1,8 +1,9 @@
 //! The calls that write, with a room of their own: their answers can be kept.
 
 use crate::{
-    basket, basket_room, calendar, file_room, final_number, latin_1, price, read_prices, record_room, write_prices, Currency, Day,
-    Line, Price, PriceTable, Refusal, RefusedAt, Stretch, CALENDAR_ROOM, NUMBER_ROOM, PRICE_ROOM,
+    basket, basket_room, calendar, derive, derived_room, file_room, final_number, latin_1, price, price_derived, read_prices,
+    record_room, write_prices, Currency, Day, Line, Price, PriceTable, Refusal, RefusedAt, RefusedRelation, Stretch, CALENDAR_ROOM,
+    NUMBER_ROOM, PRICE_ROOM,
 };
 
 /// The price of an article. All amounts are in cents. It is shown as a table; [`table`](OwnedPrice::table) has one with texts and
@@ -93,4 +94,55 @@ pub fn records_of(file: &[u8]) -> Result<Vec<u8>, RefusedAt> {
 /// The price file of a book's price records, to be kept: the one that [`write_prices`] writes. It is in Latin-1.
 pub fn price_file_of(book: &[u8]) -> Result<Vec<u8>, RefusedAt> {
     write_prices(book, &mut vec![0; file_room(book.len())]).map(<[u8]>::to_vec)
+}
+
+/// The question with the names granted that a relation derives, to be kept: the one that [`derive`](derive()) writes.
+///
+/// ```
+/// # use rafttwine::{derived_of, price_of, Article, Book, Cents, Day, PriceRow, PropertyList, Question};
+/// # let mut book = Book::new();
+/// # book.add(Article::new("A1"))?.add(PriceRow::base("A1", Cents(10_000)))?;
+/// book.add(PriceRow::surcharge("A1", Cents(1_250)).condition("OAK"))?;
+/// let question = Question::new("A1", Day::new(2024, 6, 30)?).bytes()?;
+/// let chosen = PropertyList::new().text("TOP", "oak").number("WIDTH", 1_600).none("SHELF").bytes()?;
+/// let relation = b"$VARCOND = 'OAK' IF TOP = 'Oak' AND WIDTH >= 1600";
+/// assert_eq!(price_of(&book, &derived_of(&question, &chosen, relation)?)?.unit, 11_250);
+/// # Ok::<(), Box<dyn std::error::Error>>(())
+/// ```
+pub fn derived_of(question: &[u8], properties: &[u8], relation: &[u8]) -> Result<Vec<u8>, RefusedRelation> {
+    derive(question, properties, relation, &mut vec![0; derived_room(question.len())]).map(<[u8]>::to_vec)
+}
+
+/// The itemised price with the names granted that a relation derives, to be kept: the one that [`price_derived`] finds. The places of
+/// its lines are those of the names in [`names_of`].
+pub fn derived_price_of(book: &[u8], question: &[u8], properties: &[u8], relation: &[u8]) -> Result<OwnedPrice, RefusedRelation> {
+    price_derived(book, question, properties, relation, &mut [0; PRICE_ROOM]).map(OwnedPrice::from)
+}
+
+/// Asks for one `A` on the first day of all, and grants nothing.
+const LEAST_QUESTION: [u8; 21] = *b"\0\0\0\x15\x01\x01AS\0\0\0\0\0\x27\x75\0\0\0\x01\0\0";
+const COUNT_AT: usize = 19;
+
+/// The names that a relation derives from what was chosen, in order.
+///
+/// ```
+/// use rafttwine::{names_of, PropertyList};
+///
+/// let chosen = PropertyList::new().text("TOP", "oak").bytes()?;
+/// assert_eq!(names_of(&chosen, b"$VARCOND = 'OAK' IF TOP = 'Oak', $VARCOND = 'WIDE' IF WIDTH > 1600")?, ["OAK"]);
+/// let wrong = names_of(&chosen, b"$VARCOND = 'OAK'\n  IF TOP ('oak')").unwrap_err();
+/// assert_eq!(wrong.spot.map(|spot| (spot.line, spot.column)), Some((2, 10)));
+/// # Ok::<(), Box<dyn std::error::Error>>(())
+/// ```
+pub fn names_of(properties: &[u8], relation: &[u8]) -> Result<Vec<String>, RefusedRelation> {
+    let derived = derived_of(&LEAST_QUESTION, properties, relation)?;
+    let mut rest = &derived[COUNT_AT + 1..];
+    Ok((0..derived[COUNT_AT]).map(|_| first_name(&mut rest)).collect())
+}
+
+/// The name that stands in front, which is then taken off.
+fn first_name(rest: &mut &[u8]) -> String {
+    let (name, behind) = rest[1..].split_at(rest[0].into());
+    *rest = behind;
+    latin_1::letters(name).collect()
 }

@@ -15,6 +15,21 @@ pub struct PriceAnswer {
     pub currency: [u8; 3],
 }
 
+/// The answer of [`rafttwine_price_derived`].
+#[repr(C)]
+#[derive(Clone, Copy, Debug)]
+#[allow(missing_docs)]
+pub struct DerivedAnswer {
+    pub unit: i64,
+    pub total: i64,
+    pub lines: u64,
+    pub place: u64,
+    pub unused: u32,
+    pub unused_count: u8,
+    pub number: u8,
+    pub currency: [u8; 3],
+}
+
 /// The answer of [`rafttwine_calendar`] and [`rafttwine_calendar_list`].
 #[repr(C)]
 #[derive(Clone, Copy, Debug)]
@@ -33,7 +48,7 @@ pub struct Written {
     pub number: u8,
 }
 
-/// The answer of [`rafttwine_read_prices`] and [`rafttwine_write_prices`].
+/// The answer of [`rafttwine_read_prices`], [`rafttwine_write_prices`] and [`rafttwine_derive`].
 #[repr(C)]
 #[derive(Clone, Copy, Debug)]
 #[allow(missing_docs)]
@@ -133,5 +148,27 @@ extern "C" {
     ) -> TextAnswer;
     pub fn rafttwine_read_prices(file: *const u8, file_length: usize, out: *mut u8, out_length: usize) -> Placed;
     pub fn rafttwine_write_prices(book: *const u8, book_length: usize, out: *mut u8, out_length: usize) -> Placed;
+    pub fn rafttwine_derive(
+        question: *const u8,
+        question_length: usize,
+        properties: *const u8,
+        properties_length: usize,
+        relation: *const u8,
+        relation_length: usize,
+        out: *mut u8,
+        out_length: usize,
+    ) -> Placed;
+    pub fn rafttwine_price_derived(
+        book: *const u8,
+        book_length: usize,
+        question: *const u8,
+        question_length: usize,
+        properties: *const u8,
+        properties_length: usize,
+        relation: *const u8,
+        relation_length: usize,
+        lines: *mut u8,
+        lines_length: usize,
+    ) -> DerivedAnswer;
     pub fn rafttwine_version() -> u32;
 }

@@ -8,7 +8,8 @@ use std::fmt;
 pub enum Refusal {
     /// The price book, or one of the two text books, is not laid out as such a book.
     BrokenBook,
-    /// A question is not laid out as one, its day is not in the calendar, or a basket has too many of them.
+    /// A question or its property list is not laid out as such, its day is not in the calendar, a basket has too many questions, or
+    /// one grants names beside a relation.
     BrokenQuestion,
     /// The book does not have the article.
     NoArticle,
@@ -32,6 +33,12 @@ pub enum Refusal {
     NoText,
     /// A line of a price file makes no price record, or a price record of a book makes no line.
     BadRow,
+    /// A relation has something that none has at that place, or it ends too early.
+    BadRelation,
+    /// A condition of a relation has parentheses that are over sixteen deep.
+    DeepRelation,
+    /// A relation derives a name that no question can grant, or over 32 names.
+    UnfitName,
     /// A number that this version of the crate has no word for, from a later library.
     Other(u8),
 }
@@ -39,7 +46,7 @@ pub enum Refusal {
 use Refusal::*;
 
 /// Number 1 and on, as the library gives them.
-const NUMBERED: [Refusal; 13] = [
+const NUMBERED: [Refusal; 16] = [
     BrokenBook,
     BrokenQuestion,
     NoArticle,
@@ -53,6 +60,9 @@ const NUMBERED: [Refusal; 13] = [
     UnfitPackaging,
     NoText,
     BadRow,
+    BadRelation,
+    DeepRelation,
+    UnfitName,
 ];
 
 impl Refusal {
@@ -80,7 +90,10 @@ impl fmt::Display for Refusal {
     fn fmt(&self, to: &mut fmt::Formatter<'_>) -> fmt::Result {
         to.write_str(match self {
             BrokenBook => "the price book, or one of the text books, is not laid out as such a book",
-            BrokenQuestion => "a question is not laid out as one, its day is not in the calendar, or there are too many questions",
+            BrokenQuestion => {
+                "a question or its property list is not laid out as such, its day is not in the calendar, there are too many \
+                 questions, or it grants names beside a relation"
+            }
             NoArticle => "the book does not have the article",
             NoBaseLine => "the article has no base price on that day, in that quantity",
             MixedCurrencies => "a fixed amount is in another currency than the first base line",
@@ -92,6 +105,9 @@ impl fmt::Display for Refusal {
             UnfitPackaging => "packaging data are in different units, or sum up to less than zero",
             NoText => "neither text book has the number",
             BadRow => "a line of the price file makes no price record, or a price record of the book makes no line",
+            BadRelation => "the relation has something that no relation has at that place, or it ends too early",
+            DeepRelation => "a condition of the relation has parentheses that are over sixteen deep",
+            UnfitName => "the relation derives a name that no question can grant, or over 32 names",
             Other(number) => {
                 return write!(to, "the library gives refusal {number}, for which this version of the crate has no word")
             }
@@ -116,8 +132,8 @@ mod tests {
     #[test]
     fn a_number_of_a_later_library_is_told() {
         assert_eq!(accepted(0), Ok(()));
-        assert_eq!(accepted(13), Err(BadRow));
-        assert_eq!(accepted(14), Err(Other(14)));
-        assert_eq!(Other(14).to_string(), "the library gives refusal 14, for which this version of the crate has no word");
+        assert_eq!(accepted(16), Err(UnfitName));
+        assert_eq!(accepted(200), Err(Other(200)));
+        assert_eq!(Other(200).to_string(), "the library gives refusal 200, for which this version of the crate has no word");
     }
 }

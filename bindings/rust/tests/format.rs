@@ -3,7 +3,8 @@
 mod samples;
 
 use rafttwine::{
-    Article, Book, Cents, Factor, FieldError, PackagingRow, PriceRow, Property, Question, Rounding, Scheme, TextBook, Way,
+    Article, Book, Cents, Factor, FieldError, PackagingRow, PriceRow, Property, PropertyList, Question, Rounding, Scheme, TextBook,
+    Way,
 };
 use samples::day;
 use std::path::Path;
@@ -53,6 +54,13 @@ fn question() -> Result<(), FieldError> {
     assert_eq!(question.clone().granted(["oak"]).bytes()?, examples(&["Question"]));
     let factor = Factor::thousandths(2_500)?;
     assert_eq!(question.granted_times("oak", factor).bytes()?, examples(&["Question of version 2"]));
+    Ok(())
+}
+
+#[test]
+fn property_list() -> Result<(), FieldError> {
+    let list = PropertyList::new().text("TOP", "oak").number("WIDTH", -1).none("SHELF");
+    assert_eq!(list.bytes()?, examples(&["Property list"]));
     Ok(())
 }
 

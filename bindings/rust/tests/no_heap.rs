@@ -3,8 +3,8 @@
 mod samples;
 
 use rafttwine::{
-    basket, calendar, calendar_list, final_number, packaging, price, read_prices, text, version, write_prices, Refusal,
-    StretchRecord, BASKET_ROOM, CALENDAR_ROOM, MOST_STRETCHES, NUMBER_ROOM, PRICE_ROOM,
+    basket, calendar, calendar_list, derive, final_number, packaging, price, price_derived, read_prices, text, version,
+    write_prices, Refusal, StretchRecord, BASKET_ROOM, CALENDAR_ROOM, MOST_STRETCHES, NUMBER_ROOM, PRICE_ROOM,
 };
 use samples::{day, sample};
 use std::alloc::{GlobalAlloc, Layout, System};
@@ -42,6 +42,7 @@ fn the_calls_take_nothing() {
     let [book, priced, spanned, numbered, packed] =
         ["sample.book", "june_oak.question", "calendar.question", "padded.question", "carton.question"].map(sample);
     let [asked, fallback] = ["asked.texts", "fallback.texts"].map(sample);
+    let [plain, chosen, relation] = ["june.question", "chosen.properties", "sample.relation"].map(sample);
     let (end, questions) = (day(20250102), [&priced[..], &numbered, &priced].concat());
     let taken = taken_by(|| {
         assert_eq!(price(&book, &priced, &mut [0; PRICE_ROOM]).unwrap().lines().count(), 3);
@@ -56,6 +57,9 @@ fn the_calls_take_nothing() {
         let mut records = [0; 64];
         assert_eq!(read_prices(b"A1;;S;B;1;;1;1;EUR;;;0;", &mut records).unwrap().len(), 36);
         assert_eq!(write_prices(&records, &mut []).unwrap_err().refusal, Refusal::BrokenBook);
+        assert_eq!(derive(&plain, &chosen, &relation, &mut [0; 60]).unwrap().len(), 30);
+        assert_eq!(price_derived(&book, &plain, &chosen, &relation, &mut [0; PRICE_ROOM]).unwrap().lines().count(), 3);
+        assert!(derive(&plain, &chosen, b"$VARCOND\n'", &mut []).unwrap_err().spot.is_some());
         assert!(price(&[], &[], &mut []).is_err());
         assert_eq!(version().major, 2);
     });

@@ -3,6 +3,7 @@
 use calendar::list::list_answer;
 use calendar::list::stretch_at;
 use calendar::listing::listing_of;
+use relation_rules::DerivedAnswer;
 use rules::CalendarAnswer;
 use rules::PackagingAnswer;
 use rules::PlacedAnswer;
@@ -18,12 +19,38 @@ ghost use Rattle.basket.specs.Basket.{BasketIs};
 ghost use Rattle.calendar.specs.Calls.{CalendarIs, CalendarListIs};
 ghost use Rattle.final_number.specs.Ensures.{NumberCall};
 ghost use Rattle.file_rules.specs.Calls.{ReadIs, WriteIs};
+ghost use Rattle.relation_rules.specs.Calls.{DeriveIs, DerivedIs};
 
 #[no_mangle]
 pub extern "C" fn rafttwine_price(book: &[u8], question: &[u8], lines: &mut [u8]) -> PriceAnswer
     ensures { λ r. ⌜ PriceIs (now (book .entry)) (now (question .entry)) (now (lines .entry)) r (now (lines .exit)) ⌝ }
 {
     price::call::price(book, question, lines)
+}
+
+#[no_mangle]
+pub extern "C" fn rafttwine_price_derived(
+    book: &[u8],
+    question: &[u8],
+    properties: &[u8],
+    relation: &[u8],
+    lines: &mut [u8],
+) -> DerivedAnswer
+    ensures { λ r. ⌜ DerivedIs (now (book .entry)) (now (question .entry)) (now (properties .entry)) (now (relation .entry)) (now (lines .entry)) r (now (lines .exit)) ⌝ }
+{
+    derived_price::price_derived(book, question, properties, relation, lines)
+}
+
+#[no_mangle]
+pub extern "C" fn rafttwine_derive(
+    question: &[u8],
+    properties: &[u8],
+    relation: &[u8],
+    out: &mut [u8],
+) -> PlacedAnswer
+    ensures { λ r. ⌜ DeriveIs (now (question .entry)) (now (properties .entry)) (now (relation .entry)) (now (out .entry)) r (now (out .exit)) ⌝ }
+{
+    derive::derive(question, properties, relation, out)
 }
 
 #[no_mangle]
@@ -103,7 +130,7 @@ pub extern "C" fn rafttwine_write_prices(book: &[u8], out: &mut [u8]) -> PlacedA
 // The library's version: major times 10,000, minor times 100, patch. A program that loads the library can hold it against its header.
 #[no_mangle]
 pub extern "C" fn rafttwine_version() -> u32
-    ensures { λ r. ⌜ r ≡ 20100 ⌝ }
+    ensures { λ r. ⌜ r ≡ 20200 ⌝ }
 {
-    20_100
+    20_200
 }

@@ -4,6 +4,7 @@ use crate::fields::number;
 use crate::fields::signed;
 use crate::fields::three;
 use layout::names::same_bytes;
+use relation_rules::DerivedAnswer;
 use rules::PlacedAnswer;
 use rules::PriceAnswer;
 use rules::TextAnswer;
@@ -30,6 +31,24 @@ pub fn run<'a>(call: u8, n: u32, room: usize, a: &'a [u8], b: &'a [u8]) {
         7 => read_prices(a, lent),
         8 => write_prices(a, lent),
         _ => text(a, b, n),
+    }
+    io::write_all(1, b"\n");
+}
+
+// One that derives names: the price with them, or the question.
+pub fn derive_names(
+    call: u8,
+    room: usize,
+    book: &[u8],
+    question: &[u8],
+    properties: &[u8],
+    relation: &[u8],
+) {
+    let lent = least(room, 2000);
+    if call == 9 {
+        price_derived(book, question, properties, relation, lent);
+    } else {
+        derive(question, properties, relation, lent);
     }
     io::write_all(1, b"\n");
 }
@@ -101,6 +120,44 @@ fn write_prices(book: &[u8], room: usize)
     let mut out = [FILL; 2048];
     let answer = plugin::rafttwine_write_prices(book, &mut out[..room]);
     io::write_all(1, b"write_prices");
+    placed(answer);
+    bytes(&out, room + 8);
+}
+
+fn price_derived(book: &[u8], question: &[u8], properties: &[u8], relation: &[u8], room: usize)
+    requires { ⌜ room ≤ 2000 ⌝ }
+{
+    let mut out = [FILL; 2048];
+    let answer = plugin::rafttwine_price_derived(
+        book,
+        question,
+        properties,
+        relation,
+        &mut out[..room],
+    );
+    io::write_all(1, b"price_derived");
+    derived(answer);
+    bytes(&out, room + 8);
+}
+
+fn derived(answer: DerivedAnswer) {
+    number(answer.number as u64);
+    signed(answer.unit);
+    signed(answer.total);
+    number(answer.lines);
+    number(answer.place);
+    number(answer.unused as u64);
+    number(answer.unused_count as u64);
+    let currency = answer.currency;
+    three(currency[0], currency[1], currency[2]);
+}
+
+fn derive(question: &[u8], properties: &[u8], relation: &[u8], room: usize)
+    requires { ⌜ room ≤ 2000 ⌝ }
+{
+    let mut out = [FILL; 2048];
+    let answer = plugin::rafttwine_derive(question, properties, relation, &mut out[..room]);
+    io::write_all(1, b"derive");
     placed(answer);
     bytes(&out, room + 8);
 }

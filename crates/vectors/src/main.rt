@@ -1,6 +1,6 @@
 // The vectors program: reads stored vectors of the calls as a planning tool links them, and prints what each call gave, a line for each
 // vector. The second implementation wrote the lines that it has to print. A vector is a byte for the call, four numbers of four bytes (a
-// date or a text number, the bytes lent, the sizes of two parts), and the two parts.
+// date or a text number, the bytes lent, the sizes of two parts), and the two parts; from the ninth call on two more parts, each behind its size in four bytes.
 mod calls;
 mod fields;
 
@@ -30,7 +30,17 @@ fn cut(s: &[u8], at: usize, n: usize) -> usize
     if n < s.len() - at { at + n } else { s.len() }
 }
 
-// The vector at a place, and where it ends.
+// The size in four bytes at `at`, or 0 where they are cut off.
+fn size_at(s: &[u8], at: usize) -> usize
+    requires { ⌜ at ≤ length (now s) ⌝ }
+{
+    if s.len() - at < 4 {
+        return 0;
+    }
+    four_at(s, at)
+}
+
+// The vector at a position, and where it ends.
 fn one(s: &[u8], at: usize) -> usize
     requires { ⌜ at + 17 ≤ length (now s) ⌝ }
     ensures { λ r. ⌜ at < r ⌝ }
@@ -41,6 +51,32 @@ fn one(s: &[u8], at: usize) -> usize
     let a = at + 17;
     let b = cut(s, a, four_at(s, at + 9));
     let end = cut(s, b, four_at(s, at + 13));
-    calls::run(s[at], number as u32, room, &s[a..b], &s[b..end]);
-    end
+    if s[at] < 9 {
+        calls::run(s[at], number as u32, room, &s[a..b], &s[b..end]);
+        return end;
+    }
+    more(s, s[at], room, a, b, end)
+}
+
+// One with four parts, the first from a to b, the second up to c; and where it ends.
+fn more(s: &[u8], call: u8, room: usize, a: usize, b: usize, c: usize) -> usize
+    requires { ⌜ a ≤ b ⌝ }
+    requires { ⌜ b ≤ c ⌝ }
+    requires { ⌜ c ≤ length (now s) ⌝ }
+    ensures { λ r. ⌜ c ≤ r ⌝ }
+    ensures { λ r. ⌜ r ≤ length (now (s .entry)) ⌝ }
+{
+    let from = cut(s, c, 4);
+    let properties = cut(s, from, size_at(s, c));
+    let then = cut(s, properties, 4);
+    let relation = cut(s, then, size_at(s, properties));
+    calls::derive_names(
+        call,
+        room,
+        &s[a..b],
+        &s[b..c],
+        &s[from..properties],
+        &s[then..relation],
+    );
+    relation
 }

@@ -1,4 +1,5 @@
-/* What the programs of this folder share. A program is main.c or stack.c with checks.c and the file that is named after a call. */
+/* What the programs of this folder share. A program is main.c or stack.c with checks.c, relations.c and the file that is
+ * named after a call. */
 #ifndef CALLS_H
 #define CALLS_H
 
@@ -40,6 +41,11 @@ void expect(const char *what, long long found, long long expected);
 void expect_bytes(const char *what, const void *found, const void *expected, size_t length);
 void expect_all(const char *what, int byte, const void *found, size_t length);
 void expect_placed(rafttwine_placed found, enum rafttwine_refusal number, long long place, size_t length);
+
+/* In relations.c: the relation that takes most stack, once it is made. */
+extern uint8_t deep_relation[];
+extern size_t deep_relation_length;
+void make_deep_relation(void);
 
 /* Each call's file has these four: how much stack the header gives the call; a function that reads the samples all its questions need;
  * one that holds the call's answers to the expected ones; and one that makes one call. */

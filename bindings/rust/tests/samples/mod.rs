@@ -3,8 +3,8 @@
 #![allow(dead_code)] // each test takes what it needs
 
 use rafttwine::{
-    Article, Book, Cents, Day, Factor, FieldError, PackagingRow, Percent, PriceRow, Property, Question, Rounding, Rule, Scheme,
-    TextBook, Way,
+    Article, Book, Cents, Day, Factor, FieldError, PackagingRow, Percent, PriceRow, Property, PropertyList, Question, Rounding,
+    Rule, Scheme, TextBook, Way,
 };
 
 /// A sample by its name.
@@ -19,10 +19,31 @@ pub fn samples() -> Vec<(String, Vec<u8>)> {
         ("sample.book".to_string(), book().expect("the book is in its layout").into_bytes()),
         ("asked.texts".to_string(), texts(&[(TABLE, "table"), (OAK, "")])),
         ("fallback.texts".to_string(), texts(&[(TABLE, "Tisch"), (DISCOUNT, "Nachlass")])),
+        ("chosen.properties".to_string(), chosen()),
+        ("sample.relation".to_string(), RELATION.to_vec()),
+        ("june_version_2.question".to_string(), june_version_2()),
     ];
     let packed = |question: Question| question.bytes().expect("the question is in its layout");
     all.extend(questions().into_iter().map(|(name, question)| (format!("{name}.question"), packed(question))));
     all
+}
+
+/// A relation that derives oak and ash from what was chosen.
+const RELATION: &[u8] = b"\
+    $VARCOND = 'oak' IF TOP = 'Oak' AND NOT WIDTH < 800,\n\
+    $VARCOND = 'beech' IF TOP IN ('beech', 'birch') OR FINISH = 'oil',\n\
+    $varcond = 'ash' if not specified FINISH\n";
+
+fn chosen() -> Vec<u8> {
+    let chosen = PropertyList::new().text("top", "OAK").number("Width", 900).none("FINISH");
+    chosen.bytes().expect("the list is in its layout")
+}
+
+/// No question of this crate has version 2 without a factor; it has the same bytes but for the version.
+fn june_version_2() -> Vec<u8> {
+    let mut question = Question::new("A1", day(20240630)).bytes().expect("the question is in its layout");
+    question[4] = 2;
+    question
 }
 
 /// A day of a number that is one.

@@ -5,14 +5,14 @@ use std::path::Path;
 use std::process::{Command, Stdio};
 use std::thread;
 
-use second::calls::Calls;
+use second::calls::{Calls, THEIRS};
 use second::cases::{Case, Inputs};
 use second::compare::{compare, hex, Call, Difference, Plan, ALL_CALLS};
 use second::counts::Counts;
 use second::program;
 use second::shrink::shrunk;
 
-use crate::compared::{print_clipped, Compared, Differ, THEIRS};
+use crate::compared::{print_clipped, Compared, Differ};
 
 /// The number at the end of `refusal n`, or 0 for a printed calendar.
 fn printed_number(printed: &[u8]) -> u8 {

@@ -6,11 +6,6 @@ use std::path::Path;
 use second::compare::Difference;
 use second::counts::Counts;
 
-#[cfg(feature = "archive")]
-pub const THEIRS: second::calls::Archive = second::calls::Archive;
-#[cfg(not(feature = "archive"))]
-pub const THEIRS: second::calls::Second = second::calls::Second;
-
 /// How a difference is seen, also in a smaller case.
 pub type Differ<C> = Box<dyn Fn(&C) -> Option<Difference>>;
 

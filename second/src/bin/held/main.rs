@@ -5,7 +5,7 @@
 //! Changes every byte of a small case to every value, and puts each known fault into a price file or
 //! a book; then makes cases from the seed, which is a new one each time if none is given, runs every
 //! call of each case through both implementations, and compares answers and lent memory. Every tenth
-//! case has a price file beside it. Built with the feature `archive` the other implementation is the
+//! case has a price file beside it, and every fifth a relation. Built with the feature `archive` the other implementation is the
 //! linked archive, otherwise this library itself. If the path of a calendar program is given, its
 //! output is compared as well, in every 100th case or as often as asked for.
 //!
@@ -17,6 +17,7 @@
 mod base;
 mod compared;
 mod price_file;
+mod relation;
 
 use std::path::{Path, PathBuf};
 use std::process::ExitCode;
@@ -28,6 +29,7 @@ use second::cases::{sweep, Case};
 use second::counts::Counts;
 use second::file_cases::{sweep_files, FileCase};
 use second::file_faults::faults;
+use second::relation_cases::{sweep_relations, RelationCase};
 
 use compared::{show, Compared};
 
@@ -35,6 +37,9 @@ const USAGE: &str = "usage: held [--seed N [--from N]] [--cases N | --seconds N]
 
 /// So often a case has a price file beside it.
 const FILE_EVERY: u64 = 10;
+
+/// So often a case has a relation beside it.
+const RELATION_EVERY: u64 = 5;
 
 struct Arguments {
     seed: u64,
@@ -120,6 +125,10 @@ impl Run {
                 let case = FileCase::generate(arguments.seed, index / FILE_EVERY);
                 self.one(&format!("the price file of {name}"), &case, None, &mut counts);
             }
+            if index % RELATION_EVERY == 0 {
+                let case = RelationCase::generate(arguments.seed, index / RELATION_EVERY);
+                self.one(&format!("the relation of {name}"), &case, None, &mut counts);
+            }
         }
         counts
     }
@@ -137,12 +146,17 @@ impl Run {
     }
 }
 
-/// Every value of every byte of a small case, of its price file and of its book to write one from, and all known faults of both.
+/// Every value of every byte of a small case, of its price file and of its book to write one from, of its relation with what stands
+/// beside it, and all known faults of price files and books.
 fn known_cases_agree() -> bool {
     all_agree("every value of every byte of a small case", sweep().map(|case| (String::new(), case)))
         && all_agree(
             "every value of every byte of a small price file and its book",
             sweep_files().map(|case| (String::new(), case)),
+        )
+        && all_agree(
+            "every value of every byte of a small relation, its properties and its question",
+            sweep_relations().map(|case| (String::new(), case)),
         )
         && all_agree("known faults of price files", faults().map(|fault| (fault.what, fault.case)))
 }

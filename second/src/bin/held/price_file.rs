@@ -2,13 +2,14 @@
 
 use std::path::Path;
 
+use second::calls::THEIRS;
 use second::compare::hex;
 use second::counts::Counts;
 use second::file_cases::FileCase;
 use second::file_compare::{compare_file, FileCall, FILE_CALLS};
 use second::shrink::shrunk_file;
 
-use crate::compared::{print_clipped, Compared, Differ, THEIRS};
+use crate::compared::{print_clipped, Compared, Differ};
 
 impl Compared for FileCase {
     fn held(&self, _: Option<&Path>, counts: &mut Counts) -> Result<(), Differ<FileCase>> {

@@ -5,17 +5,30 @@
 //!
 //! | Bytes | What |
 //! |---|---|
-//! | 1 | the call: 1 price, 2 calendar, 3 final number, 4 packaging, 5 text, 6 basket, 7 read prices, 8 write prices |
+//! | 1 | the call, by its number below |
 //! | 4 | the calendar's end or the text's number, otherwise 0 |
 //! | 4 | how many bytes are lent for the output |
 //! | 4 and 4 | the sizes of the two parts |
-//! | the rest | book and question, asked and fallback text book, book and questions, or a price file or a book alone |
+//! | so many | the two parts |
+//! | 4 and so many, twice | only for the calls 9 and 10: the properties and the relation, each behind its size |
 //!
-//! with big-endian numbers. A line has the call's name, the fields of its answer in decimal
+//! with big-endian numbers. The calls and their two parts are
+//!
+//! | Number | Call | Parts |
+//! |---|---|---|
+//! | 1 to 4 | price, calendar, final number, packaging | book, question |
+//! | 5 | text | asked and fallback text book |
+//! | 6 | basket | book, questions |
+//! | 7, 8 | read prices, write prices | price file or book, nothing |
+//! | 9 | price derived | book, question |
+//! | 10 | derive | nothing, question |
+//!
+//! A line has the call's name, the fields of its answer in decimal
 //! (currency and units in hexadecimal), and what stands afterwards in the lent bytes and in some
 //! behind them, which all were 165 before.
 
 mod drawn;
+mod relations;
 mod vector;
 mod worked;
 
@@ -34,6 +47,8 @@ fn main() -> ExitCode {
     };
     let mut vectors: Vec<Vector> = worked::vectors();
     vectors.extend(drawn::vectors());
+    vectors.extend(relations::vectors());
+    vectors.extend(drawn::of_relations());
     let bytes: Vec<u8> = vectors.iter().flat_map(Vector::bytes).collect();
     assert!(bytes.len() <= LONGEST, "too many bytes for the program");
     if let Err(error) = std::fs::write(path, &bytes) {

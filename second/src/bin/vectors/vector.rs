@@ -1,8 +1,9 @@
 //! One vector: its bytes, and the line that it has to give.
 
 use second::compare::{hex, Call};
-use second::file_compare::FileCall;
-use second::{basket, calendar, final_number, packaging, price, read_prices, text, write_prices, Placed};
+use second::file_compare::{FileCall, FILE_CALLS};
+use second::relation_compare::RelationCall;
+use second::{basket, calendar, derive, final_number, packaging, price, price_derived, read_prices, text, write_prices, Placed};
 
 /// What is lent is filled with this byte, and so are some bytes behind it.
 const FILL: u8 = 165;
@@ -15,11 +16,12 @@ pub const MOST_ROOM: usize = 2_000;
 /// no list of records: `tests/held` and the tests in C do.
 pub const CALLS: [Call; 6] = [Call::Price, Call::Calendar, Call::FinalNumber, Call::Packaging, Call::Text, Call::Basket];
 
-/// Either sort of call; the byte of the price file's calls goes on behind those above.
+/// A call of any sort; the bytes of the price file's calls and then those of the calls for relations go on behind those above.
 #[derive(Clone, Copy)]
 pub enum Asked {
     Call(Call),
     File(FileCall),
+    Relation(RelationCall),
 }
 
 pub struct Vector {
@@ -29,6 +31,9 @@ pub struct Vector {
     pub room: usize,
     pub first: Vec<u8>,
     pub second: Vec<u8>,
+    /// Beside the question, for a call that derives names.
+    pub properties: Vec<u8>,
+    pub relation: Vec<u8>,
 }
 
 impl Asked {
@@ -37,18 +42,35 @@ impl Asked {
         let place = match self {
             Asked::Call(call) => CALLS.iter().position(|one| *one == call).expect("a call that the program makes"),
             Asked::File(call) => CALLS.len() + call as usize,
+            Asked::Relation(call) => CALLS.len() + FILE_CALLS.len() + call as usize,
         };
         place as u8 + 1
     }
 }
 
 impl Vector {
+    /// A vector that lends nothing and has two parts at most.
+    pub fn new(call: Asked, first: Vec<u8>, second: Vec<u8>) -> Vector {
+        Vector { call, number: 0, room: 0, first, second, properties: Vec::new(), relation: Vec::new() }
+    }
+
+    /// How long its parts are together.
+    pub fn length(&self) -> usize {
+        [&self.first, &self.second, &self.properties, &self.relation].iter().map(|part| part.len()).sum()
+    }
+
     pub fn bytes(&self) -> Vec<u8> {
         let numbers = [self.number, self.room as u32, self.first.len() as u32, self.second.len() as u32];
         let mut bytes = vec![self.call.byte()];
         bytes.extend(numbers.iter().flat_map(|number| number.to_be_bytes()));
         bytes.extend(&self.first);
         bytes.extend(&self.second);
+        if let Asked::Relation(_) = self.call {
+            for part in [&self.properties, &self.relation] {
+                bytes.extend((part.len() as u32).to_be_bytes());
+                bytes.extend(part);
+            }
+        }
         bytes
     }
 
@@ -58,6 +80,7 @@ impl Vector {
             Asked::Call(Call::Text) => format!("text {}", found(&self.first, &self.second, self.number)),
             Asked::Call(call) => self.line_with_room(call.name(), |lent| self.answer(call, lent)),
             Asked::File(call) => self.line_with_room(call.name(), |lent| placed(self.placed(call, lent))),
+            Asked::Relation(call) => self.line_with_room(call.name(), |lent| self.derived(call, lent)),
         }
     }
 
@@ -93,6 +116,27 @@ impl Vector {
         match call {
             FileCall::Read => read_prices(&self.first, lent),
             FileCall::Write => write_prices(&self.first, lent),
+        }
+    }
+
+    fn derived(&self, call: RelationCall, lent: &mut [u8]) -> String {
+        let Vector { first, second, properties, relation, .. } = self;
+        match call {
+            RelationCall::PriceDerived => {
+                let answer = price_derived(first, second, properties, relation, lent);
+                format!(
+                    "{} {} {} {} {} {} {} {}",
+                    answer.number,
+                    answer.unit,
+                    answer.total,
+                    answer.lines,
+                    answer.place,
+                    answer.unused,
+                    answer.unused_count,
+                    hex(&answer.currency)
+                )
+            }
+            RelationCall::Derive => placed(derive(second, properties, relation, lent)),
         }
     }
 }

@@ -22,12 +22,12 @@ pub fn vectors() -> Vec<Vector> {
     vectors
 }
 
-fn book(records: &[Record]) -> Vec<u8> {
+pub fn book(records: &[Record]) -> Vec<u8> {
     make::book(&[&[Article::new("A1", "").into()], records].concat())
 }
 
 fn price(book: &[u8], question: Question) -> Vector {
-    Vector { call: Asked::Call(Call::Price), number: 0, room: 50, first: book.to_vec(), second: question.bytes() }
+    Vector { room: 50, ..Vector::new(Asked::Call(Call::Price), book.to_vec(), question.bytes()) }
 }
 
 fn calendar(book: &[u8], question: Question, end: u32) -> Vector {
@@ -38,15 +38,15 @@ fn other(call: Call, book: &[u8], question: Question) -> Vector {
     Vector { call: Asked::Call(call), ..price(book, question) }
 }
 
-fn base(cents: i32) -> Price {
+pub fn base(cents: i32) -> Price {
     Price::fixed("A1", b'B', cents)
 }
 
-fn ask(date: u32) -> Question {
+pub fn ask(date: u32) -> Question {
     Question::new("A1", date)
 }
 
-fn book_k() -> Vec<u8> {
+pub fn book_k() -> Vec<u8> {
     book(&[
         base(10_000).dates(20240101, 20240630).into(),
         base(10_500).dates(20240701, 20241231).into(),
@@ -192,12 +192,12 @@ fn order_and_cartons() -> Vec<Vector> {
 fn texts() -> Vec<Vector> {
     let asked = make::text_book(&[TextRecord::new(7, b"Eiche"), TextRecord::new(7, b"oak")]);
     let fallback = make::text_book(&[TextRecord::new(8, b""), TextRecord::new(9, b"ash")]);
-    let text = |number| Vector { call: Asked::Call(Call::Text), number, room: 0, first: asked.clone(), second: fallback.clone() };
+    let text = |number| Vector { number, ..Vector::new(Asked::Call(Call::Text), asked.clone(), fallback.clone()) };
     (6..10).map(text).collect()
 }
 
 fn basket(book: &[u8], questions: &[Question], room: usize) -> Vector {
-    Vector { call: Asked::Call(Call::Basket), number: 0, room, first: book.to_vec(), second: make::basket(questions) }
+    Vector { room, ..Vector::new(Asked::Call(Call::Basket), book.to_vec(), make::basket(questions)) }
 }
 
 /// None, P1, P1 to P4 with a missing article among them, too little room and a broken question, then as many as may be and one
@@ -228,7 +228,7 @@ fn baskets() -> Vec<Vector> {
 }
 
 fn read(file: &str, room: usize) -> Vector {
-    Vector { call: Asked::File(FileCall::Read), number: 0, room, first: make::latin1(file), second: Vec::new() }
+    Vector { room, ..Vector::new(Asked::File(FileCall::Read), make::latin1(file), Vec::new()) }
 }
 
 /// Book K as its manufacturer has it; three records of 36 bytes and one of 39.
@@ -282,15 +282,14 @@ fn bad_files() -> Vec<Vector> {
 }
 
 fn write(records: &[Record], room: usize) -> Vector {
-    Vector { call: Asked::File(FileCall::Write), number: 0, room, first: make::book(records), second: Vec::new() }
+    Vector { room, ..Vector::new(Asked::File(FileCall::Write), make::book(records), Vec::new()) }
 }
 
 /// K with room that is enough, exact and one byte short, no price record at all, quotes, the ends of numbers, records that make no
 /// line, and a broken book.
 fn written_files() -> Vec<Vector> {
-    let k = Vector { call: Asked::File(FileCall::Write), number: 0, room: 200, first: book_k(), second: Vec::new() };
+    let with_room = |room| Vector { room, ..Vector::new(Asked::File(FileCall::Write), book_k(), Vec::new()) };
     let needed = 2 * 45 + 47 + 44;
-    let with_room = |room| Vector { room, first: k.first.clone(), second: Vec::new(), ..k };
     let named =
         |article: &str, condition: &str| Record::from(Price { article: make::latin1(article), ..base(5).condition(condition) });
     let quotes = [named("#", "#"), named("\"", ";"), named("A\"1", " \""), named("#;\"", "\"\"")];
@@ -311,6 +310,6 @@ fn written_files() -> Vec<Vector> {
         write(&ends, 300),
         write(&[article(), base(5).into(), base(5).rounding(1).into(), base(5).dates(100_000_000, 0).into()], 100),
         write(&[base(5).into(), Rounding::new(1, 2, 5).into(), base(5).dates(0, 100_000_000).into()], 0),
-        k,
+        with_room(200),
     ]
 }

@@ -2,7 +2,7 @@
 //! takes them from here too.
 
 use rafttwine::raw;
-use second::{CalendarAnswer, PackagingAnswer, Placed, PriceAnswer, Stretch, TextAnswer, Written};
+use second::{CalendarAnswer, DerivedAnswer, PackagingAnswer, Placed, PriceAnswer, Stretch, TextAnswer, Written};
 
 // Sound, all of them: each pointer and length are those of one slice, borrowed for the whole call; any bytes make an answer.
 
@@ -56,6 +56,26 @@ pub fn read_prices(file: &[u8], out: &mut [u8]) -> Placed {
 
 pub fn write_prices(book: &[u8], out: &mut [u8]) -> Placed {
     placed(unsafe { raw::rafttwine_write_prices(book.as_ptr(), book.len(), out.as_mut_ptr(), out.len()) })
+}
+
+pub fn derive(question: &[u8], properties: &[u8], relation: &[u8], out: &mut [u8]) -> Placed {
+    let [(question, asked), (properties, held), (relation, said)] = [question, properties, relation].map(lent);
+    placed(unsafe { raw::rafttwine_derive(question, asked, properties, held, relation, said, out.as_mut_ptr(), out.len()) })
+}
+
+pub fn price_derived(book: &[u8], question: &[u8], properties: &[u8], relation: &[u8], lines: &mut [u8]) -> DerivedAnswer {
+    let [(book, rows), (question, asked)] = [book, question].map(lent);
+    let [(properties, held), (relation, said)] = [properties, relation].map(lent);
+    let (written, room) = (lines.as_mut_ptr(), lines.len());
+    let answer =
+        unsafe { raw::rafttwine_price_derived(book, rows, question, asked, properties, held, relation, said, written, room) };
+    let raw::DerivedAnswer { unit, total, lines, place, unused, unused_count, number, currency } = answer;
+    DerivedAnswer { unit, total, lines, place, unused, unused_count, number, currency }
+}
+
+/// A slice as C takes it.
+fn lent(bytes: &[u8]) -> (*const u8, usize) {
+    (bytes.as_ptr(), bytes.len())
 }
 
 fn placed(answer: raw::Placed) -> Placed {

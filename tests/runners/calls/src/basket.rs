@@ -88,11 +88,11 @@ pub fn call() -> Call<Written, u8> {
         name: "rafttwine_basket",
         refusals: &[1, 2, 7],
         implementations: &[
-            ("second", |book, questions, _, out| second::basket(book, questions, out)),
-            ("the archive", |book, questions, _, out| archive::basket(book, questions, out)),
+            ("second", |lent, _, out| second::basket(lent[0], lent[1], out)),
+            ("the archive", |lent, _, out| archive::basket(lent[0], lent[1], out)),
         ],
         fill: pattern,
-        names: Names { first: "Book", second: Some("Questions"), extra: None, room: Some("Room") },
+        names: Names { strings: &["Book", "Questions"], extra: None, room: Some("Room") },
         example,
         vectors: [answers::vectors(), many::vectors(), refusals::vectors()].concat(),
     }

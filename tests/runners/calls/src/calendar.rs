@@ -85,9 +85,12 @@ pub fn call() -> Call<CalendarAnswer, u8> {
     Call {
         name: "rafttwine_calendar",
         refusals: REFUSALS,
-        implementations: &[("second", second::calendar), ("the archive", archive::calendar)],
+        implementations: &[
+            ("second", |lent, end, out| second::calendar(lent[0], lent[1], end, out)),
+            ("the archive", |lent, end, out| archive::calendar(lent[0], lent[1], end, out)),
+        ],
         fill: pattern,
-        names: Names { first: "Book", second: Some("Question"), extra: Some("End"), room: Some("Room") },
+        names: Names { strings: &["Book", "Question"], extra: Some("End"), room: Some("Room") },
         example,
         vectors: vectors().into_iter().map(|vector| vector.bytes).collect(),
     }
@@ -97,9 +100,12 @@ pub fn list_call() -> Call<CalendarAnswer, Stretch> {
     Call {
         name: "rafttwine_calendar_list",
         refusals: REFUSALS,
-        implementations: &[("second", second::calendar_list), ("the archive", archive::calendar_list)],
+        implementations: &[
+            ("second", |lent, end, out| second::calendar_list(lent[0], lent[1], end, out)),
+            ("the archive", |lent, end, out| archive::calendar_list(lent[0], lent[1], end, out)),
+        ],
         fill: list_pattern,
-        names: Names { first: "Book", second: Some("Question"), extra: Some("End"), room: Some("Room in records") },
+        names: Names { strings: &["Book", "Question"], extra: Some("End"), room: Some("Room in records") },
         example: list_example,
         vectors: vectors().into_iter().map(|vector| vector.list).collect(),
     }

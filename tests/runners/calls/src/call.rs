@@ -6,10 +6,9 @@ use crate::shorter::shorter;
 use crate::vector::{Answer, Run, Vector};
 use std::fmt::Debug;
 
-/// The names under which the document has what is handed to a call; a call that takes no second string, no extra or no room has none.
+/// The names under which the document has what is handed to a call; a call that takes no extra or no room has none.
 pub struct Names {
-    pub first: &'static str,
-    pub second: Option<&'static str>,
+    pub strings: &'static [&'static str],
     pub extra: Option<&'static str>,
     pub room: Option<&'static str>,
 }
@@ -69,17 +68,17 @@ impl<A: Answer, T: Copy + PartialEq + Debug> Call<A, T> {
     fn refusal(&self, row: &Cells) -> Vector<A, T> {
         let (number, extra) = (row.number("Number"), self.names.extra.map_or(0, |name| row.number(name)));
         let shows = format!("refusal {number} of the document");
-        Vector::refused(&shows, &row.bytes(self.names.first), &self.second(row), number).at(row.place()).extra(extra).room(0)
+        Vector { strings: self.strings(row), ..Vector::refused_all(&shows, &[], number) }.at(row.place()).extra(extra).room(0)
     }
 
     /// A row of the document has its refusal, and as many bytes as it says.
     fn wrong_refusal(&self, row: &Cells) -> usize {
         let vector = self.refusal(row);
-        let (first, second) = (vector.first.len(), vector.second.len());
+        let lengths: Vec<usize> = vector.strings.iter().map(Vec::len).collect();
         let mut wrong = self.wrong(&vector);
-        if first + second != row.number::<usize>("Bytes") {
+        if lengths.iter().sum::<usize>() != row.number("Bytes") {
             wrong += 1;
-            println!("WRONG, {}: {first} and {second} bytes are not what the row of {} says", self.name, vector.shows);
+            println!("WRONG, {}: {lengths:?} bytes are not what the row of {} says", self.name, vector.shows);
         }
         wrong
     }
@@ -88,28 +87,32 @@ impl<A: Answer, T: Copy + PartialEq + Debug> Call<A, T> {
     fn wrong_row(&self, row: &Cells) -> usize {
         let (vector, number) = (self.refusal(row), row.number("Number"));
         let mut wrong = self.wrong_refusal(row);
-        let with_first = shorter(&vector.first).into_iter().map(|first| Vector { first, ..vector.clone() });
-        let with_second = shorter(&vector.second).into_iter().map(|second| Vector { second, ..vector.clone() });
+        let with = |place: usize, one: Vec<u8>| {
+            let mut other = vector.clone();
+            other.strings[place] = one;
+            other
+        };
+        let with_shorter = |place: usize| shorter(&vector.strings[place]).into_iter().map(move |one| (place, one));
         let as_short = |vector: &Vector<A, T>| {
             self.implementations.iter().any(|(_, call)| vector.run(self.fill, *call).answer.number() == number)
         };
-        if let Some(found) = with_first.chain(with_second).find(as_short) {
+        let mut others = (0..vector.strings.len()).flat_map(with_shorter).map(|(place, one)| with(place, one));
+        if let Some(found) = others.find(as_short) {
             wrong += 1;
-            println!("WRONG, {}: refusal {number} has a shorter input: {:02x?} {:02x?}", self.name, found.first, found.second);
+            println!("WRONG, {}: refusal {number} has a shorter input: {:02x?}", self.name, found.strings);
         }
         wrong
     }
 
-    fn second(&self, cells: &Cells) -> Vec<u8> {
-        self.names.second.map_or(Vec::new(), |name| cells.bytes(name))
+    fn strings(&self, cells: &Cells) -> Vec<Vec<u8>> {
+        self.names.strings.iter().map(|name| cells.bytes(name)).collect()
     }
 
     fn example_vector(&self, cells: &Cells) -> Vector<A, T> {
         let (answer, written) = (self.example)(cells);
         Vector {
             shows: "the example of the document".to_string(),
-            first: cells.bytes(self.names.first),
-            second: self.second(cells),
+            strings: self.strings(cells),
             extra: self.names.extra.map_or(0, |name| cells.number(name)),
             room: self.names.room.map_or(0, |name| cells.number(name)),
             answer,

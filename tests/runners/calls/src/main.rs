@@ -12,6 +12,7 @@ mod packaging;
 mod parts;
 mod price;
 mod price_file;
+mod relation;
 mod shorter;
 mod structs;
 mod text;
@@ -37,6 +38,8 @@ fn main() -> ExitCode {
         text::call().good(&document),
         price_file::reader().good(&document),
         price_file::writer().good(&document),
+        relation::derive_call().good(&document),
+        relation::price_call().good(&document),
     ];
     if good.into_iter().all(|good| good) {
         ExitCode::SUCCESS

@@ -33,11 +33,11 @@ pub fn call() -> Call<Written, u8> {
         name: "rafttwine_final_number",
         refusals: &[1, 2, 3, 7],
         implementations: &[
-            ("second", |book, question, _, out| second::final_number(book, question, out)),
-            ("the archive", |book, question, _, out| archive::final_number(book, question, out)),
+            ("second", |lent, _, out| second::final_number(lent[0], lent[1], out)),
+            ("the archive", |lent, _, out| archive::final_number(lent[0], lent[1], out)),
         ],
         fill: pattern,
-        names: Names { first: "Book", second: Some("Question"), extra: None, room: Some("Room") },
+        names: Names { strings: &["Book", "Question"], extra: None, room: Some("Room") },
         example,
         vectors: [values::vectors(), schemes::vectors(), refusals::vectors()].concat(),
     }

@@ -44,11 +44,11 @@ pub fn call() -> Call<PackagingAnswer, u8> {
         name: "rafttwine_packaging",
         refusals: &[1, 2, 3, 8, 11],
         implementations: &[
-            ("second", |book, question, _, _| second::packaging(book, question)),
-            ("the archive", |book, question, _, _| archive::packaging(book, question)),
+            ("second", |lent, _, _| second::packaging(lent[0], lent[1])),
+            ("the archive", |lent, _, _| archive::packaging(lent[0], lent[1])),
         ],
         fill: pattern,
-        names: Names { first: "Book", second: Some("Question"), extra: None, room: None },
+        names: Names { strings: &["Book", "Question"], extra: None, room: None },
         example,
         vectors: [values::vectors(), records::vectors(), refusals::vectors()].concat(),
     }

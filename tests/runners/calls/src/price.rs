@@ -42,8 +42,7 @@ impl Vector {
         let written = lines.concat();
         Vector {
             shows: shows.to_string(),
-            first: book.to_vec(),
-            second: question.bytes(),
+            strings: vec![book.to_vec(), question.bytes()],
             extra: 0,
             room: written.len() + 5,
             answer: PriceAnswer { unit, total: unit, lines: lines.len() as u64, currency: *b"EUR", ..PriceAnswer::default() },
@@ -106,11 +105,11 @@ pub fn call() -> Call<PriceAnswer, u8> {
         name: "rafttwine_price",
         refusals: &[1, 2, 3, 4, 5, 6, 7],
         implementations: &[
-            ("second", |book, question, _, lines| second::price(book, question, lines)),
-            ("the archive", |book, question, _, lines| archive::price(book, question, lines)),
+            ("second", |lent, _, lines| second::price(lent[0], lent[1], lines)),
+            ("the archive", |lent, _, lines| archive::price(lent[0], lent[1], lines)),
         ],
         fill: pattern,
-        names: Names { first: "Book", second: Some("Question"), extra: None, room: Some("Room") },
+        names: Names { strings: &["Book", "Question"], extra: None, room: Some("Room") },
         example,
         vectors: vectors.concat(),
     }

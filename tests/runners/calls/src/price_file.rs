@@ -57,11 +57,11 @@ pub fn reader() -> Call<Placed, u8> {
         name: "rafttwine_read_prices",
         refusals: &[13, 7],
         implementations: &[
-            ("second", |file, _, _, out| second::read_prices(file, out)),
-            ("the archive", |file, _, _, out| archive::read_prices(file, out)),
+            ("second", |lent, _, out| second::read_prices(lent[0], out)),
+            ("the archive", |lent, _, out| archive::read_prices(lent[0], out)),
         ],
         fill: pattern,
-        names: Names { first: "File", second: None, extra: None, room: Some("Room") },
+        names: Names { strings: &["File"], extra: None, room: Some("Room") },
         example,
         vectors: [lines::vectors(), fields::vectors(), texts::vectors()].concat(),
     }
@@ -72,11 +72,11 @@ pub fn writer() -> Call<Placed, u8> {
         name: "rafttwine_write_prices",
         refusals: &[1, 13, 7],
         implementations: &[
-            ("second", |book, _, _, out| second::write_prices(book, out)),
-            ("the archive", |book, _, _, out| archive::write_prices(book, out)),
+            ("second", |lent, _, out| second::write_prices(lent[0], out)),
+            ("the archive", |lent, _, out| archive::write_prices(lent[0], out)),
         ],
         fill: pattern,
-        names: Names { first: "Book", second: None, extra: None, room: Some("Room") },
+        names: Names { strings: &["Book"], extra: None, room: Some("Room") },
         example,
         vectors: written::vectors(),
     }

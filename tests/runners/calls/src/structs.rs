@@ -21,6 +21,10 @@ pub fn good(document: &Document) -> bool {
             "rafttwine_price_answer",
             offsets!(second::PriceAnswer, raw::PriceAnswer: unit total lines unused unused_count number currency),
         ),
+        (
+            "rafttwine_derived_answer",
+            offsets!(second::DerivedAnswer, raw::DerivedAnswer: unit total lines place unused unused_count number currency),
+        ),
         ("rafttwine_calendar_answer", offsets!(second::CalendarAnswer, raw::CalendarAnswer: length number)),
         ("rafttwine_written", offsets!(second::Written, raw::Written: length number)),
         ("rafttwine_placed", offsets!(second::Placed, raw::Placed: length place number)),

@@ -33,11 +33,11 @@ pub fn call() -> Call<TextAnswer, u8> {
         name: "rafttwine_text",
         refusals: &[1, 12],
         implementations: &[
-            ("second", |asked, fallback, number, _| second::text(asked, fallback, number)),
-            ("the archive", |asked, fallback, number, _| archive::text(asked, fallback, number)),
+            ("second", |lent, number, _| second::text(lent[0], lent[1], number)),
+            ("the archive", |lent, number, _| archive::text(lent[0], lent[1], number)),
         ],
         fill: pattern,
-        names: Names { first: "Asked", second: Some("Fallback"), extra: Some("Text number"), room: None },
+        names: Names { strings: &["Asked", "Fallback"], extra: Some("Text number"), room: None },
         example,
         vectors: [texts(), odd_texts(), broken(), longest()].concat(),
     }

@@ -54,6 +54,6 @@ fn most_lines() -> Vec<Vector> {
     let question = ask(DAY).granted(&names.iter().map(String::as_str).collect::<Vec<_>>());
     let full = answered("200 times 99 lines", &make::book(&records), &vec![(question, priced(&lines, 4 * 33)); MOST]);
     let room = full.written.len();
-    let short = Vector::refused("a byte short of them", &full.first, &full.second, 7).room(room - 1);
+    let short = Vector::refused("a byte short of them", &full.strings[0], &full.strings[1], 7).room(room - 1);
     vec![full.room(room), short]
 }

@@ -88,7 +88,7 @@ fn room() -> Vec<Vector> {
     let all = answered("", &book, &[early, (Question::new("A2", DAY), without(3)), late]);
     let due = all.written.len();
     let of = |shows: &str, room| Vector { shows: shows.to_string(), ..all.clone().room(room) };
-    let refused = |shows: &str, room| Vector::refused(shows, &all.first, &all.second, 7).room(room);
+    let refused = |shows: &str, room| Vector::refused(shows, &all.strings[0], &all.strings[1], 7).room(room);
     vec![
         of("room for everything, just enough", due),
         of("a byte more than enough", due + 1),

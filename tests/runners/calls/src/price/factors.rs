@@ -46,7 +46,8 @@ fn byte_by_byte() -> Vec<Vector> {
         ["01020304 42 00 0000000000002710 03e8", "00000007 58 01 0000000000000c35 09c4", "80000000 44 00 fffffffffffffe4b 03e8"];
     let asked = ask(20240630).factored(&[("oak", 2_500)]);
     let priced = Vector::in_hex("P1 with 2.5 times oak", &k(), &asked, &lines, 12_688);
-    vec![Vector { second: hex(question).expect("hex digits"), ..priced.clone() }, priced.room(3 * super::LINE_BYTES)]
+    let in_hex = vec![k(), hex(question).expect("hex digits")];
+    vec![Vector { strings: in_hex, ..priced.clone() }, priced.room(3 * super::LINE_BYTES)]
 }
 
 /// A surcharge of 695 a metre: metres in thousandths, and what they cost.

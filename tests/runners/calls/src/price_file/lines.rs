@@ -50,7 +50,7 @@ fn first_bad() -> Vec<Vector> {
 fn room() -> Vec<Vector> {
     let file = format!("{PLAIN}\n{PLAIN}\n");
     let all = read("just enough room", &file, &[plain(), plain()]);
-    let refused = |shows: &str, room| Vector::refused(shows, &all.first, &[], 7).room(room);
+    let refused = |shows: &str, room| Vector::refused(shows, &all.strings[0], &[], 7).room(room);
     vec![
         all.clone().room(72),
         refused("a byte short", 71),

@@ -99,8 +99,8 @@ fn room() -> Vec<Vector> {
     let length = all.written.len();
     vec![
         all.clone().room(length),
-        Vector::refused("a byte short", &all.first, &[], 7).room(length - 1),
-        Vector::refused("no room", &all.first, &[], 7).room(0),
+        Vector::refused("a byte short", &all.strings[0], &[], 7).room(length - 1),
+        Vector::refused("no room", &all.strings[0], &[], 7).room(0),
         written("nothing to write, and no room", &[], "").room(0),
         Vector::refused("no book", &[], &[], 1).room(0),
     ]
