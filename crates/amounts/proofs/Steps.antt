@@ -1,36 +1,59 @@
--- Whole numbers of steps, as code comes to them: up by what is added before going down, and the nearest by what is left over, counted from zero
+-- Whole numbers of steps, as code comes to them: down and up by the step of the last part, and the nearest by what is left over, counted from zero
 -- either way.
-use Prim.Native.Nat.{ℕ, _+_, _*_, _<_, _≤_}
+use Prim.Native.Nat.{ℕ, zero, suc, _+_, _*_, _/_, _<_, _≤_}
 use mathlib.Core.Path.{_≡_, refl, sym, ap, _∙_}
-use native.Mathlib.Nat.{mul-zero}
+use native.Mathlib.Nat.{mul-zero, div-le-self}
 use native.Mathlib.Omega.{arith}
-use lib.IntN.{ℤ, pos, negsuc, negℤ, natAbs, _+ℤ_, _-ℤ_, _*ℤ_, +ℤ-one, +ℤ-idl, sucℤ-*ℤ}
+use lib.IntN.{ℤ, pos, negsuc, negℤ, natAbs, _+ℤ_, _-ℤ_, _*ℤ_, +ℤ-one, -ℤ-one, +ℤ-idl, +ℤ-comm, sucℤ-*ℤ}
 use lib.Dec.{T, leb, leb→le}
 use lib.Signed.{_≤ℤ_, _<ℤ_}
 use mir.Syntax.{w64}
 use mir.Val.{SFits}
 use Rattle.integers.specs.Floor.{floor}
-use Rattle.integers.proofs.Signed.{parts, up-mul, dn-mul, up, dn, le-in, lt-in, le-of, lt-of, fits64, abs-add, abs-mul, abs-neg, abs-parts, abs-le, sum-parts, sub-parts, mul-pos-pos}
-use Rattle.integers.proofs.FloorLaws.{floor-le, floor-lt, floor-abs, floor-unique}
+use Rattle.integers.proofs.Signed.{parts, up-mul, dn-mul, up, dn, le-in, lt-in, le-of, lt-of, fits64, abs-add, abs-mul, abs-neg, abs-parts, abs-le, sum-parts, sub-parts, mul-pos-pos, taken64, flip-fits, up64}
+use Rattle.integers.proofs.FloorLaws.{floor-le, floor-lt, floor-abs, floor-unique, floor-pos, floor-neg}
 use Rattle.rules.specs.Amounts.{ceiling, nearest}
 use Rattle.amounts.specs.Contracts.{InSteps, fromHalfOn}
-use Rattle.rules.proofs.RoundingLaws.{ceiling-ge, ceiling-lt}
 
--- ---- up: all but one part of a step more, and then down
+-- ---- down: below zero the step of the last part counts
 
-pub raised-fits : (z a : ℤ) (n : ℕ) → T (leb (natAbs a) 1) → natAbs z ≤ 1_000_010_000_000_000_000 → n ≤ 10_000_000_000_000
-    → SFits w64 (z +ℤ pos n -ℤ a)
-raised-fits z a n t h k =
-    fits64 (z +ℤ pos n -ℤ a) (omega (arith, leb→le (natAbs a) 1 t, abs-add (z +ℤ pos n) (negℤ a), abs-neg a, abs-add z (pos n)))
+-- all parts but the last
+left-out : (z : ℤ) → z <ℤ pos 0 → pos 0 ≤ℤ (negsuc 0 -ℤ z)
+left-out z h = le-of (omega (arith, lt-in h, sub-parts (negsuc 0) z))
 
-pub up-is : (z : ℤ) (n : ℕ) → 0 < n → floor (z +ℤ pos n -ℤ pos 1) n ≡ ceiling z n
-up-is z n p =
-    let c = ceiling z n in
-    let M = c *ℤ pos n in
-    let raised = z +ℤ pos n -ℤ pos 1 in
-    sym (floor-unique raised c n p
-    (le-of (omega (arith, lt-in (ceiling-lt z n p), sub-parts (z +ℤ pos n) (pos 1))))
-    (lt-of (omega (arith, le-in (ceiling-ge z n p), sum-parts M (pos n), sum-parts z (pos n), sub-parts (z +ℤ pos n) (pos 1)))))
+turned-one : (q : ℕ) → pos 0 -ℤ pos q -ℤ pos 1 ≡ negsuc 0 -ℤ pos q
+turned-one q = ap (λ (x : ℤ). x -ℤ pos 1) (+ℤ-idl (negℤ (pos q))) ∙ +ℤ-comm (negℤ (pos q)) (negsuc 0)
+
+module _ (z : ℤ) (n : ℕ) (below : z <ℤ pos 0) where
+  abbrev others : ℕ
+  others = natAbs (negsuc 0 -ℤ z) / n
+
+  pub others-are : floor (negsuc 0 -ℤ z) n ≡ pos others
+  others-are = sym (floor-pos (negsuc 0 -ℤ z) n (left-out z below))
+
+  pub down-below : pos 0 -ℤ floor (negsuc 0 -ℤ z) n -ℤ pos 1 ≡ floor z n
+  down-below = ap (λ (x : ℤ). pos 0 -ℤ x -ℤ pos 1) others-are ∙ turned-one others ∙ floor-neg z n below
+
+  others-few : SFits w64 z → others < 9223372036854775808
+  others-few f = omega (arith, div-le-self (natAbs (negsuc 0 -ℤ z)) n, up64 (negsuc 0 -ℤ z) (left-out z below) (flip-fits z below f .1))
+
+  pub others-fit : SFits w64 z → SFits w64 (pos 0 -ℤ floor (negsuc 0 -ℤ z) n)
+  others-fit f = rw others-are (taken64 (pos 0) others tt (others-few f))
+
+  pub last-fits : SFits w64 z → SFits w64 (pos 0 -ℤ floor (negsuc 0 -ℤ z) n -ℤ pos 1)
+  last-fits f = rw others-are (rw turned-one (taken64 (negsuc 0) others tt (others-few f)))
+
+-- ---- up: above zero the step of the last part counts
+
+pub up-above : (z : ℤ) (n : ℕ) → pos 0 <ℤ z → floor (z -ℤ pos 1) n +ℤ pos 1 ≡ ceiling z n
+unfolding ceiling floor
+up-above (pos zero) n h = absurd (omega (arith, lt-in h))
+up-above (pos (suc a)) n h = ap (λ (x : ℤ). floor x n +ℤ pos 1) (-ℤ-one (pos (suc a))) ∙ +ℤ-one (pos (a / n))
+up-above (negsuc a) n h = absurd (omega (arith, lt-in h))
+
+pub up-below : (z : ℤ) (n : ℕ) → pos 0 -ℤ floor (pos 0 -ℤ z) n ≡ ceiling z n
+unfolding ceiling
+up-below z n = +ℤ-idl (negℤ (floor (pos 0 -ℤ z) n)) ∙ ap (λ (x : ℤ). negℤ (floor x n)) (+ℤ-idl (negℤ z))
 
 -- ---- the nearest: of z parts, M are in full steps, and the rest is begun
 

@@ -114,7 +114,7 @@ fn amount_of(pick: Pick, base: Cents, total: Cents) -> Cents
     let of = share_of(rule, base, total);
     let exact = amounts::exact(value, of);
     let factored = amounts::factored(pick.factor, exact);
-    amounts::rounded(rounding, factored)
+    amounts::rounding::rounded(rounding, factored)
 }
 
 // The amounts of the first n rows' lines, and whether all rows are in the currency c. Base lines come first, so what they come to is the total

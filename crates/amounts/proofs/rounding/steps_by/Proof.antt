@@ -1,8 +1,8 @@
--- `amounts::steps_by` meets its contract: each arm knows the way, and calls what the definition has for it.
+-- `amounts::rounding::steps_by` meets its contract: each arm knows the way, and calls what the definition has for it.
 use borrow.Author.Needs.{needs}
 use Rattle.amounts.proofs.RoundedLaws.{by-down, by-up, by-nearest}
-use Rattle.amounts.proofs.steps_by.Statement.{statement}
-use Rattle.amounts.proofs.steps_by.Tie as tie
+use Rattle.amounts.proofs.rounding.steps_by.Statement.{statement}
+use Rattle.amounts.proofs.rounding.steps_by.Tie as tie
 
 ruleset laws = (needs, by-down, by-up, by-nearest)
 

@@ -1,4 +1,4 @@
--- `amounts::from_half_on` meets its contract: what is left over is less than a step, and `half-full` and `half-next` say what its half decides.
+-- `amounts::rounding::from_half_on` meets its contract: what is left over is less than a step, and `half-full` and `half-next` say what its half decides.
 use Prim.Native.Nat.{_≤_}
 use mathlib.Core.Path.{_≡_}
 use native.Mathlib.Omega.{arith}
@@ -11,28 +11,28 @@ use Rattle.integers.specs.Floor.{floor}
 use Rattle.integers.proofs.Signed.{fits64, ok64, abs-add, abs-mul, ltZ-true, ltZ-false}
 use Rattle.integers.proofs.FloorLaws.{floor-abs}
 use Rattle.amounts.proofs.Steps.{full-in, left-in, half-full, half-next}
-use Rattle.amounts.proofs.from_half_on.Statement.{statement}
-use Rattle.amounts.proofs.from_half_on.Tie as tie
+use Rattle.amounts.proofs.rounding.from_half_on.Statement.{statement}
+use Rattle.amounts.proofs.rounding.from_half_on.Tie as tie
 
 -- ---- after the count of full steps: the numbers on the way, and that they fit
-module _ (c : tie.After-down) where
+module _ (c : tie.After-full) where
   abbrev z : ℤ
   z = c .before .args .z
 
   abbrev full : ℤ
-  full = c .down .result
+  full = c .full .result
 
   abbrev step : ℤ
   step = pos (c .before .args .n)
 
   full-is : full ≡ floor z (c .before .args .n)
-  full-is = simp (toZ-ofZ, c .before .fits .z) at (c .down .ensures)
+  full-is = simp (toZ-ofZ, c .before .fits .z) at (c .full .ensures)
 
   cast : toZ w64 (c .before .args .n) ≡ step
   cast = toZ-pos w64 (c .before .args .n) (omega arith)
 
   full-fits : SFits w64 full
-  full-fits = ok64 full (c .down .ok)
+  full-fits = ok64 full (c .full .ok)
 
   parts-fit : SFits w64 (full *ℤ step)
   parts-fit = fits64 (full *ℤ step) (omega (arith, full-in z full (c .before .args .n) (c .before .pre .some) full-is))

@@ -1,4 +1,4 @@
--- `amounts::rounded` meets its contract: RoundedLaws says of each number on the way that it fits, and what it is.
+-- `amounts::rounding::rounded` meets its contract: RoundedLaws says of each number on the way that it fits, and what it is.
 use mathlib.Core.Path.{_≡_}
 use native.Mathlib.Omega.{arith}
 use borrow.Author.Needs.{needs}
@@ -9,8 +9,8 @@ use mir.ValLaws.{toZ-ofZ}
 use Rattle.integers.proofs.Signed.{ok64}
 use Rattle.amounts.proofs.RoundedLaws.{extra, multiple, before-fits, after-fits, top-fits, bottom-is, step-is, extra-fits, raised-fits}
 use Rattle.amounts.proofs.RoundedLaws.{parts-in, in-steps, multiple-fits, multiple-is, rounded-fits, rounded-is}
-use Rattle.amounts.proofs.rounded.Statement.{statement}
-use Rattle.amounts.proofs.rounded.Tie as tie
+use Rattle.amounts.proofs.rounding.rounded.Statement.{statement}
+use Rattle.amounts.proofs.rounding.rounded.Tie as tie
 
 -- ---- up to the count of steps, where `top` and `n` are what is counted
 module _ (s : tie.Start) where

@@ -1,4 +1,4 @@
--- `amounts::nearest` meets its contract: below zero by `nearest-below`, else by `nearest-above`.
+-- `amounts::rounding::nearest` meets its contract: below zero by `nearest-below`, else by `nearest-above`.
 use mathlib.Core.Path.{_≡_, _∙_, ap}
 use borrow.Author.Needs.{needs}
 use lib.IntN.{ℤ, pos, _-ℤ_}
@@ -8,8 +8,8 @@ use mir.ValLaws.{toZ-ofZ}
 use Rattle.integers.proofs.Signed.{ok64, ltZ-true, ltZ-false}
 use Rattle.amounts.specs.Contracts.{fromHalfOn}
 use Rattle.amounts.proofs.Steps.{nearest-above, nearest-below, turned-in, turned-fits, half-fits}
-use Rattle.amounts.proofs.nearest.Statement.{statement}
-use Rattle.amounts.proofs.nearest.Tie as tie
+use Rattle.amounts.proofs.rounding.nearest.Statement.{statement}
+use Rattle.amounts.proofs.rounding.nearest.Tie as tie
 
 sub-from-half-on : tie.Need-sub-from-half-on
 sub-from-half-on c = simp (toZ-ofZ, c .before .fits .z) (turned-fits (c .before .args .z) (c .before .args .n) (c .before .pre))
