@@ -25,7 +25,7 @@ use Rattle.grants.proofs.FillLaws as Fill
 use Rattle.choice.specs.declared.hands.Hand.{Hand}
 use Rattle.choice.specs.declared.hands.Seen.{Seen}
 use Rattle.choice.specs.Slots.{inSlot, placedRow, slotChosen}
-use Rattle.choice.specs.Hands.{isEmpty, takenOf, TakenIs, RowThere, Holds, HandIs, NoRow, OneRow, SeenIs}
+use Rattle.choice.specs.Hands.{isEmpty, takenOf, TakenIs, RowThere, Holds, HandIs, NoRow, OneRow, SeenIs, RowStands, RowRead}
 use Rattle.choice.specs.Walk.{unseen, seenOf, Chooses, SlotsHold}
 use Rattle.choice.proofs.PassingLaws.{same-row}
 
@@ -76,7 +76,7 @@ module _ {w : List ℕ} {rs : List Row} {q : Question} {slots : List Seen} (hold
 -- ---- the row in hand can be read
 
 module _ {w : List ℕ} {at : ℕ} {r : Row} (there : RowThere w at r) where
-  pub there-here : RecordHere w at
+  there-here : RecordHere w at
   there-here = record { fits = there .fits; ok = ap isSome (there .is) }
 
   -- and there is one
@@ -88,8 +88,19 @@ module _ {w : List ℕ} {at : ℕ} {r : Row} (there : RowThere w at r) where
     body : whole kinded (take (end - (at + 2)) (drop (at + 2) w)) ≡ some (PriceRecord r)
     body = subst (λ (k : ℕ). whole kinded (take (k - (at + 2)) (drop (at + 2) w)) ≡ some (PriceRecord r)) (sym (stop .is)) (there .is)
 
-    pub there-kind : OfKind 2 (take (end - (at + 2)) (drop (at + 2) w))
+    there-kind : OfKind 2 (take (end - (at + 2)) (drop (at + 2) w))
     there-kind = record { kind = kind-byte (take (end - (at + 2)) (drop (at + 2) w)) (PriceRecord r) body; ok = ap isSome body }
 
-    pub there-row : (row : PriceRow) → RowIs (take (end - (at + 2)) (drop (at + 2) w)) row → rowIn (take (end - (at + 2)) (drop (at + 2) w)) row ≡ r
+    there-row : (row : PriceRow) → RowIs (take (end - (at + 2)) (drop (at + 2) w)) row → rowIn (take (end - (at + 2)) (drop (at + 2) w)) row ≡ r
     there-row row p = same-row (sym (p .is) ∙ body)
+
+module _ {w : List ℕ} {at : ℕ} (stands : RowStands w at) where
+  pub stands-here : RecordHere w at
+  stands-here = there-here (stands .there)
+
+  module _ {end : ℕ} (stop : StopIs w at end) where
+    pub stands-kind : OfKind 2 (take (end - (at + 2)) (drop (at + 2) w))
+    stands-kind = there-kind (stands .there) stop
+
+    pub stands-read : {row : PriceRow} → RowIs (take (end - (at + 2)) (drop (at + 2) w)) row → RowRead w at row
+    stands-read {row} is = record { body = take (end - (at + 2)) (drop (at + 2) w); is = is; of = λ x there. there-row there stop row is }

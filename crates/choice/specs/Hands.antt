@@ -9,9 +9,11 @@ use lib.ListN.{length}
 use Rattle.rules.specs.Layout.{whole}
 use Rattle.rules.specs.Book.{Row, PriceRecord}
 use Rattle.rules.specs.BookLayout.{kinded}
+use Rattle.rules.specs.declared.PriceRow.{PriceRow}
 use Rattle.rules.proofs.ChoiceLaws as Choice
 use Rattle.layout.specs.Reads.{part}
 use Rattle.layout.specs.Records.{recordStop}
+use Rattle.records.specs.Ensures.{rowIn, RowIs}
 use Rattle.choice.specs.declared.hands.Hand.{Hand}
 use Rattle.choice.specs.declared.hands.Seen.{Seen}
 use Rattle.choice.specs.declared.hands.Passing.{Passing}
@@ -61,6 +63,17 @@ pub record RowThere (w : List ℕ) (at : ℕ) (r : Row) : Type 0 where
   pub low : 1 ≤ at
   pub fits : recordStop w at ≤ length w
   pub is : whole kinded (part w (at + 2) (recordStop w at)) ≡ some (PriceRecord r)
+
+-- some price row stands there
+pub record RowStands (w : List ℕ) (at : ℕ) : Type 0 where
+  pub row : Row
+  pub there : RowThere w at row
+
+-- `r` is read from the bytes of the row there
+pub record RowRead (w : List ℕ) (at : ℕ) (r : PriceRow) : Type 0 where
+  pub body : List ℕ
+  pub is : RowIs body r
+  pub of : (x : Row) → RowThere w at x → rowIn body r ≡ x
 
 -- the hand holds the row r, which stands in w
 pub record Holds (w : List ℕ) (h : Hand) (r : Row) : Type 0 where

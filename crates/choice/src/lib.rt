@@ -1,6 +1,7 @@
 // The choice of every row of a price at once: one walk over the records fills a slot for each level and place.
 pub mod hands;
 pub mod passing;
+pub mod rows;
 pub mod slots;
 
 use crate::hands::Seen;

@@ -1,10 +1,10 @@
 -- A chosen row by value is the definition's, and its line can be worked out.
-use Prim.Native.Nat.{ℕ, zero, suc, _+_, _-_, _≤_, _<_}
+use Prim.Native.Nat.{ℕ, zero, suc, _+_, _≤_, _<_}
 use mathlib.Core.Path.{_≡_, refl, sym, _∙_, ap, subst}
 use mathlib.Core.List.{List, [], _∷_, _++_, map}
 use native.Mathlib.Omega.{arith}
 use native.Mathlib.Decide.{decLt}
-use lib.ListN.{length, take, drop, getD, set, replicate, length-set, length-replicate}
+use lib.ListN.{length, take, getD, set, replicate, length-set, length-replicate}
 use lib.Seq.{length-take-le, take-length, take-suc, getD-set-same, getD-set-other}
 use Rattle.rules.specs.Book.{Row, rows, roundings, roundingFor, letterOf, ruleNumber}
 use Rattle.rules.specs.Question.{Granted, Question, mostFactor}
@@ -12,9 +12,8 @@ use Rattle.rules.specs.Lines.{Chosen, chosen}
 use Rattle.rules.proofs.ListLaws.{All}
 use Rattle.rules.specs.declared.PriceRow.{PriceRow}
 use Rattle.rules.specs.declared.Rounding.{Rounding}
-use Rattle.layout.specs.Records.{recordsLeft, Between, RecordHere, StopIs}
-use Rattle.records.specs.Asks.{OfKind}
-use Rattle.records.specs.Ensures.{RowIs, rowIn}
+use Rattle.layout.specs.Records.{recordsLeft, Between}
+use Rattle.records.specs.Ensures.{rowIn}
 use Rattle.lookup.specs.Roundings.{SpotHeld, RoundingAt, Found, SpotsFound, SpotsNoted}
 use Rattle.lookup.proofs.LookupLaws.{found-used}
 use Rattle.grants.specs.Table.{tableSize, GrantsAre}
@@ -24,32 +23,19 @@ use Rattle.grants.specs.Asks.{Asks, Asked}
 use Rattle.survey.specs.Window.{Windows}
 use Rattle.survey.proofs.WindowLaws.{window-as}
 use Rattle.survey.specs.declared.window.Window.{Window}
-use Rattle.choice.specs.Hands.{RowThere}
+use Rattle.choice.specs.Hands.{RowThere, RowStands, RowRead}
 use Rattle.choice.specs.Walk.{SlotsHold, SlotsFor}
 use Rattle.choice.specs.declared.hands.Seen.{Seen}
 use Rattle.choice.proofs.SlotLaws.{chosen-factors}
-use Rattle.choice.proofs.ChosenLaws.{there-here, there-same, there-kind, there-row}
+use Rattle.choice.proofs.ChosenLaws.{there-same}
 use Rattle.lines.specs.declared.Pick.{Pick}
 use Rattle.lines.specs.Views.{View, viewOf, viewIn, viewsIn, noPick, baseFirst}
 use Rattle.lines.specs.Contracts.{StandFor, Sound, Listable}
 use Rattle.lines.proofs.ChosenLaws.{chosen-base-first}
 use Rattle.picks.specs.declared.Picks.{Picks}
 use Rattle.picks.specs.Held.{Stands, HeldAre, HeldIn}
-use Rattle.picks.specs.Picks.{RoundingsIn, Held, RowAt, RowFound, RowPicked, PlacePicked, PicksSoFar, Filled, PickedAre, PicksFrom, PickedFor}
+use Rattle.picks.specs.Picks.{RoundingsIn, RowFound, RowPicked, PlacePicked, PicksSoFar, Filled, PickedAre, PicksFrom, PickedFor}
 use Rattle.picks.proofs.WithinLaws.{walk-within, spots-within}
-
--- ---- a row
-
-module _ {b : List ℕ} {at : ℕ} (held : Held b at) where
-  pub held-here : RecordHere b at
-  held-here = there-here (held .there)
-
-  module _ {end : ℕ} (stop : StopIs b at end) where
-    pub held-kind : OfKind 2 (take (end - (at + 2)) (drop (at + 2) b))
-    held-kind = there-kind (held .there) stop
-
-    pub row-read : {row : PriceRow} → RowIs (take (end - (at + 2)) (drop (at + 2) b)) row → RowAt b at row
-    row-read is = record { end = end; stop = stop; is = is }
 
 -- ---- the spots of the roundings
 
@@ -66,11 +52,11 @@ module _ {b : List ℕ} {w : Window} (told : RoundingsIn b w) where
   pub many-walked : {numbers : List ℕ} {n : ℕ} {spots : List ℕ} → SpotsFound (take (w .to) b) (w .from) numbers n spots → SpotsFound b 5 numbers n spots
   many-walked = spots-within (told .window)
 
-module _ {b : List ℕ} {at found : ℕ} (held : Held b at) (row-found : RowFound b at found) where
+module _ {b : List ℕ} {at found : ℕ} (held : RowStands b at) (row-found : RowFound b at found) where
   pub found-held : SpotHeld b found
   found-held = row-found .is (held .row) (held .there) .held
 
-  pub row-picked : {row : PriceRow} → RowAt b at row → {rounding : Rounding} → RoundingAt b found rounding
+  pub row-picked : {row : PriceRow} → RowRead b at row → {rounding : Rounding} → RoundingAt b found rounding
       → (place : ℕ) {factor : ℕ} → factor ≤ mostFactor → RowPicked b at place factor (record {
         rounding = rounding;
         value = row .value;
@@ -83,10 +69,9 @@ module _ {b : List ℕ} {at found : ℕ} (held : Held b at) (row-found : RowFoun
       })
   unfolding rowIn
   row-picked {row} read {rounding} stands place {factor} most =
-      let body : List ℕ = take (read .end - (at + 2)) (drop (at + 2) b) in
       record {
         is = λ r there.
-            let e : rowIn body row ≡ r = there-row there (read .stop) row (read .is) in
+            let e : rowIn (read .body) row ≡ r = read .of r there in
             let used : rounding ≡ roundingFor (row .rounding) (roundings (recordsLeft b 5)) =
             found-used (row-found .is r there) stands .is ∙ ap (λ (x : Row). roundingFor (x .rounding) (roundings (recordsLeft b 5))) (sym e) in
             subst (λ (x : Row). _≡_ {A = View} (record {
@@ -219,7 +204,7 @@ module _ {b : List ℕ} {slots : List Seen} {names : ℕ} {table : List ℕ} {w 
     pub place-in : getD places i 0 ≤ 32
     place-in = stands .place-in
 
-    pub held-at : Held b (getD ats i 0)
+    pub held-at : RowStands b (getD ats i 0)
     held-at = record { row = stands .one .row; there = stands .there }
 
     -- the spot that was found for the number that a row names

@@ -1,16 +1,13 @@
 -- The chosen rows by value: what a pick stands for, and how far they are gone through.
-use Prim.Native.Nat.{ℕ, _+_, _≤_, _<_}
+use Prim.Native.Nat.{ℕ, _≤_, _<_}
 use mathlib.Core.Path.{_≡_}
 use mathlib.Core.List.{List, map}
 use lib.ListN.{length, getD}
 use Rattle.rules.specs.Book.{Row, rows, roundings}
 use Rattle.rules.specs.Question.{Question}
 use Rattle.rules.specs.Lines.{chosen}
-use Rattle.rules.specs.declared.PriceRow.{PriceRow}
 use Rattle.rules.proofs.ListLaws.{All}
-use Rattle.layout.specs.Reads.{part}
-use Rattle.layout.specs.Records.{recordsLeft, StopIs}
-use Rattle.records.specs.Ensures.{RowIs}
+use Rattle.layout.specs.Records.{recordsLeft}
 use Rattle.lookup.specs.Roundings.{Found}
 use Rattle.grants.specs.declared.terms.Terms.{Terms}
 use Rattle.grants.specs.Table.{tableSize, GrantsAre}
@@ -31,17 +28,6 @@ pub record RoundingsIn (b : List ℕ) (w : Window) : Type 0 where
   pub article : List ℕ
   pub sort : ℕ
   pub window : Windows b 5 article sort w
-
--- a price row stands at `at`
-pub record Held (b : List ℕ) (at : ℕ) : Type 0 where
-  pub row : Row
-  pub there : RowThere b at row
-
--- `r` is read from the record there
-pub record RowAt (b : List ℕ) (at : ℕ) (r : PriceRow) : Type 0 where
-  pub end : ℕ
-  pub stop : StopIs b at end
-  pub is : RowIs (part b (at + 2) end) r
 
 -- ---- roundings
 

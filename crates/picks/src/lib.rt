@@ -2,8 +2,8 @@
 mod held;
 
 use crate::held::held_in;
-use book::record_stop;
 use choice::hands::Seen;
+use choice::rows::row_at;
 use choice::slots_for;
 use grants::factor_at;
 use grants::terms::Terms;
@@ -14,7 +14,6 @@ use lookup::roundings::spots_among;
 use rules::Cents;
 use rules::Currency;
 use rules::Level;
-use rules::PriceRow;
 use rules::Rounding;
 use rules::Rule;
 use rules::Value;
@@ -26,7 +25,8 @@ ghost use Rattle.rules.specs.Question.{mostFactor};
 ghost use Rattle.lookup.specs.Roundings.{SpotsFound};
 ghost use Rattle.grants.specs.Asks.{Asked};
 ghost use Rattle.survey.specs.Window.{Windows};
-ghost use Rattle.picks.specs.Picks.{RoundingsIn, Held, RowAt, RowFound, RowPicked, Filled, PicksFrom, PickedFor};
+ghost use Rattle.choice.specs.Hands.{RowStands};
+ghost use Rattle.picks.specs.Picks.{RoundingsIn, RowFound, RowPicked, Filled, PicksFrom, PickedFor};
 
 // The first n of the rows count.
 pub struct Picks {
@@ -51,19 +51,9 @@ const NONE: Pick = Pick {
     currency: Currency(0, 0, 0),
 };
 
-// The price row whose record stands at `at`.
-fn row_at(b: &[u8], at: usize) -> PriceRow
-    requires { ⌜ Held (now b) at ⌝ }
-    ensures { λ r. ⌜ RowAt (now (b .entry)) at r ⌝ }
-{
-    let end = record_stop(b, at);
-    let start = at + 2;
-    records::row_of(&b[start..end])
-}
-
 // The row that stands at `at`, with the rounding that was found at `found`, for a granted name at `place` that has this factor.
 fn row_pick(b: &[u8], at: usize, place: u8, factor: u16, found: usize) -> Pick
-    requires { ⌜ Held (now b) at ⌝ }
+    requires { ⌜ RowStands (now b) at ⌝ }
     requires { ⌜ RowFound (now b) at found ⌝ }
     requires { ⌜ factor ≤ mostFactor ⌝ }
     ensures { λ r. ⌜ RowPicked (now (b .entry)) at place factor r ⌝ }

@@ -1,10 +1,10 @@
--- `picks::row_at` meets its contract: a record stands there, and it is a price row, by the laws `held-..` and `row-read`.
+-- `choice::rows::row_at` meets its contract: a record stands there, and it is a price row, by the laws `stands-..`.
 use borrow.Author.Needs.{needs}
-use Rattle.picks.proofs.PickLaws.{held-here, held-kind, row-read}
-use Rattle.picks.proofs.row_at.Statement.{statement}
-use Rattle.picks.proofs.row_at.Tie as tie
+use Rattle.choice.proofs.ChosenLaws.{stands-here, stands-kind, stands-read}
+use Rattle.choice.proofs.rows.row_at.Statement.{statement}
+use Rattle.choice.proofs.rows.row_at.Tie as tie
 
-ruleset laws = (needs, held-here, held-kind, row-read)
+ruleset laws = (needs, stands-here, stands-kind, stands-read)
 
 pub row-at-spec : {M : Type 1} → statement M
 row-at-spec =
