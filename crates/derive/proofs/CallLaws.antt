@@ -62,7 +62,7 @@ module _ (s : List ℕ) {ask : Ask} (is : AskIs s ask) where
       question = askIn s ask;
       is = is .is;
       none = le-leb (length (askIn s ask .granted)) 0 (omega (arith, granted-count));
-      place =
+      stands =
           let size : length (take (ask .article .size) (drop (ask .article .at) s)) ≡ ask .article .size =
           length-take-le (ask .article .size) (drop (ask .article .at) s) (omega (arith, is .inside, length-drop (ask .article .at) s)) in
           omega (arith, size, is .granted-at, is .article-at);
@@ -128,7 +128,7 @@ module _ (s p t old : List ℕ) where
 
           pub names-fitting : Fitting s at t (k .names) (k .count)
           names-fitting = record {
-            low = omega (arith, asked .place);
+            low = omega (arith, asked .stands);
             inside = asked .inside;
             few = record { long = told .long; few = told .few; short = told .each-short };
             names = record { inside = told .each-in };
@@ -142,7 +142,7 @@ module _ (s p t old : List ℕ) where
           pub derived-put : {r : PlacedAnswer} {after : List ℕ} → PutIs (namedAt at names s) old r after → DeriveIs s p t old r after
           unfolding derive withNames ifRoom
           derived-put {r} {after} put =
-              let new : withNames (asked .question) names s ≡ namedAt at names s = ap (λ (m : ℕ). namedAt m names s) (asked .place) in
+              let new : withNames (asked .question) names s ≡ namedAt at names s = ap (λ (m : ℕ). namedAt m names s) (asked .stands) in
               let is : derive s p t (length old) ≡ ifRoom (length old) (namedAt at names s) =
               ap (λ (x : ResultAt Derivation). x >>= λ d. ifRoom (length old) (withNames (d .question) (d .names) s)) named ∙ ap (ifRoom (length old)) new in
               record {

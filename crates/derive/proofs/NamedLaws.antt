@@ -49,7 +49,7 @@ module _ (version : ℕ) (names : List (List ℕ)) where
     ahead : List ℕ
     rest : List ℕ
     splits : s ≡ ahead ++ (0 ∷ rest)
-    place : R q (length ahead)
+    stands : R q (length ahead)
     again : m (ahead ++ (length names ∷ (namesIn version names ++ rest))) ≡ some (granting q names, t)
     short : length rest ≤ length t + 1057
 
@@ -69,7 +69,7 @@ module _ (version : ℕ) (names : List (List ℕ)) where
           ahead = r .taken ++ h .ahead;
           rest = h .rest;
           splits = r .splits ∙ (ap (λ (u : List ℕ). r .taken ++ u) (h .splits) ∙ sym (append-assoc (r .taken) (h .ahead) (0 ∷ h .rest)));
-          place = subst (R q) (sym (length-append (r .taken) (h .ahead))) (sum (x .0 .0) q (length (r .taken)) (length (h .ahead)) (r .size) (h .place));
+          stands = subst (R q) (sym (length-append (r .taken) (h .ahead))) (sum (x .0 .0) q (length (r .taken)) (length (h .ahead)) (r .size) (h .stands));
           again = ap (λ (u : List ℕ). andThen (m u) f) (append-assoc (r .taken) (h .ahead) w) ∙ (ap (λ o. andThen o f) (r .again (h .ahead ++ w)) ∙ h .again);
           short = h .short;
         };
@@ -146,7 +146,7 @@ module _ (version : ℕ) (names : List (List ℕ)) where
             ahead = [];
             rest = rest;
             splits = first-byte s n rest (x .1) ∙ ap (λ (k : ℕ). k ∷ rest) zero-is;
-            place = (b .article-is, refl);
+            stands = (b .article-is, refl);
             again =
                 ap (λ (c : Bool). andThen (giveIf c (length names) (namesIn version names ++ rest)) (λ n. times n (grantedIn version) >>= behind)) (is-between 0 32 (length names) (omega arith) few)
                 ∙ ap (λ o. andThen o behind) (names-again version names good rest)
@@ -225,14 +225,14 @@ module _ (s : List ℕ) (q : Question) (e : questionOf s ≡ some q) (none : gra
 
   front : take (countAt q - 4) (drop 4 s) ≡ version ∷ put .ahead
   front =
-      let at : suc (length (put .ahead)) ≡ countAt q - 4 = omega (arith, put .place .0) in
+      let at : suc (length (put .ahead)) ≡ countAt q - 4 = omega (arith, put .stands .0) in
       ap (take (countAt q - 4)) (drop-cons s 4 0 (omega (arith, five)) ∙ ap (λ (t : List ℕ). version ∷ t) (put .splits))
       ∙ take-at (version ∷ put .ahead) (0 ∷ put .rest) (countAt q - 4) at
 
   back : drop (countAt q + 1) s ≡ put .rest
   back =
       let behind : countAt q + 1 ≡ 5 + (countAt q - 4) = omega arith in
-      let at : length (put .ahead ++ (0 ∷ [])) ≡ countAt q - 4 = length-append (put .ahead) (0 ∷ []) ∙ omega (arith, put .place .0) in
+      let at : length (put .ahead ++ (0 ∷ [])) ≡ countAt q - 4 = length-append (put .ahead) (0 ∷ []) ∙ omega (arith, put .stands .0) in
       ap (λ (k : ℕ). drop k s) behind
       ∙ sym (drop-drop (countAt q - 4) 5 s)
       ∙ ap (drop (countAt q - 4)) (put .splits ∙ sym (append-assoc (put .ahead) (0 ∷ []) (put .rest)))
@@ -264,8 +264,8 @@ module _ (s : List ℕ) (q : Question) (e : questionOf s ≡ some q) (none : gra
     length-drop 5 s,
     ap length (put .splits),
     length-append (put .ahead) (0 ∷ put .rest),
-    put .place .0,
-    put .place .1,
+    put .stands .0,
+    put .stands .1,
     put .short,
     names-short version names good,
     few,

@@ -33,7 +33,7 @@ pub record RoomFor (out : List ℕ) (at version size : ℕ) : Type 0 where
 
 -- ---- the first n names
 
--- of 32 places, and no longer than a name is
+-- of 32 parts, and no longer than a name is
 pub record Few (parts : List Part) (n : ℕ) : Type 0 where
   pub long : length parts ≡ 32
   pub few : n ≤ 32
@@ -88,10 +88,10 @@ pub record GrantsNone (s : List ℕ) (at : ℕ) : Type 0 where
   pub question : Question
   pub is : questionOf s ≡ some question
   pub none : grantsNone question ≡ true
-  pub place : countAt question ≡ at
+  pub stands : countAt question ≡ at
   pub inside : at < length s
 
--- `r` is that place; 0: it is none
+-- `r` is that position; 0: it is none
 pub record CountIs (s : List ℕ) (r : ℕ) : Type 0 where
   pub there : 0 < r → GrantsNone s r
   pub not-there : r < 1 → (q : Question) → questionOf s ≡ some q → grantsNone q ≡ false

@@ -29,7 +29,7 @@ fn refusal(number: u8, place: usize) -> PlacedAnswer
 }
 
 // Where the count of a question's granted names stands, if the bytes are a question and it is 0; else 0.
-fn count_place(question: &[u8]) -> usize
+fn count_position(question: &[u8]) -> usize
     ensures { λ r. ⌜ CountIs (now (question .entry)) r ⌝ }
 {
     if !question_ok(question) {
@@ -92,7 +92,7 @@ fn put_if_room(
 pub fn derive(question: &[u8], properties: &[u8], relation: &[u8], out: &mut [u8]) -> PlacedAnswer
     ensures { λ r. ⌜ DeriveIs (now (question .entry)) (now (properties .entry)) (now (relation .entry)) (now (out .entry)) r (now (out .exit)) ⌝ }
 {
-    let at = count_place(question);
+    let at = count_position(question);
     if at < 1 {
         return refusal(2, 0);
     }

@@ -1,4 +1,4 @@
-// Names as a question has them: how many bytes they take, and written at a place. Each is a part of a text.
+// Names as a question has them: how many bytes they take, and written at a position. Each is a part of a text.
 use layout::numbers::put_two;
 use layout::strings::put_bytes;
 use layout::strings::put_run;

@@ -1,4 +1,4 @@
--- Properties at a place: values, and properties; each of them ends somewhere, or there is none.
+-- Properties at a position: values, and properties; each of them ends somewhere, or there is none.
 use Prim.Native.Nat.{ℕ, zero, suc, _+_, _-_, _≤_, _<_}
 use mathlib.Core.Path.{_≡_, refl, sym, subst}
 use mathlib.Core.Bool.{true, false, and-true}

@@ -1,4 +1,4 @@
 pub mod NameLaws
 pub mod HeldLaws
 pub mod ListLaws
-pub mod PlaceLaws
+pub mod PositionLaws

@@ -55,7 +55,7 @@ HeldStand = Standing held heldAt heldStop
 
 -- ---- the value of a name
 
--- the value whose kind byte stands at a place behind the count; 0: none
+-- the value whose kind byte stands at a position behind the count; 0: none
 abbrev pub valueHere : List ℕ → ℕ → Option Constant
 valueHere s zero = none
 valueHere s (suc k) = valueAt (getD s (suc k) 0) s (suc k + 1)
@@ -73,6 +73,6 @@ pub record KindIs (s : List ℕ) (at r : ℕ) : Type 0 where
   pub stands : ValueStands s r
 
 -- the kind byte of a name's value stands at `r`; 0: the name has no value
-pub record PlaceIs (s name : List ℕ) (r : ℕ) : Type 0 where
+pub record PositionIs (s name : List ℕ) (r : ℕ) : Type 0 where
   pub is : (ps : List Held) → propertiesOf s ≡ some ps → valueIn ps name ≡ valueHere s r
   pub stands : 0 < r → ValueStands s r

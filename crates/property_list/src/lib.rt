@@ -1,6 +1,6 @@
 // The list of properties that is lent beside a question: which bytes are one, and where the value of a name stands in it.
 mod names;
-pub mod places;
+pub mod positions;
 
 use layout::names::name_end;
 use layout::numbers::wide;

@@ -20,7 +20,7 @@ ghost use Rattle.fields.specs.Field.{CutAt};
 ghost use Rattle.reading.specs.Rows.{ToFill};
 ghost use Rattle.reading.specs.Rounds.{Behind, NameAt, Ready, Due, Moves, Holds, Rounded, AllNumbered};
 
-// How many names the table has behind a line, where the next record starts, and whether a name found no place in the table.
+// How many names the table has behind a line, where the next record starts, and whether a name found no room in the table.
 pub struct Step {
     pub k: usize,
     pub to: usize,
@@ -60,7 +60,7 @@ fn is_due(out: &[u8], to: usize, row: PriceLine, c: usize) -> bool
     (c < 1) | (out[to + 2] == 0)
 }
 
-// A row whose text has a name: it gets its number, if the table knows the name or has a place for it, or waits.
+// A row whose text has a name: it gets its number, if the table knows the name or has room for it, or waits.
 fn number_named(
     file: &[u8],
     at: usize,

@@ -20,7 +20,7 @@ use Rattle.layout.proofs.NumberLaws.{halves}
 use Rattle.relation_rules.specs.Grammar.{capital, Number}
 use Rattle.relation_rules.specs.Truth.{Held, propertiesOf, valueIn, operandValue}
 use Rattle.relation_words.specs.Heard.{wholeOf}
-use Rattle.property_list.specs.Listed.{ValueStands, PlaceIs, valueAt, valueStop, valueHere}
+use Rattle.property_list.specs.Listed.{ValueStands, PositionIs, valueAt, valueStop, valueHere}
 use Rattle.relation_truth.specs.declared.values.Value.{Value}
 use Rattle.relation_truth.specs.Values.{heldIn, operandOf, OperandIn, noValue, aString, aNumber, wholeIn, ListedIs, ValueIs}
 
@@ -100,21 +100,21 @@ some-held p = go (propertiesOf p)
     go none e = absurd (false≢true e)
     go (some ps) e = refl
 
-pub place-stands : {p n : List ℕ} {place : ℕ} → PlaceIs p n place → 1 ≤ place → ValueStands p place
-place-stands q h = q .stands h
+pub position-stands : {p n : List ℕ} {at : ℕ} → PositionIs p n at → 1 ≤ at → ValueStands p at
+position-stands q h = q .stands h
 
 module _ (s p : List ℕ) (kind from to : ℕ) (below : Bool) (size : ℕ) where
-  module _ (k : isSome (propertiesOf p) ≡ true) {place : ℕ} (q : PlaceIs p (part s from to) place) (e : kind ≡ 2) where
-    named : operandValue (heldIn p) (operandOf s kind from to below size) ≡ valueHere p place
+  module _ (k : isSome (propertiesOf p) ≡ true) {at : ℕ} (q : PositionIs p (part s from to) at) (e : kind ≡ 2) where
+    named : operandValue (heldIn p) (operandOf s kind from to below size) ≡ valueHere p at
     named = rw e (in-capitals (heldIn p) (part s from to) ∙ q .is (heldIn p) (some-held p k))
 
-    pub value-unlisted : {r : Value} → place < 1 → r ≡ noValue → ValueIs s p (operandOf s kind from to below size) r
+    pub value-unlisted : {r : Value} → at < 1 → r ≡ noValue → ValueIs s p (operandOf s kind from to below size) r
     value-unlisted {r} h f =
-        let z : place ≡ 0 = omega arith in
+        let z : at ≡ 0 = omega arith in
         rw f (record { is = sym (named ∙ ap (valueHere p) z); inside = record { on = omega arith; most = omega arith } })
 
-    pub value-listed : {r : Value} → 1 ≤ place → ListedIs p (valueAt (getD p place 0) p (place + 1)) r → ValueIs s p (operandOf s kind from to below size) r
-    value-listed {r} h v = record { is = v .is s ∙ sym (named ∙ here place h); inside = v .inside s }
+    pub value-listed : {r : Value} → 1 ≤ at → ListedIs p (valueAt (getD p at 0) p (at + 1)) r → ValueIs s p (operandOf s kind from to below size) r
+    value-listed {r} h v = record { is = v .is s ∙ sym (named ∙ here at h); inside = v .inside s }
       where
         here : (k : ℕ) → 1 ≤ k → valueHere p k ≡ valueAt (getD p k 0) p (k + 1)
         here zero h = absurd (not-suc-le-zero h)

@@ -4,7 +4,7 @@ use crate::values::a_number;
 use crate::values::a_string;
 use crate::values::no_value;
 use layout::numbers::four_at;
-use property_list::places::value_stop;
+use property_list::positions::value_stop;
 ghost use Prim.Native.Nat.{_+_, _≤_};
 ghost use lib.ListN.{length, take, drop, getD};
 ghost use Rattle.rules.specs.Bytes.{big};
@@ -31,17 +31,17 @@ fn number_at(p: &[u8], at: usize) -> Value
     a_number(true, 18446744073709551615 - n + 1)
 }
 
-// The value whose kind byte stands at `place`.
-pub fn listed_value(p: &[u8], place: usize) -> Value
-    requires { ⌜ ValueStands (now p) place ⌝ }
-    ensures { λ r. ⌜ ListedIs (now (p .entry)) (valueAt (getD (now (p .entry)) place 0) (now (p .entry)) (place + 1)) r ⌝ }
+// The value whose kind byte stands at `at`.
+pub fn listed_value(p: &[u8], at: usize) -> Value
+    requires { ⌜ ValueStands (now p) at ⌝ }
+    ensures { λ r. ⌜ ListedIs (now (p .entry)) (valueAt (getD (now (p .entry)) at 0) (now (p .entry)) (at + 1)) r ⌝ }
 {
-    let kind = p[place];
+    let kind = p[at];
     if kind == 0 {
         return no_value();
     }
     if kind == 1 {
-        return a_string(true, place + 2, value_stop(p, place));
+        return a_string(true, at + 2, value_stop(p, at));
     }
-    number_at(p, place + 1)
+    number_at(p, at + 1)
 }

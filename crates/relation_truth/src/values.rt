@@ -1,6 +1,6 @@
 // The value of an operand: what stands in the text, or what the list of properties has of a name.
 use crate::listed::listed_value;
-use property_list::places::place_of;
+use property_list::positions::position_of;
 use relation_words::tokens::Found;
 ghost use mathlib.Core.Path.{_≡_};
 ghost use mathlib.Core.Bool.{true};
@@ -67,11 +67,11 @@ pub fn value_of(text: &[u8], p: &[u8], x: Found) -> Value
     let from = x.from;
     let to = x.to;
     if x.kind == 2 {
-        let place = place_of(p, &text[from..to]);
-        if place < 1 {
+        let at = position_of(p, &text[from..to]);
+        if at < 1 {
             return no_value();
         }
-        return listed_value(p, place);
+        return listed_value(p, at);
     }
     if x.kind == 3 {
         return a_string(false, from + 1, to - 1);

@@ -1,4 +1,4 @@
--- What is heard at a place, kind by kind.
+-- What is heard at a position, kind by kind.
 use Prim.Native.Nat.{ℕ, zero, suc, _+_, _-_, _≤_, _<_}
 use mathlib.Core.Path.{_≡_, refl, sym, _∙_, ap, subst}
 use mathlib.Core.Bool.{Bool, true, false, not, _&&_, _||_, cond, false≢true}
@@ -20,7 +20,7 @@ use Rattle.layout.specs.Reads.{part}
 use Rattle.layout.specs.Ensures.{Says}
 use Rattle.relation_words.specs.Words.{Stretch, wordsIn, numberOf, wordOf, Numbered}
 use Rattle.relation_words.specs.Wanted.{Wanted, fitsWanted, plainWord, plainWords, wantedBy, Begun, StopsHere, TokenHere}
-use Rattle.relation_words.specs.Heard.{wholeOf, someWord, firstDigit, startOf, ByteAt, Heard, WordRun, QuoteRun, WordPlace, WordsRun, FigureAt, DigitsRun, WordHeard, NameHeard, StringHeard, NumberHeard}
+use Rattle.relation_words.specs.Heard.{wholeOf, someWord, firstDigit, startOf, ByteAt, Heard, WordRun, QuoteRun, OnlyWords, WordsRun, FigureAt, DigitsRun, WordHeard, NameHeard, StringHeard, NumberHeard}
 use Rattle.relation_words.proofs.PartLaws.{part-none, part-more, part-cons, part-length}
 use Rattle.relation_words.proofs.CapitalLaws.{token-capital, other-capital}
 use Rattle.relation_words.proofs.ReadLaws.{stop-first, stop-inside, stop-behind, behind-none, apart-at, apart-end}
@@ -266,8 +266,8 @@ module _ {words : List (List ℕ)} {s : List ℕ} {at : ℕ} {x : Bool} (b : Byt
       odd-is = ap (λ z. isQuote (getD s at 0) || z) (f .is) ∙ swap x (eqb (getD s at 0) 39) e
 
   module _ (e : (x || eqb (getD s at 0) 39) ≡ false) {to : ℕ} {ended : Bool} (r : WordsRun words s at to ended) where
-    place : (w : Wanted) → (w .name && isLetter (getD s at 0)) ≡ false → WordPlace w (getD s at 0)
-    place w n =
+    only : (w : Wanted) → (w .name && isLetter (getD s at 0)) ≡ false → OnlyWords w (getD s at 0)
+    only w n =
         record {
           no-name = n;
           no-quote = or-right-false x (eqb (getD s at 0) 39) e;
@@ -276,7 +276,7 @@ module _ {words : List (List ℕ)} {s : List ℕ} {at : ℕ} {x : Bool} (b : Byt
         }
 
     pub word-cut : not ended ≡ true → WordHeard words s at 0 0 at to false 0
-    word-cut g = record { heard = λ w k nn nq nf. heard-wrong (r .on) (r .most) (λ p. r .wrong (not-so ended g) w k (place w nn)) }
+    word-cut g = record { heard = λ w k nn nq nf. heard-wrong (r .on) (r .most) (λ p. r .wrong (not-so ended g) w k (only w nn)) }
 
     module _ (g : not ended ≡ false) {k : ℕ} (m : Numbered words (map capital (part s at to)) k) where
       split : part s at to ≡ getD s at 0 ∷ part s (suc at) to
@@ -288,14 +288,14 @@ module _ {words : List (List ℕ)} {s : List ℕ} {at : ℕ} {x : Bool} (b : Byt
             heard =
                 λ w j nn nq nf.
                 heard-wrong (r .on) (r .most)
-                (λ p. stop-behind (r .begun (so ended g) w j (place w nn)) (r .alone (so ended g) (place w nn .no-quote))
+                (λ p. stop-behind (r .begun (so ended g) w j (only w nn)) (r .alone (so ended g) (only w nn .no-quote))
                 (λ q i.
                 ap (behind q (suc at)) split
                 ∙ behind-none w q (suc at) (getD s at 0) (part s (suc at) to) i
                 ((λ y. any (same (map capital (sym split y))) (j y)) ∙ number-none 0 words (map capital (part s at to)) (m .is ∙ z))
                 (λ a _. no-name w nn a)
-                (λ a. absurd (false≢true (sym (place w nn .no-quote) ∙ a)))
-                (λ a. absurd (false≢true (sym (place w nn .no-figure) ∙ a)))));
+                (λ a. absurd (false≢true (sym (only w nn .no-quote) ∙ a)))
+                (λ a. absurd (false≢true (sym (only w nn .no-figure) ∙ a)))));
           }
         where
           no-name : (w : Wanted) → (w .name && isLetter (getD s at 0)) ≡ false → isLetter (getD s at 0) ≡ true → w .name ≡ false

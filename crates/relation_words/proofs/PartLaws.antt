@@ -1,4 +1,4 @@
--- The bytes from one place of a byte string to another.
+-- The bytes from one position of a byte string to another.
 use Prim.Native.Nat.{ℕ, zero, suc, _+_, _-_, _≤_, _<_}
 use mathlib.Core.Path.{_≡_, refl, sym, _∙_, ap}
 use mathlib.Core.List.{List, [], _∷_, _++_}

@@ -1,4 +1,4 @@
--- How the reader goes through one token, by what is wanted at its place.
+-- How the reader goes through one token, by what is wanted there.
 use Prim.Native.Nat.{ℕ, zero, suc, _+_, _-_, _≤_, _<_}
 use mathlib.Core.Path.{_≡_, refl, sym, _∙_, ap, subst}
 use mathlib.Core.Bool.{Bool, true, false, not, _&&_, _||_, cond, false≢true}

@@ -20,7 +20,7 @@ use Rattle.layout.specs.Reads.{part}
 use Rattle.layout.specs.Ensures.{Says, Number}
 use Rattle.relation_words.specs.Words.{Stretch, wordsIn}
 use Rattle.relation_words.specs.Wanted.{Wanted, fitsWanted, Begun, StopsHere}
-use Rattle.relation_words.specs.Heard.{Reaches, WordRun, QuoteRun, WordPlace, WordsRun, firstDigit, startOf}
+use Rattle.relation_words.specs.Heard.{Reaches, WordRun, QuoteRun, OnlyWords, WordsRun, firstDigit, startOf}
 use Rattle.relation_words.proofs.PartLaws.{part-none, part-more, part-cons}
 use Rattle.relation_words.proofs.ReadLaws.{begun-first, begun-on, stop-first, stop-inside, apart-at, apart-end}
 
@@ -243,14 +243,14 @@ only-words w b l no-name no-quote no-figure =
     unfigured true false e f = no-figures b l e
     unfigured false z e f = refl
 
-place-words : (w : Wanted) (b : ℕ) (l : List ℕ) → WordPlace w b → fitsWanted w (b ∷ l) ≡ any (begins (map capital (b ∷ l))) (w .words)
-place-words w b l p =
+words-fit : (w : Wanted) (b : ℕ) (l : List ℕ) → OnlyWords w b → fitsWanted w (b ∷ l) ≡ any (begins (map capital (b ∷ l))) (w .words)
+words-fit w b l p =
     only-words w b l (p .no-name) (ap (λ z. w .quoted && z) (p .no-quote) ∙ and-false (w .quoted)) (ap (λ z. w .whole && z) (p .no-figure) ∙ and-false (w .whole))
 
 pub record Running (words : List (List ℕ)) (s : List ℕ) (at i : ℕ) : Type 0 where
   pub on : at < i
   pub most : i ≤ length s
-  pub begun : (w : Wanted) → w .words ≡ words → WordPlace w (getD s at 0) → Begun w s at i
+  pub begun : (w : Wanted) → w .words ≡ words → OnlyWords w (getD s at 0) → Begun w s at i
 
 pub one-byte : {s : List ℕ} {at : ℕ} → at < length s → Stretch s at (at + 1)
 one-byte l = record { on = omega arith; most = omega arith }
@@ -259,11 +259,11 @@ pub more-bytes : {words : List (List ℕ)} {s : List ℕ} {at i : ℕ} → Runni
 more-bytes g l = let on = g .on in record { on = omega arith; most = omega arith }
 
 module _ (words : List (List ℕ)) (s : List ℕ) (at : ℕ) where
-  fits-as : (w : Wanted) (i : ℕ) → at < i → i ≤ length s → w .words ≡ words → WordPlace w (getD s at 0)
+  fits-as : (w : Wanted) (i : ℕ) → at < i → i ≤ length s → w .words ≡ words → OnlyWords w (getD s at 0)
       → fitsWanted w (part s at i) ≡ any (begins (map capital (part s at i))) words
   fits-as w i l h e p =
       ap (fitsWanted w) (part-cons s at i l h)
-      ∙ place-words w (getD s at 0) (part s (suc at) i) p
+      ∙ words-fit w (getD s at 0) (part s (suc at) i) p
       ∙ (λ j. any (begins (map capital (sym (part-cons s at i l h) j))) (e j))
 
 pub one-part : (s : List ℕ) (at : ℕ) → at < length s → part s at (suc at) ≡ getD s at 0 ∷ []

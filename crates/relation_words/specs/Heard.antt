@@ -1,4 +1,4 @@
--- What was heard at a place of a text: kind 0 nothing that may come, 1 a word of the list, 2 a name, 3 a string, 4 a number.
+-- What was heard at a position of a text: kind 0 nothing that may come, 1 a word of the list, 2 a name, 3 a string, 4 a number.
 use Prim.Native.Nat.{ℕ, zero, suc, _+_, _-_, _≤_, _<_}
 use mathlib.Core.Path.{_≡_}
 use mathlib.Core.Bool.{Bool, true, false, not, _&&_, _||_, cond}
@@ -116,7 +116,7 @@ pub record QuoteRun (s : List ℕ) (at r : ℕ) : Type 0 where
 -- ---- words of a list
 
 -- at a byte that begins no string, no number and, where one may come, no name
-pub record WordPlace (w : Wanted) (b : ℕ) : Type 0 where
+pub record OnlyWords (w : Wanted) (b : ℕ) : Type 0 where
   pub no-name : (w .name && isLetter b) ≡ false
   pub no-quote : isQuote b ≡ false
   pub no-figure : (isDigit b || minus b) ≡ false
@@ -126,8 +126,8 @@ pub record WordPlace (w : Wanted) (b : ℕ) : Type 0 where
 pub record WordsRun (words : List (List ℕ)) (s : List ℕ) (at to : ℕ) (ended : Bool) : Type 0 where
   pub on : at ≤ to
   pub most : to ≤ length s
-  pub wrong : ended ≡ false → (w : Wanted) → w .words ≡ words → WordPlace w (getD s at 0) → StopsHere w s at (suc to)
-  pub begun : ended ≡ true → (w : Wanted) → w .words ≡ words → WordPlace w (getD s at 0) → Begun w s at to
+  pub wrong : ended ≡ false → (w : Wanted) → w .words ≡ words → OnlyWords w (getD s at 0) → StopsHere w s at (suc to)
+  pub begun : ended ≡ true → (w : Wanted) → w .words ≡ words → OnlyWords w (getD s at 0) → Begun w s at to
   pub alone : ended ≡ true → isQuote (getD s at 0) ≡ false → apart (part s at to) (drop to s) ≡ true
   pub further : ended ≡ true → at < to
 

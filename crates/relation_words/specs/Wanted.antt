@@ -1,4 +1,4 @@
--- What may come at a place of a relation text: some words, a name, a string, a number. And where the reader stops that wants these.
+-- What may come at a position of a relation text: some words, a name, a string, a number. And where the reader stops that wants these.
 use Prim.Native.Nat.{ℕ, suc, _≤_, _<_}
 use mathlib.Core.Path.{_≡_}
 use mathlib.Core.Bool.{Bool, true, false, _&&_, _||_, not}

@@ -30,7 +30,7 @@ wordOf (w ∷ ws) zero = []
 wordOf (w ∷ ws) (suc zero) = w
 wordOf (w ∷ ws) (suc (suc k)) = wordOf ws (suc k)
 
--- two places of a byte string, in order
+-- two positions of a byte string, in order
 pub record Stretch (s : List ℕ) (from to : ℕ) : Type 0 where
   pub on : from ≤ to
   pub most : to ≤ length s

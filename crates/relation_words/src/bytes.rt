@@ -50,7 +50,7 @@ pub fn capital_of(b: u8) -> u8
     if (b'a' <= b) & (b <= b'z') { b - 32 } else { b }
 }
 
-// The first place from `at` on that has no blank.
+// The first position from `at` on that has no blank.
 pub fn blanks(text: &[u8], at: usize) -> usize
     requires { ⌜ at ≤ length (now text) ⌝ }
     ensures { λ r. ⌜ Gap (now (text .entry)) at r ⌝ }

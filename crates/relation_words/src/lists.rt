@@ -1,4 +1,4 @@
-// Lists of words, each with a space behind it, as b"AND OR ": which of them the bytes from one place of a text to another are, or begin.
+// Lists of words, each with a space behind it, as b"AND OR ": which of them the bytes from one position of a text to another are, or begin.
 use crate::bytes::capital_of;
 ghost use Prim.Native.Nat.{_<_};
 ghost use mathlib.Core.List.{map};

@@ -1,4 +1,4 @@
-// A token at a place of a text, where some words, a name, a string or a number may come.
+// A token at a position of a text, where some words, a name, a string or a number may come.
 use crate::bytes::blanks;
 use crate::bytes::is_figure;
 use crate::bytes::is_letter;
@@ -19,7 +19,7 @@ ghost use Rattle.layout.specs.Ensures.{Says};
 ghost use Rattle.relation_words.specs.Words.{Stretch, wordsIn};
 ghost use Rattle.relation_words.specs.Heard.{Nothing, Heard, HeardOn, WordHeard, NameHeard, StringHeard, NumberHeard, FigureAt, ByteAt};
 
-// `kind`: 0 nothing that may come, and `to` is the place of the first byte that may not; 1 the word of the list with the number `which`;
+// `kind`: 0 nothing that may come, and `to` is the position of the first byte that may not; 1 the word of the list with the number `which`;
 // 2 a name; 3 a string with its quotes; 4 a number with its sign and size. It stands from `from` to `to`.
 pub struct Found {
     pub kind: u8,

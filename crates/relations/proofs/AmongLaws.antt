@@ -18,9 +18,9 @@ use Rattle.relation_words.specs.Heard.{HeardOn}
 use Rattle.relation_truth.specs.Told.{truthNo, TruthIs}
 use Rattle.relation_truth.specs.Values.{heldIn, operandOf, signNo, constantIn, ValueIs}
 use Rattle.relation_truth.specs.declared.values.Value.{Value}
-use Rattle.relations.specs.Places.{wantsConstant, wantsOpen, wantsMark}
+use Rattle.relations.specs.Expected.{wantsConstant, wantsOpen, wantsMark}
 use Rattle.relations.specs.Reading.{amongOf, EqualTo, ValuesTo, ValuesRead, AmongRead}
-use Rattle.relations.proofs.PlaceLaws.{zeroed, heard-ahead, open-stops, first-stops, comma-stops, mark-stops, is-word, is-constant}
+use Rattle.relations.proofs.ExpectedLaws.{zeroed, heard-ahead, open-stops, first-stops, comma-stops, mark-stops, is-word, is-constant}
 use Rattle.relations.proofs.JoinLaws.{never, through}
 
 -- ---- one constant

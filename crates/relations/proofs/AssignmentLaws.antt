@@ -24,10 +24,10 @@ use Rattle.relation_words.specs.Wanted.{wantedBy}
 use Rattle.relation_words.specs.Heard.{Heard, HeardOn}
 use Rattle.relation_words.proofs.TokenLaws.{gap-moves, gap-token}
 use Rattle.relation_truth.specs.Told.{truthNo}
-use Rattle.relations.specs.Places.{wantsVariable, wantsBecomes, wantsString, wantsIf}
+use Rattle.relations.specs.Expected.{wantsVariable, wantsBecomes, wantsString, wantsIf}
 use Rattle.relations.specs.Reading.{OrRead, StoppedAs, DepthAt}
 use Rattle.relations.specs.Assignments.{partIn, HeadRead, IfRead, AssignmentRead}
-use Rattle.relations.proofs.PlaceLaws.{zeroed, heard-ahead, is-word}
+use Rattle.relations.proofs.ExpectedLaws.{zeroed, heard-ahead, is-word}
 use Rattle.relations.proofs.JoinLaws.{never, differ, through, join-end, word-kind}
 
 head-refused : {s : List ℕ} {at to n t place : ℕ} {name : Part} → at ≤ to → to ≤ length s

@@ -160,7 +160,7 @@ module _ {ps : List Held} {d : ℕ} {s : List ℕ} {at from truth number to x ne
     pub or-further : next ≡ 2 → from < after
     or-further f = let b : from ≤ to = r .on in let c : to < after = r .behind e .further (omega arith) (omega arith) in omega arith
 
--- ---- places for the next call
+-- ---- positions for the next call
 
 pub depth-same : {ps : List Held} {d : ℕ} {s : List ℕ} {at from truth depth : ℕ} → DepthAt s at depth → AndSo ps d s at from truth → DepthAt s from depth
 depth-same p a = record { there = a .most; left = p .left }

@@ -24,7 +24,7 @@ use Rattle.relation_words.specs.Heard.{Heard}
 use Rattle.relation_words.proofs.PartLaws.{part-rest, past-part}
 use Rattle.relation_words.proofs.RunLaws.{one-part}
 use Rattle.relation_words.proofs.TokenLaws.{gap-moves, gap-token}
-use Rattle.relations.specs.Places.{wantsCondition}
+use Rattle.relations.specs.Expected.{wantsCondition}
 use Rattle.relations.specs.Reading.{SingleRead, SimpleRead, OrRead, ClosedAs, DepthAt}
 use Rattle.relations.proofs.JoinLaws.{never, through}
 

@@ -21,7 +21,7 @@ use Rattle.relation_words.specs.Heard.{Heard}
 use Rattle.relation_words.proofs.PartLaws.{part-cons}
 use Rattle.relation_words.proofs.TokenLaws.{gap-moves, gap-token}
 use Rattle.relation_truth.specs.Values.{operandOf}
-use Rattle.relations.specs.Places.{wantsCondition}
+use Rattle.relations.specs.Expected.{wantsCondition}
 use Rattle.relations.specs.Reading.{OperandAt, SimpleRead, FirstAt, NameRead}
 use Rattle.relations.proofs.JoinLaws.{never, through}
 

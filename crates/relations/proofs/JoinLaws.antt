@@ -15,7 +15,7 @@ use Rattle.relation_words.specs.Words.{Gap, wordOf}
 use Rattle.relation_words.specs.Wanted.{Wanted, wantedBy, plainWords}
 use Rattle.relation_words.specs.Heard.{mayHear, ByteAt, Heard}
 use Rattle.relation_words.proofs.TokenLaws.{gap-moves, gap-token}
-use Rattle.relations.specs.Places.{onlyWords, closes, wantsJoin}
+use Rattle.relations.specs.Expected.{onlyWords, closes, wantsJoin}
 use Rattle.relations.specs.Reading.{Joined}
 
 pub never : {A : Type 0} {n : ℕ} → (suc n ≡ 0) → A

@@ -1,4 +1,4 @@
-pub mod PlaceLaws
+pub mod ExpectedLaws
 pub mod JoinLaws
 pub mod AmongLaws
 pub mod SimpleLaws

@@ -19,9 +19,9 @@ use Rattle.relation_words.specs.Heard.{HeardOn}
 use Rattle.relation_truth.specs.Told.{truthNo, TruthIs}
 use Rattle.relation_truth.specs.Values.{heldIn, operandOf, signIn, signNo, constantOf, constantIn, ValueIs}
 use Rattle.relation_truth.specs.declared.values.Value.{Value}
-use Rattle.relations.specs.Places.{wantsName, wantsOperand, wantsSign}
+use Rattle.relations.specs.Expected.{wantsName, wantsOperand, wantsSign}
 use Rattle.relations.specs.Reading.{OperandAt, amongOf, AmongRead, NameRead, SimpleRead}
-use Rattle.relations.proofs.PlaceLaws.{zeroed, heard-ahead, name-stops, second-stops, sign-stops, is-word, is-operand, is-name, property-kind, sign-token, listed-sign}
+use Rattle.relations.proofs.ExpectedLaws.{zeroed, heard-ahead, name-stops, second-stops, sign-stops, is-word, is-operand, is-name, property-kind, sign-token, listed-sign}
 use Rattle.relations.proofs.JoinLaws.{never, through}
 
 -- ---- values that are compared

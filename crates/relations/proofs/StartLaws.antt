@@ -20,7 +20,7 @@ use Rattle.relation_words.specs.Heard.{Heard}
 use Rattle.relation_words.specs.declared.tokens.Found.{Found}
 use Rattle.relation_words.proofs.TokenLaws.{gap-token}
 use Rattle.relation_truth.specs.Told.{truthNo, TruthIs}
-use Rattle.relations.specs.Places.{wantsCondition}
+use Rattle.relations.specs.Expected.{wantsCondition}
 use Rattle.relations.specs.Reading.{turnedBy, TurnedAs, StoppedAs, FirstAt, SingleRead, SimpleRead, OrRead, ClosedAs, DepthAt}
 use Rattle.relations.specs.Starts.{NotsOver, StartRead}
 use Rattle.relations.specs.declared.starts.Start.{Start}
@@ -155,7 +155,7 @@ module _ {s : List ℕ} {at : ℕ} {r : Start} (b : StartRead s at r) where
   pub start-simple : {ps : List Held} {d n t x n′ t′ x′ : ℕ} → SimpleRead ps s (r .at) n t x → TurnedAs (r .turned) n t x n′ t′ x′ → SingleRead ps d s at n′ t′ x′
   start-simple {d = d} q u = behind-nots (b .nots) (q .read d) u
 
-  -- the place behind a parenthesis
+  -- the position behind a parenthesis
   pub start-inside : {depth : ℕ} → DepthAt s at depth → r .sort ≡ 1 → DepthAt s (r .from + 1) (depth - 1)
   start-inside {depth} p e =
       let l : r .from < length s = b .there (λ y. omega arith) in

@@ -1,4 +1,4 @@
-pub mod Places
+pub mod Expected
 pub mod Reading
 pub mod Starts
 pub mod Assignments

@@ -1,4 +1,4 @@
--- What code says that reads a relation text from one place to another: number 0, and all up to `to` was read; or the refusal's number, and `to` is the place before.
+-- What code says that reads a relation text from one position to another: number 0, and all up to `to` was read; or the refusal's number, and at `to`, counted from 0, stands the byte that it tells.
 -- With number 0 it says the truth of what was read, over the properties ps.
 use Prim.Native.Nat.{ℕ, suc, _≤_, _<_}
 use mathlib.Core.Path.{_≡_}
@@ -17,7 +17,7 @@ use Rattle.relation_words.specs.Words.{Gap}
 use Rattle.relation_words.specs.Heard.{Heard}
 use Rattle.relation_truth.specs.Told.{truthNo}
 use Rattle.relation_truth.specs.Values.{operandOf, OperandIn}
-use Rattle.relations.specs.Places.{closes, wantsCondition}
+use Rattle.relations.specs.Expected.{closes, wantsCondition}
 
 -- ---- operands
 
@@ -153,9 +153,9 @@ pub record StoppedAs (number to number′ to′ : ℕ) : Type 0 where
   pub number-is : number′ ≡ number
   pub to-is : to′ ≡ to
 
--- ---- places
+-- ---- positions
 
--- a place, with so many parentheses still to open
+-- a position, with so many parentheses still to open
 pub record DepthAt (s : List ℕ) (at depth : ℕ) : Type 0 where
   pub there : at ≤ length s
   pub left : depth ≤ 16

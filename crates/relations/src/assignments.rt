@@ -14,7 +14,7 @@ ghost use Rattle.rules.specs.Lists.{isSome};
 ghost use Rattle.relation_rules.specs.Truth.{propertiesOf};
 ghost use Rattle.relation_words.specs.Heard.{ByteAt, Heard, HeardOn};
 ghost use Rattle.relation_truth.specs.Values.{heldIn};
-ghost use Rattle.relations.specs.Places.{wantsVariable, wantsBecomes, wantsString, wantsIf};
+ghost use Rattle.relations.specs.Expected.{wantsVariable, wantsBecomes, wantsString, wantsIf};
 ghost use Rattle.relations.specs.Reading.{StoppedAs};
 ghost use Rattle.relations.specs.Assignments.{HeadRead, IfRead, AssignmentRead};
 

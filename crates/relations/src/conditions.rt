@@ -15,7 +15,7 @@ ghost use Rattle.rules.specs.Lists.{isSome};
 ghost use Rattle.relation_rules.specs.Truth.{propertiesOf};
 ghost use Rattle.relation_words.specs.Heard.{ByteAt, Heard};
 ghost use Rattle.relation_truth.specs.Values.{heldIn};
-ghost use Rattle.relations.specs.Places.{wantsJoin};
+ghost use Rattle.relations.specs.Expected.{wantsJoin};
 ghost use Rattle.relations.specs.Reading.{SingleRead, AndRead, OrRead, Joined, ClosedAs, TurnedAs, StoppedAs, DepthAt};
 
 // What comes behind a single condition: 0 nothing that may, 1 AND, 2 OR, 3 what closes the chain, 4 the end. It ends at `after`.

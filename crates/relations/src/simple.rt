@@ -1,10 +1,10 @@
 // Conditions without a parenthesis of their own: comparisons, SPECIFIED, IN.
-use crate::places::constant_at;
-use crate::places::mark_at;
-use crate::places::name_at;
-use crate::places::open_at;
-use crate::places::operand_at;
-use crate::places::sign_at;
+use crate::expected::constant_at;
+use crate::expected::mark_at;
+use crate::expected::name_at;
+use crate::expected::open_at;
+use crate::expected::operand_at;
+use crate::expected::sign_at;
 use relation_truth::comparing::compared_as;
 use relation_truth::either_of;
 use relation_truth::values::Value;

@@ -1,5 +1,5 @@
 // Where a single condition starts, behind the NOTs in front of it.
-use crate::places::condition_here;
+use crate::expected::condition_here;
 use relation_words::bytes::blanks;
 use relation_words::tokens::Found;
 ghost use Prim.Native.Nat.{_≤_};

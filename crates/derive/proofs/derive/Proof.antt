@@ -10,7 +10,7 @@ pub derive-spec : {M : Type 1} → statement M
 derive-spec =
     tie.close
     (tie.spec
-    (λ c κs. search laws)  -- count-place-requires
+    (λ c κs. search laws)  -- count-position-requires
     (λ c κs. search laws)  -- refusal-requires
     (λ c. search laws)  -- returns
     (λ c κs. search laws)  -- properties-ok-requires

@@ -1,4 +1,4 @@
--- `relation_truth::orders::text_order` meets its contract: the bytes before the place reached are alike, by the laws `text-..`.
+-- `relation_truth::orders::text_order` meets its contract: the bytes before the position reached are alike, by the laws `text-..`.
 use Prim.Native.Nat.{_-_}
 use lib.ListN.{length}
 use borrow.Author.Needs.{needs}

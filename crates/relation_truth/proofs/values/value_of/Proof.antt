@@ -1,19 +1,19 @@
 -- `relation_truth::values::value_of` meets its contract: a name that is listed or not, a string, a number; a law for each.
 use borrow.Author.Needs.{needs}
-use Rattle.relation_truth.proofs.ValueLaws.{value-unlisted, place-stands, value-listed, value-quoted, value-whole}
+use Rattle.relation_truth.proofs.ValueLaws.{value-unlisted, position-stands, value-listed, value-quoted, value-whole}
 use Rattle.relation_truth.proofs.values.value_of.Statement.{statement}
 use Rattle.relation_truth.proofs.values.value_of.Tie as tie
 
-ruleset laws = (needs, value-unlisted, place-stands, value-listed, value-quoted, value-whole)
+ruleset laws = (needs, value-unlisted, position-stands, value-listed, value-quoted, value-whole)
 
 pub value-of-spec : {M : Type 1} → statement M
 value-of-spec =
     tie.close
     (tie.spec
-    (λ c. search needs)  -- sub-place-of
-    (λ c. search needs)  -- part-place-of-start
-    (λ c. search needs)  -- part-place-of-end
-    (λ c κs. search laws)  -- place-of-requires
+    (λ c. search needs)  -- sub-position-of
+    (λ c. search needs)  -- part-position-of-start
+    (λ c. search needs)  -- part-position-of-end
+    (λ c κs. search laws)  -- position-of-requires
     (λ c κs. search laws)  -- no-value-requires
     (λ c. search laws)  -- returns
     (λ c κs. search laws)  -- listed-value-requires

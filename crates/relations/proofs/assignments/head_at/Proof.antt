@@ -1,4 +1,4 @@
--- `relations::assignments::head_at` meets its contract: each token by its law, and what may not come in its place.
+-- `relations::assignments::head_at` meets its contract: each token by its law, and what may not come instead.
 use native.Mathlib.Omega.{arith}
 use borrow.Author.Needs.{needs}
 use Rattle.relations.proofs.AssignmentLaws.{no-variable, no-equals, no-string, string-long, head-there}

@@ -1,6 +1,6 @@
 -- `relations::simple::comparison` meets its contract: no sign, IN, no second operand, or a comparison.
 use borrow.Author.Needs.{needs}
-use Rattle.relations.proofs.PlaceLaws.{heard-inside}
+use Rattle.relations.proofs.ExpectedLaws.{heard-inside}
 use Rattle.relations.proofs.SimpleLaws.{no-sign, with-in, no-second, compared-both}
 use Rattle.relations.proofs.simple.comparison.Statement.{statement}
 use Rattle.relations.proofs.simple.comparison.Tie as tie

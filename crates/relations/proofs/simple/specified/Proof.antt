@@ -1,6 +1,6 @@
 -- `relations::simple::specified` meets its contract: no name, or one with a value or without.
 use borrow.Author.Needs.{needs}
-use Rattle.relations.proofs.PlaceLaws.{heard-inside}
+use Rattle.relations.proofs.ExpectedLaws.{heard-inside}
 use Rattle.relations.proofs.SimpleLaws.{no-name, name-unset, name-set}
 use Rattle.relations.proofs.simple.specified.Statement.{statement}
 use Rattle.relations.proofs.simple.specified.Tie as tie

@@ -4,7 +4,7 @@ use Prim.Native.Nat.{_-_}
 use lib.ListN.{length}
 use borrow.Author.Needs.{needs}
 use Rattle.relation_truth.specs.Values.{constantIn}
-use Rattle.relations.proofs.PlaceLaws.{heard-inside}
+use Rattle.relations.proofs.ExpectedLaws.{heard-inside}
 use Rattle.relations.proofs.AmongLaws.{ValuesSo, values-start, values-none, values-wrong, values-done, values-on, values-further}
 use Rattle.relations.proofs.simple.values.Statement.{statement}
 use Rattle.relations.proofs.simple.values.Tie as tie

@@ -1,4 +1,4 @@
--- Places in an accepted list of properties: the kind byte behind a name, the end of a value, and the first property of a name.
+-- Positions in an accepted list of properties: the kind byte behind a name, the end of a value, and the first property of a name.
 use Prim.Native.Nat.{ℕ, zero, suc, _+_, _-_, _≤_, _<_}
 use mathlib.Core.Path.{_≡_, refl, sym, _∙_, ap}
 use mathlib.Core.Bool.{Bool, true, false, false≢true}
@@ -21,7 +21,7 @@ use Rattle.layout.proofs.ReadingLaws.{then-good, then-behind}
 use Rattle.layout.proofs.NameEndLaws.{name-any}
 use Rattle.layout.proofs.CountedLaws.{walk-step, walk-here}
 use Rattle.relation_rules.specs.Truth.{Held, valueOf, propertiesOf, valueIn}
-use Rattle.property_list.specs.Listed.{valueAt, valueStop, valueHere, ValueStands, heldAt, heldStop, HeldStands, HeldStand, heldFrom, KindIs, PlaceIs}
+use Rattle.property_list.specs.Listed.{valueAt, valueStop, valueHere, ValueStands, heldAt, heldStop, HeldStands, HeldStand, heldFrom, KindIs, PositionIs}
 use Rattle.property_list.proofs.ListLaws.{listed}
 
 -- ---- the kind byte behind a name
@@ -108,7 +108,7 @@ module _ {s name : List ℕ} {at n : ℕ} (inv : Looking s name at n) where
     unfolding valueIn heldAt
     stepped ps e = inv .rest ps e ∙ rw (walk-step (inv .stand) h .values, ← p .is, q .is)
 
-    pub look-found : t ≡ true → PlaceIs s name r
+    pub look-found : t ≡ true → PositionIs s name r
     unfolding heldAt
     look-found e = record {
       is = λ ps f. stepped ps f ∙ rw (e, here-is s r (omega (arith, p .behind)), p .is);
@@ -121,7 +121,7 @@ module _ {s name : List ℕ} {at n : ℕ} (inv : Looking s name at n) where
         let g : q ≡ heldStop s at = f ∙ ap (λ (k : ℕ). valueStop (getD s k 0) s (k + 1)) (p .is) in
         rw g (record { stand = walk-step (inv .stand) h .rest; rest = λ ps i. stepped ps i ∙ rw e })
 
-  pub look-end : n ≤ 0 → PlaceIs s name 0
+  pub look-end : n ≤ 0 → PositionIs s name 0
   unfolding valueIn valuesAt
   look-end h = record { is = λ ps e. inv .rest ps e ∙ go n h; stands = λ g. absurd (not-suc-le-zero g) }
     where

@@ -1,8 +1,8 @@
--- `property_list::places::value_stop` meets its contract: each kind by its law.
+-- `property_list::positions::value_stop` meets its contract: each kind by its law.
 use borrow.Author.Needs.{needs}
-use Rattle.property_list.proofs.PlaceLaws.{stop-none, stop-there, stop-text, stop-number}
-use Rattle.property_list.proofs.places.value_stop.Statement.{statement}
-use Rattle.property_list.proofs.places.value_stop.Tie as tie
+use Rattle.property_list.proofs.PositionLaws.{stop-none, stop-there, stop-text, stop-number}
+use Rattle.property_list.proofs.positions.value_stop.Statement.{statement}
+use Rattle.property_list.proofs.positions.value_stop.Tie as tie
 
 ruleset laws = (needs, stop-none, stop-there, stop-text, stop-number)
 

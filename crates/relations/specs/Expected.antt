@@ -1,4 +1,4 @@
--- What may come at each place of a condition.
+-- What may come at each point of a condition.
 use Prim.Native.Nat.{ℕ, zero, suc}
 use mathlib.Core.Bool.{Bool, true, false}
 use mathlib.Core.List.{List, [], _∷_, _++_, map}

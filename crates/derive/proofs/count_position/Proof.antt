@@ -1,13 +1,13 @@
--- `derive::count_place` meets its contract.
+-- `derive::count_position` meets its contract.
 use borrow.Author.Needs.{needs}
 use Rattle.derive.proofs.CallLaws.{no-question, question-there, grants-some, grants-none}
-use Rattle.derive.proofs.count_place.Statement.{statement}
-use Rattle.derive.proofs.count_place.Tie as tie
+use Rattle.derive.proofs.count_position.Statement.{statement}
+use Rattle.derive.proofs.count_position.Tie as tie
 
 ruleset laws = (needs, no-question, question-there, grants-some, grants-none)
 
-pub count-place-spec : {M : Type 1} → statement M
-count-place-spec =
+pub count-position-spec : {M : Type 1} → statement M
+count-position-spec =
     tie.close
     (tie.spec
     (λ c κs. search laws)  -- question-ok-requires

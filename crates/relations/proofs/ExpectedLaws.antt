@@ -1,4 +1,4 @@
--- What comes at a place is one of the things that may, and where nothing does the reader stops.
+-- What comes at a position is one of the things that may, and where nothing does the reader stops.
 use Prim.Native.Nat.{ℕ, zero, suc, _-_, _≤_, _<_}
 use mathlib.Core.Path.{_≡_, refl, sym, subst}
 use mathlib.Core.Bool.{Bool, true, false≢true}
@@ -19,7 +19,7 @@ use Rattle.relation_words.specs.Words.{wordOf}
 use Rattle.relation_words.specs.Wanted.{Wanted, wantedBy}
 use Rattle.relation_words.specs.Heard.{wholeOf, mayHear, HeardOn}
 use Rattle.relation_truth.specs.Values.{operandOf, OperandIn, signIn}
-use Rattle.relations.specs.Places.{wantsName, wantsOperand, wantsConstant, wantsOpen, wantsMark, wantsSign, onlyWords}
+use Rattle.relations.specs.Expected.{wantsName, wantsOperand, wantsConstant, wantsOpen, wantsMark, wantsSign, onlyWords}
 use Rattle.relations.specs.Reading.{OperandAt}
 
 -- ---- what was heard
