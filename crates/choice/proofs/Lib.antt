@@ -1,6 +1,9 @@
 pub mod SlotLaws
 pub mod HandLaws
+pub mod OrderLaws
 pub mod LevelLaws
 pub mod PassingLaws
 pub mod WalkLaws
+pub mod BlockLaws
+pub mod SharedLaws
 pub mod ChosenLaws

@@ -89,7 +89,7 @@ slot-in q r level place l p =
 
 -- ---- the tests
 
-no-day : (a b : Bool) → (a && (b && false)) ≡ false
+pub no-day : (a b : Bool) → (a && (b && false)) ≡ false
 no-day true b = and-false b
 no-day false b = refl
 
@@ -204,15 +204,17 @@ module _ (t article table : List ℕ) (terms : Terms) (at : ℕ) {b : Bool} (s :
   told : (q : Question) → Asks q article table terms → Tests.isRow (q .article) (q .sort) (whole kinded t) ≡ b
   told q a = (λ i. Tests.isRow (a .article i) (a .sort i) (whole kinded t)) ∙ s .is
 
-  pub passes-row : {row : PriceRow} {p : Passing} → b ≡ true → RowIs t row → RowPasses table terms at (rowIn t row) p
-      → Passes article table terms at (whole kinded t) p
+  pub row-is : {row : PriceRow} → b ≡ true → RowIs t row → (q : Question) → Asks q article table terms → passingOf q at (rowIn t row) ≡ passingIn q at (whole kinded t)
   unfolding passingIn Tests.isRow
-  passes-row {row} {p} e r h = record {
-    below = h .below;
-    of = λ q a.
-        let own : isOwn q (rowIn t row) ≡ true = sym (ap (Tests.isRow (q .article) (q .sort)) (r .is)) ∙ told q a ∙ e in
-        h .of q a ∙ ap (λ (x : Bool). cond x (passingOf q at (rowIn t row)) uncounted) (sym own) ∙ ap (passingIn q at) (sym (r .is));
-  }
+  row-is {row} e r q a =
+      let own : isOwn q (rowIn t row) ≡ true = sym (ap (Tests.isRow (q .article) (q .sort)) (r .is)) ∙ told q a ∙ e in
+      ap (λ (x : Bool). cond x (passingOf q at (rowIn t row)) uncounted) (sym own) ∙ ap (passingIn q at) (sym (r .is))
+
+  pub other-is : b ≡ false → (q : Question) → Asks q article table terms → uncounted ≡ passingIn q at (whole kinded t)
+  other-is e q a = sym (foreign q at (whole kinded t) (told q a ∙ e))
+
+  pub passes-row : {row : PriceRow} {p : Passing} → b ≡ true → RowIs t row → RowPasses table terms at (rowIn t row) p → Passes article table terms at (whole kinded t) p
+  passes-row e r h = record { below = h .below; of = λ q a. h .of q a ∙ row-is e r q a }
 
   pub passes-other : b ≡ false → Passes article table terms at (whole kinded t) uncounted
-  passes-other e = record { below = omega arith; of = λ q a. sym (foreign q at (whole kinded t) (told q a ∙ e)) }
+  passes-other e = record { below = omega arith; of = other-is e }

@@ -27,8 +27,11 @@ isEmpty h = eqb (h .at) 0
 unfoldable pub limitOf : ℕ → ℕ
 limitOf upto = cond (eqb upto 0) (2 ^ 32) upto
 
+-- as the rules have it; and of two rows that are alike in this, the one that stands first in the book
 unfoldable pub betterHand : Hand → Hand → Bool
-betterHand new old = ltb (limitOf (new .upto)) (limitOf (old .upto)) || (eqb (limitOf (new .upto)) (limitOf (old .upto)) && ltb (old .from) (new .from))
+betterHand new old =
+    ltb (limitOf (new .upto)) (limitOf (old .upto))
+    || (eqb (limitOf (new .upto)) (limitOf (old .upto)) && (ltb (old .from) (new .from) || (eqb (new .from) (old .from) && ltb (new .at) (old .at))))
 
 unfoldable pub handAfter : Bool → Hand → Hand → Hand
 handAfter counts old new = cond counts (cond (isEmpty old) new (cond (betterHand new old) new old)) old

@@ -1,3 +1,4 @@
 pub mod Slots
 pub mod Hands
 pub mod Walk
+pub mod Block

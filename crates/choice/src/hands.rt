@@ -71,12 +71,14 @@ fn limit(upto: u32) -> u64
     if upto == 0 { 4294967296 } else { upto as u64 }
 }
 
+// By limit, then by first day, then by where they stand in the book: so it does not matter in which order rows go by.
 fn better(new: Hand, old: Hand) -> bool
     ensures { λ r. ⌜ Says (betterHand new old) r ⌝ }
 {
     let a = limit(new.upto);
     let b = limit(old.upto);
-    (a < b) | ((a == b) & (old.from < new.from))
+    let sooner = (new.from == old.from) & (new.at < old.at);
+    (a < b) | ((a == b) & ((old.from < new.from) | sooner))
 }
 
 // The row in hand once another goes by, if that counts.

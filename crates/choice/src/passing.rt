@@ -40,7 +40,7 @@ fn slot_at(level: Level, place: usize) -> usize
 }
 
 // The slot of a row of the asked article and sort: none if its condition is not granted.
-fn slot_of(t: &[u8], row: PriceRow, table: &[u8], terms: Terms) -> usize
+pub fn slot_of(t: &[u8], row: PriceRow, table: &[u8], terms: Terms) -> usize
     requires { ⌜ RowIs (now t) row ⌝ }
     requires { ⌜ Tabled (now table) terms ⌝ }
     ensures { λ r. ⌜ SlotIs (now (table .entry)) terms (rowIn (now (t .entry)) row) r ⌝ }
@@ -95,7 +95,7 @@ fn is_asked(asked: Currency, currency: Currency) -> bool
 }
 
 // A row of the asked article and sort, whose record stands at `at`. Few hold that day: only of these the condition is looked for.
-fn row_passing(t: &[u8], row: PriceRow, at: usize, table: &[u8], terms: Terms) -> Passing
+pub fn row_passing(t: &[u8], row: PriceRow, at: usize, table: &[u8], terms: Terms) -> Passing
     requires { ⌜ RowIs (now t) row ⌝ }
     requires { ⌜ Tabled (now table) terms ⌝ }
     ensures { λ r. ⌜ RowPasses (now (table .entry)) terms at (rowIn (now (t .entry)) row) r ⌝ }
