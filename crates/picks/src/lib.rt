@@ -2,9 +2,12 @@
 mod held;
 
 use crate::held::held_in;
+use choice::Shared;
+use choice::block::MOST_LISTED;
 use choice::hands::Seen;
 use choice::rows::row_at;
 use choice::slots_for;
+use choice::slots_on;
 use grants::factor_at;
 use grants::terms::Terms;
 use lines::Pick;
@@ -21,9 +24,11 @@ use rules::Way;
 use survey::window::MANY;
 use survey::window::Window;
 ghost use Prim.Native.Nat.{_≤_};
+ghost use lib.ListN.{take};
 ghost use Rattle.rules.specs.Question.{mostFactor};
 ghost use Rattle.lookup.specs.Roundings.{SpotsFound};
 ghost use Rattle.grants.specs.Asks.{Asked};
+ghost use Rattle.choice.specs.Block.{SharedOn};
 ghost use Rattle.survey.specs.Window.{Windows};
 ghost use Rattle.choice.specs.Hands.{RowStands};
 ghost use Rattle.picks.specs.Picks.{RoundingsIn, RowFound, RowPicked, Filled, PicksFrom, PickedFor};
@@ -120,5 +125,33 @@ pub fn picks_within(b: &[u8], window: Window, article: &[u8], table: &[u8], term
 {
     let last = window.last;
     let slots = slots_for(&b[..last], window.first, article, table, terms);
+    picks_from(b, slots, window, terms.names, table)
+}
+
+// The same on a day of a block, by what its days share and the rows that are listed for them.
+pub fn picks_on(
+    b: &[u8],
+    window: Window,
+    article: &[u8],
+    table: &[u8],
+    terms: Terms,
+    shared: Shared,
+    listed: &[usize; MOST_LISTED],
+) -> Picks
+    requires { ⌜ Asked (now article) (now table) terms ⌝ }
+    requires { ⌜ Windows (now b) 5 (now article) (terms .sort) window ⌝ }
+    requires { ⌜ SharedOn (take (window .last) (now b)) (window .first) (now article) (now table) terms shared (now listed) ⌝ }
+    ensures { λ r. ⌜ PickedFor (now (b .entry)) (now (article .entry)) (now (table .entry)) terms r ⌝ }
+{
+    let last = window.last;
+    let slots = slots_on(
+        &b[..last],
+        window.first,
+        article,
+        table,
+        terms,
+        shared,
+        listed,
+    );
     picks_from(b, slots, window, terms.names, table)
 }
