@@ -3,14 +3,20 @@
 mod unused;
 
 use crate::unused::unused;
+use choice::block::MOST_LISTED;
 use grants::places::Places;
 use grants::terms::Terms;
 use lines::Pick;
 use lines::verdict::Verdict;
 use lines::verdict::judge;
+use picks::picks_on;
 use picks::picks_within;
 use rules::Outcome;
 use survey::window::Window;
+pub use choice::Shared;
+pub use choice::shared_for;
+ghost use lib.ListN.{take};
+ghost use Rattle.choice.specs.Block.{SharedOn};
 ghost use Rattle.grants.specs.Asks.{Asked};
 ghost use Rattle.survey.specs.Window.{Windows};
 ghost use Rattle.quote.specs.Quote.{QuoteIs, OutcomeFor};
@@ -42,13 +48,22 @@ pub fn quote_of(b: &[u8], w: Window, article: &[u8], table: &[u8], terms: Terms)
     }
 }
 
-// The outcome alone: what a calendar asks, day after day.
-pub fn outcome_of(b: &[u8], w: Window, article: &[u8], table: &[u8], terms: Terms) -> Outcome
+// The outcome alone: what a calendar asks, day after day. By what the days of a block share and the rows that are listed for them.
+pub fn outcome_on(
+    b: &[u8],
+    w: Window,
+    article: &[u8],
+    table: &[u8],
+    terms: Terms,
+    shared: Shared,
+    listed: &[usize; MOST_LISTED],
+) -> Outcome
     requires { ⌜ Asked (now article) (now table) terms ⌝ }
     requires { ⌜ Windows (now b) 5 (now article) (terms .sort) w ⌝ }
+    requires { ⌜ SharedOn (take (w .last) (now b)) (w .first) (now article) (now table) terms shared (now listed) ⌝ }
     ensures { λ r. ⌜ OutcomeFor (now (b .entry)) (now (article .entry)) (now (table .entry)) terms r ⌝ }
 {
-    let picks = picks_within(b, w, article, table, terms);
+    let picks = picks_on(b, w, article, table, terms, shared, listed);
     let rows = picks.rows;
     let verdict = judge(rows, picks.n);
     verdict.outcome
