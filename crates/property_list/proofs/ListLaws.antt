@@ -15,12 +15,13 @@ use Rattle.rules.specs.Layout.{byte, times, wholly}
 use Rattle.rules.proofs.TestLaws.{is-between}
 use Rattle.layout.specs.Reads.{Reads}
 use Rattle.layout.specs.Ensures.{Number}
-use Rattle.layout.specs.Counted.{valuesAt, AllStand}
+use Rattle.layout.specs.Counted.{valuesAt, AllStand, stopAfter}
 use Rattle.layout.proofs.LayoutLaws.{then-reads, then-broken, reads-as, such-reads, byte-at, byte-cut, whole-is}
 use Rattle.layout.proofs.ReadingLaws.{times-step, whole-at}
 use Rattle.layout.proofs.CountedLaws.{SomeEnd, ends-stands}
 use Rattle.relation_rules.specs.Truth.{held, heldList, propertiesOf}
-use Rattle.property_list.specs.Listed.{heldAt, heldStop, HeldEnds, HeldStand, heldFrom}
+use Rattle.property_list.specs.Listed.{heldAt, heldStop, HeldEnds, heldFrom}
+use Rattle.property_list.specs.Slots.{HeldPass}
 use Rattle.property_list.proofs.HeldLaws.{held-any}
 
 -- ---- the loop
@@ -78,27 +79,27 @@ module _ {s : List ℕ} {end : ℕ} where
 
 pub record Listed (s : List ℕ) : Type 0 where
   pub there : 1 ≤ length s
-  pub stand : HeldStand s 1 (getD s 0 0)
+  pub passing : HeldPass s 1 (getD s 0 0)
   pub are : propertiesOf s ≡ some (heldFrom s 1 (getD s 0 0))
 
 module _ (s : List ℕ) (k : isSome (propertiesOf s) ≡ true) where
-  all-there : (n end : ℕ) → Left s end n → HeldStand s end n × (propertiesOf s ≡ some (heldFrom s 1 (getD s 0 0)))
-  unfolding AllStand propertiesOf
+  all-there : (n end : ℕ) → Left s end n → HeldPass s end n × (propertiesOf s ≡ some (heldFrom s 1 (getD s 0 0)))
+  unfolding AllStand stopAfter propertiesOf
   all-there zero end inv =
       let whole-list = sym (whole-at heldList (list-reads inv) (inv .fits)) ∙ k in
-      (record { fits = inv .fits; each = tt }, whole-is heldList (list-reads inv) (omega (arith, eqb-true end (length s) whole-list)))
+      (record { left = record { fits = inv .fits; each = tt }; ends = eqb-true end (length s) whole-list }, whole-is heldList (list-reads inv) (omega (arith, eqb-true end (length s) whole-list)))
   all-there (suc n) end inv = go (λ e i. all-there n e i) (held-any s end (inv .fits))
     where
-      go : ((e : ℕ) → Left s e n → HeldStand s e n × (propertiesOf s ≡ some (heldFrom s 1 (getD s 0 0)))) → SomeEnd held heldAt heldStop s end
-          → HeldStand s end (suc n) × (propertiesOf s ≡ some (heldFrom s 1 (getD s 0 0)))
+      go : ((e : ℕ) → Left s e n → HeldPass s e n × (propertiesOf s ≡ some (heldFrom s 1 (getD s 0 0)))) → SomeEnd held heldAt heldStop s end
+          → HeldPass s end (suc n) × (propertiesOf s ≡ some (heldFrom s 1 (getD s 0 0)))
       go ih (r, p) = by (decLt 0 r)
         where
-          by : Dec (0 < r) → HeldStand s end (suc n) × (propertiesOf s ≡ some (heldFrom s 1 (getD s 0 0)))
+          by : Dec (0 < r) → HeldPass s end (suc n) × (propertiesOf s ≡ some (heldFrom s 1 (getD s 0 0)))
           by (no h) = absurd (false≢true (list-broken inv (omega arith) p (omega arith) ∙ k))
           by (yes h) =
               let e : suc n - 1 ≡ n = omega arith in
               let x = ih (heldStop s end) (rw (e, p .stops h) at (list-again inv (omega arith) p h)) in
-              (record { fits = inv .fits; each = (ends-stands p h, x .0 .each) }, x .1)
+              (record { left = record { fits = inv .fits; each = (ends-stands p h, x .0 .left .each) }; ends = x .0 .ends }, x .1)
 
   pub listed : Listed s
   listed = first (decLt (length s) 1)
@@ -108,7 +109,7 @@ module _ (s : List ℕ) (k : isSome (propertiesOf s) ≡ true) where
 
       second : 1 ≤ length s → Dec (64 < getD s 0 0) → Listed s
       second h (yes g) = absurd (false≢true (list-many s h g ∙ k))
-      second h (no g) = let x = all-there (getD s 0 0) 1 (list-start s h size (omega arith)) in record { there = h; stand = x .0; are = x .1 }
+      second h (no g) = let x = all-there (getD s 0 0) 1 (list-start s h size (omega arith)) in record { there = h; passing = x .0; are = x .1 }
 
       first : Dec (length s < 1) → Listed s
       first (yes h) = absurd (false≢true (list-empty s h ∙ k))

@@ -10,7 +10,7 @@ use native.Mathlib.Decide.{decLt}
 use lib.Dec.{eqb}
 use lib.ListN.{length, getD}
 use borrow.Author.Tests.{ne-eqb}
-use Rattle.rules.specs.Lists.{any, same, isSome, first, pick, ifSome}
+use Rattle.rules.specs.Lists.{any, same, first, pick, ifSome}
 use Rattle.rules.specs.Layout.{_>>=_, give}
 use Rattle.rules.specs.Bytes.{oneOf, raise}
 use Rattle.layout.specs.Reads.{Reads, part, nameStop, nameAt}
@@ -19,10 +19,10 @@ use Rattle.layout.specs.Counted.{valuesAt}
 use Rattle.layout.proofs.LayoutLaws.{then-broken, one-of-at, one-of-cut}
 use Rattle.layout.proofs.ReadingLaws.{then-good, then-behind}
 use Rattle.layout.proofs.NameEndLaws.{name-any}
-use Rattle.layout.proofs.CountedLaws.{walk-step, walk-here}
+use Rattle.layout.proofs.CountedLaws.{walk-step, pass-here, pass-again, pass-end}
 use Rattle.relation_rules.specs.Truth.{Held, valueOf, propertiesOf, valueIn}
-use Rattle.property_list.specs.Listed.{valueAt, valueStop, valueHere, ValueStands, heldAt, heldStop, HeldStands, HeldStand, heldFrom, KindIs, PositionIs}
-use Rattle.property_list.proofs.ListLaws.{listed}
+use Rattle.property_list.specs.Listed.{valueAt, valueStop, valueHere, ValueStands, heldAt, heldStop, HeldStands, heldFrom, KindIs, PositionIs}
+use Rattle.property_list.specs.Slots.{HeldPass, LooksFrom}
 
 -- ---- the kind byte behind a name
 
@@ -79,34 +79,40 @@ module _ {s : List ℕ} {at : ℕ} (p : ValueStands s at) where
 
 -- ---- the first property of a name
 
--- of n properties from `at` on, the first of the name has the value that counts
-pub record Looking (s name : List ℕ) (at n : ℕ) : Type 0 where
-  pub stand : HeldStand s at n
-  pub rest : (ps : List Held) → propertiesOf s ≡ some ps → valueIn ps name ≡ valueIn (heldFrom s at n) name
-
-module _ (s name : List ℕ) (k : isSome (propertiesOf s) ≡ true) where
-  pub look-there : 0 < length s
-  look-there = listed s k .there
-
-  pub look-start : {n : ℕ} → Number (getD s 0 0) 256 n → Looking s name 1 n
-  look-start {n} p = rw (p .is) (record {
-    stand = listed s k .stand;
-    rest = λ ps e. ap (λ l. valueIn l name) (Option·some-injective ps (heldFrom s 1 (getD s 0 0)) (sym e ∙ listed s k .are));
-  })
-
 here-is : (s : List ℕ) (r : ℕ) → 0 < r → valueHere s r ≡ valueAt (getD s r 0) s (r + 1)
 here-is s zero h = absurd (not-suc-le-zero h)
 here-is s (suc r) h = refl
 
-module _ {s name : List ℕ} {at n : ℕ} (inv : Looking s name at n) where
-  pub look-here : 0 < n → HeldStands s at
-  look-here h = walk-here (inv .stand) h
+-- the value of the property at `at` stops where the property does
+pub stop-is : {s : List ℕ} {at r q : ℕ} → KindIs s at r → q ≡ valueStop (getD s r 0) s (r + 1) → q ≡ heldStop s at
+unfolding heldStop
+stop-is {s} p f = f ∙ ap (λ (k : ℕ). valueStop (getD s k 0) s (k + 1)) (p .is)
 
-  module _ (h : 0 < n) {r : ℕ} {t : Bool} (p : KindIs s at r) (q : Says (same (map raise (part s (at + 1) r)) (map raise name)) t) where
+-- and behind it the list goes on, or ends
+pub stop-further : {s : List ℕ} {at r q : ℕ} → HeldStands s at → KindIs s at r → q ≡ valueStop (getD s r 0) s (r + 1) → (at < q) × (q ≤ length s)
+stop-further {s} {at} h p f = rw (stop-is p f) ((h .low, h .fits))
+
+pub stop-less : {s : List ℕ} {at r q : ℕ} → HeldStands s at → KindIs s at r → q ≡ valueStop (getD s r 0) s (r + 1) → length s - q < length s - at
+stop-less {s} {at} {r} {q} h p f = let x : (at < q) × (q ≤ length s) = stop-further h p f in omega (arith, x .0, x .1)
+
+-- before the end of the list a property is left
+pub some-left : {s : List ℕ} {at n : ℕ} → HeldPass s at n → at < length s → 0 < n
+some-left {n = n} p h = go (decLt 0 n)
+  where
+    go : Dec (0 < n) → 0 < n
+    go (yes l) = l
+    go (no l) = absurd (omega (arith, pass-end p (omega arith)))
+
+module _ {s name : List ℕ} {at : ℕ} (inv : LooksFrom s name at) where
+  pub look-here : at < length s → HeldStands s at
+  look-here h = pass-here (inv .passing) (some-left (inv .passing) h)
+
+  module _ (h : at < length s) {r : ℕ} {t : Bool} (p : KindIs s at r) (q : Says (same (map raise (part s (at + 1) r)) (map raise name)) t) where
     -- the first of them decides, or the others do
-    stepped : (ps : List Held) → propertiesOf s ≡ some ps → valueIn ps name ≡ ifSome (pick t (heldAt s at) (first (λ x. same (map raise (x .name)) (map raise name)) (heldFrom s (heldStop s at) (n - 1)))) none (λ x. x .value)
+    stepped : (ps : List Held) → propertiesOf s ≡ some ps
+        → valueIn ps name ≡ ifSome (pick t (heldAt s at) (first (λ x. same (map raise (x .name)) (map raise name)) (heldFrom s (heldStop s at) (inv .left - 1)))) none (λ x. x .value)
     unfolding valueIn heldAt
-    stepped ps e = inv .rest ps e ∙ rw (walk-step (inv .stand) h .values, ← p .is, q .is)
+    stepped ps e = inv .rest ps e ∙ rw (walk-step (inv .passing .left) (some-left (inv .passing) h) .values, ← p .is, q .is)
 
     pub look-found : t ≡ true → PositionIs s name r
     unfolding heldAt
@@ -115,16 +121,18 @@ module _ {s name : List ℕ} {at n : ℕ} (inv : Looking s name at n) where
       stands = λ g. p .stands;
     }
 
-    pub look-again : {q : ℕ} → t ≡ false → q ≡ valueStop (getD s r 0) s (r + 1) → Looking s name q (n - 1)
-    unfolding heldStop valueIn
-    look-again {q} e f =
-        let g : q ≡ heldStop s at = f ∙ ap (λ (k : ℕ). valueStop (getD s k 0) s (k + 1)) (p .is) in
-        rw g (record { stand = walk-step (inv .stand) h .rest; rest = λ ps i. stepped ps i ∙ rw e })
+    pub look-again : {q : ℕ} → t ≡ false → q ≡ valueStop (getD s r 0) s (r + 1) → LooksFrom s name q
+    unfolding valueIn
+    look-again {q} e f = record {
+      left = inv .left - 1;
+      passing = pass-again (inv .passing) (some-left (inv .passing) h) (stop-is p f);
+      rest = λ ps i. stepped ps i ∙ rw (e, stop-is p f);
+    }
 
-  pub look-end : n ≤ 0 → PositionIs s name 0
+  pub look-end : length s ≤ at → PositionIs s name 0
   unfolding valueIn valuesAt
-  look-end h = record { is = λ ps e. inv .rest ps e ∙ go n h; stands = λ g. absurd (not-suc-le-zero g) }
+  look-end h = record { is = λ ps e. inv .rest ps e ∙ go (inv .left) (inv .passing); stands = λ g. absurd (not-suc-le-zero g) }
     where
-      go : (n : ℕ) → n ≤ 0 → valueIn (heldFrom s at n) name ≡ none
-      go zero h = refl
-      go (suc n) h = absurd (not-suc-le-zero h)
+      go : (n : ℕ) → HeldPass s at n → valueIn (heldFrom s at n) name ≡ none
+      go zero p = refl
+      go (suc n) p = let x = pass-here p (omega arith) in absurd (omega (arith, x .low, x .fits))

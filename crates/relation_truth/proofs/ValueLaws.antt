@@ -21,6 +21,7 @@ use Rattle.relation_rules.specs.Grammar.{capital, Number}
 use Rattle.relation_rules.specs.Truth.{Held, propertiesOf, valueIn, operandValue}
 use Rattle.relation_words.specs.Heard.{wholeOf}
 use Rattle.property_list.specs.Listed.{ValueStands, PositionIs, valueAt, valueStop, valueHere}
+use Rattle.property_list.specs.Slots.{SlotsOf}
 use Rattle.relation_truth.specs.declared.values.Value.{Value}
 use Rattle.relation_truth.specs.Values.{heldIn, operandOf, OperandIn, noValue, aString, aNumber, wholeIn, ListedIs, ValueIs}
 
@@ -104,9 +105,9 @@ pub position-stands : {p n : List ℕ} {at : ℕ} → PositionIs p n at → 1 �
 position-stands q h = q .stands h
 
 module _ (s p : List ℕ) (kind from to : ℕ) (below : Bool) (size : ℕ) where
-  module _ (k : isSome (propertiesOf p) ≡ true) {at : ℕ} (q : PositionIs p (part s from to) at) (e : kind ≡ 2) where
+  module _ {slots : List ℕ} (k : SlotsOf p slots) {at : ℕ} (q : PositionIs p (part s from to) at) (e : kind ≡ 2) where
     named : operandValue (heldIn p) (operandOf s kind from to below size) ≡ valueHere p at
-    named = rw e (in-capitals (heldIn p) (part s from to) ∙ q .is (heldIn p) (some-held p k))
+    named = rw e (in-capitals (heldIn p) (part s from to) ∙ q .is (heldIn p) (some-held p (k .accepted)))
 
     pub value-unlisted : {r : Value} → at < 1 → r ≡ noValue → ValueIs s p (operandOf s kind from to below size) r
     value-unlisted {r} h f =

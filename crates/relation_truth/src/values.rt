@@ -1,11 +1,10 @@
 // The value of an operand: what stands in the text, or what the list of properties has of a name.
 use crate::listed::listed_value;
 use property_list::positions::position_of;
+use property_list::slots::SLOTS;
 use relation_words::tokens::Found;
 ghost use mathlib.Core.Path.{_≡_};
-ghost use mathlib.Core.Bool.{true};
-ghost use Rattle.rules.specs.Lists.{isSome};
-ghost use Rattle.relation_rules.specs.Truth.{propertiesOf};
+ghost use Rattle.property_list.specs.Slots.{SlotsOf};
 ghost use Rattle.relation_truth.specs.Values.{OperandIn, ValueIs, operandOf, noValue, aString, aNumber};
 
 // `kind`: 0 no value; 3 a string, which stands from `from` to `to` in the list of properties if it is listed, else in the text; 4 a number,
@@ -59,15 +58,15 @@ pub fn a_number(below: bool, size: usize) -> Value
 }
 
 // The value of the operand that was heard: a name's is that of the first property of this name; a string's lies between its quotes.
-pub fn value_of(text: &[u8], p: &[u8], x: Found) -> Value
+pub fn value_of(text: &[u8], p: &[u8], slots: &[usize; SLOTS], x: Found) -> Value
     requires { ⌜ OperandIn (now text) (x .kind) (x .from) (x .to) (x .size) ⌝ }
-    requires { ⌜ isSome (propertiesOf (now p)) ≡ true ⌝ }
+    requires { ⌜ SlotsOf (now p) (now slots) ⌝ }
     ensures { λ r. ⌜ ValueIs (now (text .entry)) (now (p .entry)) (operandOf (now (text .entry)) (x .kind) (x .from) (x .to) (x .below) (x .size)) r ⌝ }
 {
     let from = x.from;
     let to = x.to;
     if x.kind == 2 {
-        let at = position_of(p, &text[from..to]);
+        let at = position_of(p, slots, &text[from..to]);
         if at < 1 {
             return no_value();
         }

@@ -1,17 +1,15 @@
 // An assignment: the variable, its string and the condition that grants it.
 use crate::conditions::Join;
 use crate::conditions::or_chain;
+use property_list::slots::SLOTS;
 use relation_words::bytes::blanks;
 use relation_words::tokens::Found;
 use relation_words::tokens::token;
 use relation_words::tokens::token_here;
 use rules::Part;
 ghost use Prim.Native.Nat.{_≤_};
-ghost use mathlib.Core.Path.{_≡_};
-ghost use mathlib.Core.Bool.{true};
 ghost use lib.ListN.{length};
-ghost use Rattle.rules.specs.Lists.{isSome};
-ghost use Rattle.relation_rules.specs.Truth.{propertiesOf};
+ghost use Rattle.property_list.specs.Slots.{SlotsOf};
 ghost use Rattle.relation_words.specs.Heard.{ByteAt, Heard, HeardOn};
 ghost use Rattle.relation_truth.specs.Values.{heldIn};
 ghost use Rattle.relations.specs.Expected.{wantsVariable, wantsBecomes, wantsString, wantsIf};
@@ -144,9 +142,9 @@ fn no_assignment(number: u8, to: usize) -> Assigned
     }
 }
 
-pub fn assignment(text: &[u8], properties: &[u8], at: usize) -> Assigned
+pub fn assignment(text: &[u8], properties: &[u8], slots: &[usize; SLOTS], at: usize) -> Assigned
     requires { ⌜ at ≤ length (now text) ⌝ }
-    requires { ⌜ isSome (propertiesOf (now properties)) ≡ true ⌝ }
+    requires { ⌜ SlotsOf (now properties) (now slots) ⌝ }
     ensures { λ r. ⌜ AssignmentRead (heldIn (now (properties .entry))) (now (text .entry)) at (r .number) (r .to) (r .next) (r .after) (r .place) (r .name) (r .granted) ⌝ }
 {
     let first = head_at(text, at);
@@ -163,7 +161,7 @@ pub fn assignment(text: &[u8], properties: &[u8], at: usize) -> Assigned
         return no_assignment(14, after);
     }
     if next == 1 {
-        let chain = or_chain(text, properties, after, 16);
+        let chain = or_chain(text, properties, slots, after, 16);
         return Assigned {
             number: chain.number,
             to: chain.to,

@@ -2,6 +2,7 @@
 use crate::simple::Read;
 use crate::simple::simple;
 use crate::starts::start_of;
+use property_list::slots::SLOTS;
 use relation_truth::both_of;
 use relation_truth::either_of;
 use relation_truth::opposite_of;
@@ -9,10 +10,7 @@ use relation_words::bytes::blanks;
 use relation_words::tokens::Found;
 use relation_words::tokens::token_here;
 ghost use Prim.Native.Nat.{_-_, _≤_};
-ghost use mathlib.Core.Path.{_≡_};
-ghost use mathlib.Core.Bool.{true};
-ghost use Rattle.rules.specs.Lists.{isSome};
-ghost use Rattle.relation_rules.specs.Truth.{propertiesOf};
+ghost use Rattle.property_list.specs.Slots.{SlotsOf};
 ghost use Rattle.relation_words.specs.Heard.{ByteAt, Heard};
 ghost use Rattle.relation_truth.specs.Values.{heldIn};
 ghost use Rattle.relations.specs.Expected.{wantsJoin};
@@ -90,9 +88,9 @@ pub fn stopped(number: u8, to: usize) -> Chain
 }
 
 // Its NOTs are passed over first, however many there are; only a parenthesis calls back into a chain.
-pub fn single(text: &[u8], properties: &[u8], at: usize, depth: u8) -> Read
+pub fn single(text: &[u8], properties: &[u8], slots: &[usize; SLOTS], at: usize, depth: u8) -> Read
     requires { ⌜ DepthAt (now text) at depth ⌝ }
-    requires { ⌜ isSome (propertiesOf (now properties)) ≡ true ⌝ }
+    requires { ⌜ SlotsOf (now properties) (now slots) ⌝ }
     ensures { λ r. ⌜ SingleRead (heldIn (now (properties .entry))) (16 - depth) (now (text .entry)) at (r .number) (r .to) (r .truth) ⌝ }
 {
     let start = start_of(text, at);
@@ -105,11 +103,11 @@ pub fn single(text: &[u8], properties: &[u8], at: usize, depth: u8) -> Read
         if depth == 0 {
             return refused(15, from);
         }
-        let inside = or_chain(text, properties, from + 1, depth - 1);
+        let inside = or_chain(text, properties, slots, from + 1, depth - 1);
         let whole = closed(inside);
         return turned_by(whole, turned);
     }
-    let plain = simple(text, properties, start.at, start.first);
+    let plain = simple(text, properties, slots, start.at, start.first);
     turned_by(plain, turned)
 }
 
@@ -152,15 +150,21 @@ fn turned_by(behind: Read, turned: bool) -> Read
     behind
 }
 
-pub fn and_chain(text: &[u8], properties: &[u8], at: usize, depth: u8) -> Chain
+pub fn and_chain(
+    text: &[u8],
+    properties: &[u8],
+    slots: &[usize; SLOTS],
+    at: usize,
+    depth: u8,
+) -> Chain
     requires { ⌜ DepthAt (now text) at depth ⌝ }
-    requires { ⌜ isSome (propertiesOf (now properties)) ≡ true ⌝ }
+    requires { ⌜ SlotsOf (now properties) (now slots) ⌝ }
     ensures { λ r. ⌜ AndRead (heldIn (now (properties .entry))) (16 - depth) (now (text .entry)) at (r .number) (r .to) (r .truth) (r .next) (r .after) ⌝ }
 {
     let mut from = at;
     let mut truth = 1;
     loop {
-        let one = single(text, properties, from, depth);
+        let one = single(text, properties, slots, from, depth);
         let to = one.to;
         let number = one.number;
         if number != 0 {
@@ -186,15 +190,21 @@ pub fn and_chain(text: &[u8], properties: &[u8], at: usize, depth: u8) -> Chain
     }
 }
 
-pub fn or_chain(text: &[u8], properties: &[u8], at: usize, depth: u8) -> Chain
+pub fn or_chain(
+    text: &[u8],
+    properties: &[u8],
+    slots: &[usize; SLOTS],
+    at: usize,
+    depth: u8,
+) -> Chain
     requires { ⌜ DepthAt (now text) at depth ⌝ }
-    requires { ⌜ isSome (propertiesOf (now properties)) ≡ true ⌝ }
+    requires { ⌜ SlotsOf (now properties) (now slots) ⌝ }
     ensures { λ r. ⌜ OrRead (heldIn (now (properties .entry))) (16 - depth) (now (text .entry)) at (r .number) (r .to) (r .truth) (r .next) (r .after) ⌝ }
 {
     let mut from = at;
     let mut truth = 2;
     loop {
-        let chain = and_chain(text, properties, from, depth);
+        let chain = and_chain(text, properties, slots, from, depth);
         let to = chain.to;
         let number = chain.number;
         let next = chain.next;

@@ -1,6 +1,7 @@
 // The names that a relation text derives from properties.
 use crate::assignments::assignment;
 use layout::names::all_name_bytes;
+use property_list::slots::slots_of;
 use rules::Part;
 ghost use Prim.Native.Nat.{_≤_};
 ghost use mathlib.Core.Path.{_≡_};
@@ -74,10 +75,11 @@ pub fn names_of(text: &[u8], properties: &[u8]) -> Names
     requires { ⌜ isSome (propertiesOf (now properties)) ≡ true ⌝ }
     ensures { λ r. ⌜ NamesIs (now (text .entry)) (heldIn (now (properties .entry))) r ⌝ }
 {
+    let slots = slots_of(properties);
     let mut at = 0;
     let mut names = no_names(0, 0);
     loop {
-        let one = assignment(text, properties, at);
+        let one = assignment(text, properties, &slots, at);
         let number = one.number;
         let to = one.to;
         if number != 0 {

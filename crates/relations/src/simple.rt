@@ -5,17 +5,16 @@ use crate::expected::name_at;
 use crate::expected::open_at;
 use crate::expected::operand_at;
 use crate::expected::sign_at;
+use property_list::slots::SLOTS;
 use relation_truth::comparing::compared_as;
 use relation_truth::either_of;
 use relation_truth::values::Value;
 use relation_truth::values::value_of;
 use relation_words::tokens::Found;
 ghost use Prim.Native.Nat.{_≤_};
-ghost use mathlib.Core.Path.{_≡_};
-ghost use mathlib.Core.Bool.{true};
 ghost use lib.ListN.{length};
-ghost use Rattle.rules.specs.Lists.{isSome};
-ghost use Rattle.relation_rules.specs.Truth.{propertiesOf, operandValue, comparison};
+ghost use Rattle.relation_rules.specs.Truth.{operandValue, comparison};
+ghost use Rattle.property_list.specs.Slots.{SlotsOf};
 ghost use Rattle.relation_truth.specs.Told.{TruthIs};
 ghost use Rattle.relation_truth.specs.Values.{heldIn, operandOf, OperandIn, constantIn, signNo, ValueIn};
 ghost use Rattle.relations.specs.Reading.{OperandAt, EqualTo, ValuesRead, AmongRead, NameRead, SimpleRead, FirstAt};
@@ -28,34 +27,47 @@ pub struct Read {
 }
 
 // Whether a comparison of two operands holds.
-fn comparison_of(text: &[u8], properties: &[u8], x: Found, sign: usize, y: Found) -> u8
+fn comparison_of(
+    text: &[u8],
+    properties: &[u8],
+    slots: &[usize; SLOTS],
+    x: Found,
+    sign: usize,
+    y: Found,
+) -> u8
     requires { ⌜ OperandIn (now text) (x .kind) (x .from) (x .to) (x .size) ⌝ }
     requires { ⌜ OperandIn (now text) (y .kind) (y .from) (y .to) (y .size) ⌝ }
-    requires { ⌜ isSome (propertiesOf (now properties)) ≡ true ⌝ }
+    requires { ⌜ SlotsOf (now properties) (now slots) ⌝ }
     ensures { λ r. ⌜ TruthIs (comparison (heldIn (now (properties .entry))) (operandOf (now (text .entry)) (x .kind) (x .from) (x .to) (x .below) (x .size)) (signNo sign) (operandOf (now (text .entry)) (y .kind) (y .from) (y .to) (y .below) (y .size))) r ⌝ }
 {
-    let a = value_of(text, properties, x);
-    let b = value_of(text, properties, y);
+    let a = value_of(text, properties, slots, x);
+    let b = value_of(text, properties, slots, y);
     let raised = (x.kind == 2) | (y.kind == 2);
     compared_as(text, properties, raised, sign, a, b)
 }
 
 // Whether a property's value is the constant that was heard.
-fn equal_to(text: &[u8], properties: &[u8], value: Value, x: Found) -> u8
+fn equal_to(text: &[u8], properties: &[u8], slots: &[usize; SLOTS], value: Value, x: Found) -> u8
     requires { ⌜ ValueIn (now text) (now properties) value ⌝ }
     requires { ⌜ OperandIn (now text) (x .kind) (x .from) (x .to) (x .size) ⌝ }
-    requires { ⌜ isSome (propertiesOf (now properties)) ≡ true ⌝ }
+    requires { ⌜ SlotsOf (now properties) (now slots) ⌝ }
     ensures { λ r. ⌜ EqualTo (constantIn (now (text .entry)) (now (properties .entry)) value) (heldIn (now (properties .entry))) (now (text .entry)) (x .kind) (x .from) (x .to) (x .below) (x .size) r ⌝ }
 {
-    let other = value_of(text, properties, x);
+    let other = value_of(text, properties, slots, x);
     compared_as(text, properties, true, 5, value, other)
 }
 
 // The constants behind the parenthesis of IN, up to the one that closes it.
-pub fn values(text: &[u8], properties: &[u8], at: usize, value: Value) -> Read
+pub fn values(
+    text: &[u8],
+    properties: &[u8],
+    slots: &[usize; SLOTS],
+    at: usize,
+    value: Value,
+) -> Read
     requires { ⌜ at ≤ length (now text) ⌝ }
     requires { ⌜ ValueIn (now text) (now properties) value ⌝ }
-    requires { ⌜ isSome (propertiesOf (now properties)) ≡ true ⌝ }
+    requires { ⌜ SlotsOf (now properties) (now slots) ⌝ }
     ensures { λ r. ⌜ ValuesRead (constantIn (now (text .entry)) (now (properties .entry)) value) (now (text .entry)) at (r .number) (r .to) (r .truth) ⌝ }
 {
     let mut from = at;
@@ -70,7 +82,7 @@ pub fn values(text: &[u8], properties: &[u8], at: usize, value: Value) -> Read
                 truth: 0,
             };
         }
-        truth = either_of(truth, equal_to(text, properties, value, one));
+        truth = either_of(truth, equal_to(text, properties, slots, value, one));
         let mark = mark_at(text, to);
         let behind = mark.to;
         if mark.kind == 0 {
@@ -92,10 +104,10 @@ pub fn values(text: &[u8], properties: &[u8], at: usize, value: Value) -> Read
 }
 
 // Behind IN: its parenthesis and the constants.
-pub fn among(text: &[u8], properties: &[u8], at: usize, x: Found) -> Read
+pub fn among(text: &[u8], properties: &[u8], slots: &[usize; SLOTS], at: usize, x: Found) -> Read
     requires { ⌜ at ≤ length (now text) ⌝ }
     requires { ⌜ OperandIn (now text) (x .kind) (x .from) (x .to) (x .size) ⌝ }
-    requires { ⌜ isSome (propertiesOf (now properties)) ≡ true ⌝ }
+    requires { ⌜ SlotsOf (now properties) (now slots) ⌝ }
     ensures { λ r. ⌜ AmongRead (operandValue (heldIn (now (properties .entry))) (operandOf (now (text .entry)) (x .kind) (x .from) (x .to) (x .below) (x .size))) (now (text .entry)) at (r .number) (r .to) (r .truth) ⌝ }
 {
     let open = open_at(text, at);
@@ -107,14 +119,14 @@ pub fn among(text: &[u8], properties: &[u8], at: usize, x: Found) -> Read
             truth: 0,
         };
     }
-    let value = value_of(text, properties, x);
-    values(text, properties, to, value)
+    let value = value_of(text, properties, slots, x);
+    values(text, properties, slots, to, value)
 }
 
 // Behind SPECIFIED: a name.
-pub fn specified(text: &[u8], properties: &[u8], at: usize) -> Read
+pub fn specified(text: &[u8], properties: &[u8], slots: &[usize; SLOTS], at: usize) -> Read
     requires { ⌜ at ≤ length (now text) ⌝ }
-    requires { ⌜ isSome (propertiesOf (now properties)) ≡ true ⌝ }
+    requires { ⌜ SlotsOf (now properties) (now slots) ⌝ }
     ensures { λ r. ⌜ NameRead (heldIn (now (properties .entry))) (now (text .entry)) at (r .number) (r .to) (r .truth) ⌝ }
 {
     let name = name_at(text, at);
@@ -126,7 +138,7 @@ pub fn specified(text: &[u8], properties: &[u8], at: usize) -> Read
             truth: 0,
         };
     }
-    let value = value_of(text, properties, name);
+    let value = value_of(text, properties, slots, name);
     if value.kind == 0 {
         return Read {
             number: 0,
@@ -142,9 +154,15 @@ pub fn specified(text: &[u8], properties: &[u8], at: usize) -> Read
 }
 
 // A comparison or IN, whose first operand was heard.
-pub fn comparison(text: &[u8], properties: &[u8], at: usize, first: Found) -> Read
+pub fn comparison(
+    text: &[u8],
+    properties: &[u8],
+    slots: &[usize; SLOTS],
+    at: usize,
+    first: Found,
+) -> Read
     requires { ⌜ OperandAt (now text) at (first .kind) (first .from) (first .to) (first .below) (first .size) ⌝ }
-    requires { ⌜ isSome (propertiesOf (now properties)) ≡ true ⌝ }
+    requires { ⌜ SlotsOf (now properties) (now slots) ⌝ }
     ensures { λ r. ⌜ SimpleRead (heldIn (now (properties .entry))) (now (text .entry)) at (r .number) (r .to) (r .truth) ⌝ }
 {
     let sign = sign_at(text, first.to, first.kind == 2);
@@ -158,7 +176,7 @@ pub fn comparison(text: &[u8], properties: &[u8], at: usize, first: Found) -> Re
         };
     }
     if which == 14 {
-        return among(text, properties, behind, first);
+        return among(text, properties, slots, behind, first);
     }
     let other = operand_at(text, behind);
     let to = other.to;
@@ -169,7 +187,7 @@ pub fn comparison(text: &[u8], properties: &[u8], at: usize, first: Found) -> Re
             truth: 0,
         };
     }
-    let truth = comparison_of(text, properties, first, which, other);
+    let truth = comparison_of(text, properties, slots, first, which, other);
     Read {
         number: 0,
         to,
@@ -178,9 +196,15 @@ pub fn comparison(text: &[u8], properties: &[u8], at: usize, first: Found) -> Re
 }
 
 // A condition by its first token, which is neither a parenthesis nor NOT.
-pub fn simple(text: &[u8], properties: &[u8], at: usize, first: Found) -> Read
+pub fn simple(
+    text: &[u8],
+    properties: &[u8],
+    slots: &[usize; SLOTS],
+    at: usize,
+    first: Found,
+) -> Read
     requires { ⌜ FirstAt (now text) at (first .kind) (first .which) (first .from) (first .to) (first .below) (first .size) ⌝ }
-    requires { ⌜ isSome (propertiesOf (now properties)) ≡ true ⌝ }
+    requires { ⌜ SlotsOf (now properties) (now slots) ⌝ }
     ensures { λ r. ⌜ SimpleRead (heldIn (now (properties .entry))) (now (text .entry)) at (r .number) (r .to) (r .truth) ⌝ }
 {
     let to = first.to;
@@ -192,7 +216,7 @@ pub fn simple(text: &[u8], properties: &[u8], at: usize, first: Found) -> Read
         };
     }
     if first.kind == 1 {
-        return specified(text, properties, to);
+        return specified(text, properties, slots, to);
     }
-    comparison(text, properties, at, first)
+    comparison(text, properties, slots, at, first)
 }

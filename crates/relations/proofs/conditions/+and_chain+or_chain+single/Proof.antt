@@ -31,40 +31,40 @@ use Rattle.relations.proofs.ChainLaws.{AndSo, OrSo, and-start, and-wron
 
 ruleset laws = (needs, start-refused, start-deep, start-group, start-simple, start-inside, and-start, and-wrong, and-unjoined, and-done, and-on, or-start, or-wrong, or-done, or-on, depth-same, depth-chain, depth-behind)
 
-abbrev μ-and-chain : Measures 2 and-chain-kinds.ps ℕ
-μ-and-chain κs a = 18446744073709551616 * (3 * a .1 .1 .1 .0 + 1)
+abbrev μ-and-chain : Measures 3 and-chain-kinds.ps ℕ
+μ-and-chain κs a = 18446744073709551616 * (3 * a .1 .1 .1 .1 .0 + 1)
 
-abbrev μ-or-chain : Measures 2 or-chain-kinds.ps ℕ
-μ-or-chain κs a = 18446744073709551616 * (3 * a .1 .1 .1 .0 + 2)
+abbrev μ-or-chain : Measures 3 or-chain-kinds.ps ℕ
+μ-or-chain κs a = 18446744073709551616 * (3 * a .1 .1 .1 .1 .0 + 2)
 
-abbrev μ-single : Measures 2 single-kinds.ps ℕ
-μ-single κs a = 18446744073709551616 * (3 * a .1 .1 .1 .0)
+abbrev μ-single : Measures 3 single-kinds.ps ℕ
+μ-single κs a = 18446744073709551616 * (3 * a .1 .1 .1 .1 .0)
 
-abbrev and-chain-at : ℕ → In 2 and-chain-kinds.ps
-and-chain-at t = and 2 and-chain-kinds.ps (is 2 and-chain-kinds.ps μ-and-chain t) and-chain.Pre
+abbrev and-chain-at : ℕ → In 3 and-chain-kinds.ps
+and-chain-at t = and 3 and-chain-kinds.ps (is 3 and-chain-kinds.ps μ-and-chain t) and-chain.Pre
 
-abbrev and-chain-below : ℕ → In 2 and-chain-kinds.ps
+abbrev and-chain-below : ℕ → In 3 and-chain-kinds.ps
 and-chain-below t =
-    and 2 and-chain-kinds.ps (falls 2 and-chain-kinds.ps _<_ μ-and-chain t) and-chain.Pre
+    and 3 and-chain-kinds.ps (falls 3 and-chain-kinds.ps _<_ μ-and-chain t) and-chain.Pre
 
-abbrev or-chain-at : ℕ → In 2 or-chain-kinds.ps
-or-chain-at t = and 2 or-chain-kinds.ps (is 2 or-chain-kinds.ps μ-or-chain t) or-chain.Pre
+abbrev or-chain-at : ℕ → In 3 or-chain-kinds.ps
+or-chain-at t = and 3 or-chain-kinds.ps (is 3 or-chain-kinds.ps μ-or-chain t) or-chain.Pre
 
-abbrev or-chain-below : ℕ → In 2 or-chain-kinds.ps
+abbrev or-chain-below : ℕ → In 3 or-chain-kinds.ps
 or-chain-below t =
-    and 2 or-chain-kinds.ps (falls 2 or-chain-kinds.ps _<_ μ-or-chain t) or-chain.Pre
+    and 3 or-chain-kinds.ps (falls 3 or-chain-kinds.ps _<_ μ-or-chain t) or-chain.Pre
 
-abbrev single-at : ℕ → In 2 single-kinds.ps
-single-at t = and 2 single-kinds.ps (is 2 single-kinds.ps μ-single t) single.Pre
+abbrev single-at : ℕ → In 3 single-kinds.ps
+single-at t = and 3 single-kinds.ps (is 3 single-kinds.ps μ-single t) single.Pre
 
-abbrev single-below : ℕ → In 2 single-kinds.ps
-single-below t = and 2 single-kinds.ps (falls 2 single-kinds.ps _<_ μ-single t) single.Pre
+abbrev single-below : ℕ → In 3 single-kinds.ps
+single-below t = and 3 single-kinds.ps (falls 3 single-kinds.ps _<_ μ-single t) single.Pre
 
 abbrev and-chain-Inv-loop : and-chain-lts.InvT-loop
-and-chain-Inv-loop text properties at depth from₀ truth₀ from truth = AndSo (heldIn properties) (16 - depth) text at from truth
+and-chain-Inv-loop text properties slots at depth from₀ truth₀ from truth = AndSo (heldIn properties) (16 - depth) text at from truth
 
 abbrev and-chain-μ-loop : and-chain-lts.MeasureT-loop
-and-chain-μ-loop text properties at depth from₀ truth₀ from truth = length text - from
+and-chain-μ-loop text properties slots at depth from₀ truth₀ from truth = length text - from
 
 -- src/conditions.rt:162:5
 and-chain-loop-holds : (t : ℕ) → and-chain-lts.Need-loop-holds (
@@ -210,10 +210,10 @@ and-chain-loop-again : (t : ℕ) → and-chain-lts.Need-loop-again (
 and-chain-loop-again t c = search laws
 
 abbrev or-chain-Inv-loop : or-chain-lts.InvT-loop
-or-chain-Inv-loop text properties at depth from₀ truth₀ from truth = OrSo (heldIn properties) (16 - depth) text at from truth
+or-chain-Inv-loop text properties slots at depth from₀ truth₀ from truth = OrSo (heldIn properties) (16 - depth) text at from truth
 
 abbrev or-chain-μ-loop : or-chain-lts.MeasureT-loop
-or-chain-μ-loop text properties at depth from₀ truth₀ from truth = length text - from
+or-chain-μ-loop text properties slots at depth from₀ truth₀ from truth = length text - from
 
 -- src/conditions.rt:196:5
 or-chain-loop-holds : (t : ℕ) → or-chain-lts.Need-loop-holds (

@@ -11,10 +11,10 @@ use Rattle.relations.proofs.names.names_of.Tie as tie
 ruleset laws = (needs, names-start, names-few, names-wrong, names-within, names-end, names-on)
 
 abbrev Inv-loop : tie.InvT-loop
-Inv-loop text properties at₀ names₀ at names = NamesSo (heldIn properties) text at names
+Inv-loop text properties slots at₀ names₀ at names = NamesSo (heldIn properties) text at names
 
 abbrev μ-loop : tie.MeasureT-loop
-μ-loop text properties at₀ names₀ at names = length text - at
+μ-loop text properties slots at₀ names₀ at names = length text - at
 
 pub names-of-spec : {M : Type 1} → statement M
 names-of-spec =
@@ -22,6 +22,7 @@ names-of-spec =
     (tie.spec
     Inv-loop
     μ-loop
+    (λ c κs. search laws)  -- slots-of-requires
     (λ c κs. search laws)  -- no-names-requires
     (λ c. search laws)  -- loop-holds
     (λ c κs. search laws)  -- assignment-requires
@@ -30,5 +31,5 @@ names-of-spec =
     (λ c. search laws)  -- returns
     (λ c κs. search laws)  -- with-name-requires
     (λ c. search laws)  -- returns-2
-    (λ c. omega (arith, names-further (c .before .before .before .before .before .before .loop .inv) (c .before .before .before .before .before .assignment .ensures) (c .before .before .before .before .if1 .left) (c .if2 .left), names-most (c .before .before .before .before .before .before .loop .inv) (c .before .before .before .before .before .assignment .ensures) (c .before .before .before .before .if1 .left)))  -- loop-less
+    (λ c. omega (arith, names-further (c .before .before .before .before .before .before .before .loop .inv) (c .before .before .before .before .before .assignment .ensures) (c .before .before .before .before .if1 .left) (c .if2 .left), names-most (c .before .before .before .before .before .before .before .loop .inv) (c .before .before .before .before .before .assignment .ensures) (c .before .before .before .before .if1 .left)))  -- loop-less
     (λ c. search laws))  -- loop-again

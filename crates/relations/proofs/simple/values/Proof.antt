@@ -12,10 +12,10 @@ use Rattle.relations.proofs.simple.values.Tie as tie
 ruleset laws = (needs, heard-inside, values-start, values-none, values-wrong, values-done, values-on)
 
 abbrev Inv-loop : tie.InvT-loop
-Inv-loop text properties at value from₀ truth₀ from truth = ValuesSo (constantIn text properties value) text at from truth
+Inv-loop text properties slots at value from₀ truth₀ from truth = ValuesSo (constantIn text properties value) text at from truth
 
 abbrev μ-loop : tie.MeasureT-loop
-μ-loop text properties at value from₀ truth₀ from truth = length text - from
+μ-loop text properties slots at value from₀ truth₀ from truth = length text - from
 
 pub values-spec : {M : Type 1} → statement M
 values-spec =
