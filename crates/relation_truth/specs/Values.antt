@@ -91,3 +91,7 @@ pub record ListedIs (p : List ℕ) (o : Option Constant) (r : Value) : Type 0 wh
 pub record ValueIs (s p : List ℕ) (x : Operand) (r : Value) : Type 0 where
   pub is : constantIn s p r ≡ operandValue (heldIn p) x
   pub inside : ValueIn s p r
+
+-- r is the value of the constant that was heard, in whatever text it stands
+pub record ConstantIs (kind from to : ℕ) (below : Bool) (size : ℕ) (r : Value) : Type 0 where
+  pub is : (s p : List ℕ) → OperandIn s kind from to size → (kind ≡ 2 → ⊥) → ValueIs s p (operandOf s kind from to below size) r

@@ -1,7 +1,7 @@
 -- The constants behind IN, one by one, and the parenthesis around them.
 use Prim.Native.Nat.{ℕ, suc, _-_, _≤_, _<_}
 use mathlib.Core.Path.{_≡_, refl, sym, _∙_, ap, subst}
-use mathlib.Core.Bool.{Bool, true}
+use mathlib.Core.Bool.{Bool, true, false≢true}
 use mathlib.Core.List.{List, [], _∷_}
 use mathlib.Core.Option.{Option, some}
 use native.Mathlib.Omega.{arith}
@@ -14,20 +14,26 @@ use Rattle.relation_rules.specs.Parts.{TokenAt}
 use Rattle.relation_rules.specs.Truth.{Held, either, operandValue, compared}
 use Rattle.relation_rules.proofs.MoveLaws.{token-moves, over-value, over-next-value}
 use Rattle.relation_words.specs.Words.{wordOf}
-use Rattle.relation_words.specs.Heard.{HeardOn}
+use Rattle.relation_words.specs.Heard.{HeardOn, mayHear}
 use Rattle.relation_truth.specs.Told.{truthNo, TruthIs}
-use Rattle.relation_truth.specs.Values.{heldIn, operandOf, signNo, constantIn, ValueIs}
+use Rattle.relation_truth.specs.Values.{heldIn, operandOf, OperandIn, signNo, constantIn, ValueIn, ConstantIs, ValueIs}
 use Rattle.relation_truth.specs.declared.values.Value.{Value}
 use Rattle.relations.specs.Expected.{wantsConstant, wantsOpen, wantsMark}
-use Rattle.relations.specs.Reading.{amongOf, EqualTo, ValuesTo, ValuesRead, AmongRead}
+use Rattle.relations.specs.Reading.{NoName, amongOf, EqualTo, ValuesTo, ValuesRead, AmongRead}
 use Rattle.relations.proofs.ExpectedLaws.{zeroed, heard-ahead, open-stops, first-stops, comma-stops, mark-stops, is-word, is-constant}
 use Rattle.relations.proofs.JoinLaws.{never, through}
 
 -- ---- one constant
 
-pub equal-is : (s p : List ℕ) (o : Option Constant) (kind from to : ℕ) (below : Bool) (size : ℕ) {b : Value} {r : ℕ} → ValueIs s p (operandOf s kind from to below size) b
-    → TruthIs (compared true (signNo 5) o (constantIn s p b)) r → EqualTo o (heldIn p) s kind from to below size r
-equal-is s p o kind from to below size i t = record { is = t .is ∙ ap (compared true Equal o) (i .is) }
+module _ (s p : List ℕ) {kind from to : ℕ} {below : Bool} {size : ℕ} (k : OperandIn s kind from to size) (n : NoName kind) {b : Value} (c : ConstantIs kind from to below size b) where
+  pub equal-inside : ValueIn s p b
+  equal-inside = c .is s p k (n .is) .inside
+
+  pub equal-is : {o : Option Constant} {r : ℕ} → TruthIs (compared true (signNo 5) o (constantIn s p b)) r → EqualTo o (heldIn p) s kind from to below size r
+  equal-is {o} t = record { is = t .is ∙ ap (compared true Equal o) (c .is s p k (n .is) .is) }
+
+pub constant-no-name : {s : List ℕ} {from kind which begin to : ℕ} {below : Bool} {size : ℕ} → HeardOn wantsConstant s from kind which begin to below size → NoName kind
+constant-no-name {kind = kind} h = record { is = λ e. absurd (false≢true (ap (mayHear wantsConstant) (sym e) ∙ h .asked)) }
 
 -- ---- the list behind IN
 

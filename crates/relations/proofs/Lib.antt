@@ -1,4 +1,5 @@
 pub mod ExpectedLaws
+pub mod MarkLaws
 pub mod JoinLaws
 pub mod AmongLaws
 pub mod SimpleLaws

@@ -1,8 +1,10 @@
 -- What may come at each point of a condition.
 use Prim.Native.Nat.{ℕ, zero, suc}
-use mathlib.Core.Bool.{Bool, true, false}
+use mathlib.Core.Path.{_≡_}
+use mathlib.Core.Bool.{Bool, true, false, cond}
 use mathlib.Core.List.{List, [], _∷_, _++_, map}
-use Rattle.rules.specs.Letters.{text}
+use lib.Dec.{eqb}
+use Rattle.rules.specs.Letters.{text, letter}
 use Rattle.relation_rules.specs.Grammar.{signText}
 use Rattle.relation_rules.specs.Reader.{allSigns}
 use Rattle.relation_words.specs.Wanted.{Wanted}
@@ -27,6 +29,10 @@ wantsOpen = onlyWords (text "(" ∷ [])
 
 abbrev pub wantsMark : Wanted
 wantsMark = onlyWords (text "," ∷ text ")" ∷ [])
+
+-- which of these a byte is, counted from 1; 0: neither
+pub record MarkIs (b r : ℕ) : Type 0 where
+  pub is : r ≡ cond (eqb b (letter ",")) 1 (cond (eqb b (letter ")")) 2 0)
 
 -- a sign, or IN behind a name
 abbrev pub wantsSign : Bool → Wanted

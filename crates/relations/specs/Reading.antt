@@ -27,6 +27,10 @@ pub record OperandAt (s : List ℕ) (at kind from to : ℕ) (below : Bool) (size
   pub begins : at ≤ from
   pub inside : OperandIn s kind from to size
 
+-- a constant was heard, or nothing
+pub record NoName (kind : ℕ) : Type 0 where
+  pub is : kind ≡ 2 → ⊥
+
 -- ---- the list behind IN
 
 -- whether a property with the value o is one of these constants: the OR of its equalities

@@ -9,6 +9,7 @@ use property_list::slots::SLOTS;
 use relation_truth::comparing::compared_as;
 use relation_truth::either_of;
 use relation_truth::values::Value;
+use relation_truth::values::constant_value;
 use relation_truth::values::value_of;
 use relation_words::tokens::Found;
 ghost use Prim.Native.Nat.{_≤_};
@@ -17,7 +18,7 @@ ghost use Rattle.relation_rules.specs.Truth.{operandValue, comparison};
 ghost use Rattle.property_list.specs.Slots.{SlotsOf};
 ghost use Rattle.relation_truth.specs.Told.{TruthIs};
 ghost use Rattle.relation_truth.specs.Values.{heldIn, operandOf, OperandIn, constantIn, signNo, ValueIn};
-ghost use Rattle.relations.specs.Reading.{OperandAt, EqualTo, ValuesRead, AmongRead, NameRead, SimpleRead, FirstAt};
+ghost use Rattle.relations.specs.Reading.{OperandAt, NoName, EqualTo, ValuesRead, AmongRead, NameRead, SimpleRead, FirstAt};
 
 // Read up to `to`, and `number` is 0; or refused with that number, and the byte that may not come stands at `to`. `truth` is that of what was read.
 pub struct Read {
@@ -46,43 +47,56 @@ fn comparison_of(
     compared_as(text, properties, raised, sign, a, b)
 }
 
-// Whether a property's value is the constant that was heard.
-fn equal_to(text: &[u8], properties: &[u8], slots: &[usize; SLOTS], value: Value, x: Found) -> u8
+// Whether a property's value is the constant that was heard. A `Found` as a whole would be copied for each constant of a list.
+fn equal_to(
+    text: &[u8],
+    properties: &[u8],
+    value: Value,
+    kind: u8,
+    from: usize,
+    to: usize,
+    below: bool,
+    size: usize,
+) -> u8
     requires { ⌜ ValueIn (now text) (now properties) value ⌝ }
-    requires { ⌜ OperandIn (now text) (x .kind) (x .from) (x .to) (x .size) ⌝ }
-    requires { ⌜ SlotsOf (now properties) (now slots) ⌝ }
-    ensures { λ r. ⌜ EqualTo (constantIn (now (text .entry)) (now (properties .entry)) value) (heldIn (now (properties .entry))) (now (text .entry)) (x .kind) (x .from) (x .to) (x .below) (x .size) r ⌝ }
+    requires { ⌜ OperandIn (now text) kind from to size ⌝ }
+    requires { ⌜ NoName kind ⌝ }
+    ensures { λ r. ⌜ EqualTo (constantIn (now (text .entry)) (now (properties .entry)) value) (heldIn (now (properties .entry))) (now (text .entry)) kind from to below size r ⌝ }
 {
-    let other = value_of(text, properties, slots, x);
+    let other = constant_value(kind, from, to, below, size);
     compared_as(text, properties, true, 5, value, other)
 }
 
 // The constants behind the parenthesis of IN, up to the one that closes it.
-pub fn values(
-    text: &[u8],
-    properties: &[u8],
-    slots: &[usize; SLOTS],
-    at: usize,
-    value: Value,
-) -> Read
+pub fn values(text: &[u8], properties: &[u8], at: usize, value: Value) -> Read
     requires { ⌜ at ≤ length (now text) ⌝ }
     requires { ⌜ ValueIn (now text) (now properties) value ⌝ }
-    requires { ⌜ SlotsOf (now properties) (now slots) ⌝ }
     ensures { λ r. ⌜ ValuesRead (constantIn (now (text .entry)) (now (properties .entry)) value) (now (text .entry)) at (r .number) (r .to) (r .truth) ⌝ }
 {
     let mut from = at;
     let mut truth = 2;
     loop {
         let one = constant_at(text, from);
+        let kind = one.kind;
         let to = one.to;
-        if one.kind == 0 {
+        if kind == 0 {
             return Read {
                 number: 14,
                 to,
                 truth: 0,
             };
         }
-        truth = either_of(truth, equal_to(text, properties, slots, value, one));
+        let equal = equal_to(
+            text,
+            properties,
+            value,
+            kind,
+            one.from,
+            to,
+            one.below,
+            one.size,
+        );
+        truth = either_of(truth, equal);
         let mark = mark_at(text, to);
         let behind = mark.to;
         if mark.kind == 0 {
@@ -120,7 +134,7 @@ pub fn among(text: &[u8], properties: &[u8], slots: &[usize; SLOTS], at: usize, 
         };
     }
     let value = value_of(text, properties, slots, x);
-    values(text, properties, slots, to, value)
+    values(text, properties, to, value)
 }
 
 // Behind SPECIFIED: a name.

@@ -5,17 +5,17 @@ use lib.ListN.{length}
 use borrow.Author.Needs.{needs}
 use Rattle.relation_truth.specs.Values.{constantIn}
 use Rattle.relations.proofs.ExpectedLaws.{heard-inside}
-use Rattle.relations.proofs.AmongLaws.{ValuesSo, values-start, values-none, values-wrong, values-done, values-on, values-further}
+use Rattle.relations.proofs.AmongLaws.{ValuesSo, constant-no-name, values-start, values-none, values-wrong, values-done, values-on, values-further}
 use Rattle.relations.proofs.simple.values.Statement.{statement}
 use Rattle.relations.proofs.simple.values.Tie as tie
 
-ruleset laws = (needs, heard-inside, values-start, values-none, values-wrong, values-done, values-on)
+ruleset laws = (needs, heard-inside, constant-no-name, values-start, values-none, values-wrong, values-done, values-on)
 
 abbrev Inv-loop : tie.InvT-loop
-Inv-loop text properties slots at value from₀ truth₀ from truth = ValuesSo (constantIn text properties value) text at from truth
+Inv-loop text properties at value from₀ truth₀ from truth = ValuesSo (constantIn text properties value) text at from truth
 
 abbrev μ-loop : tie.MeasureT-loop
-μ-loop text properties slots at value from₀ truth₀ from truth = length text - from
+μ-loop text properties at value from₀ truth₀ from truth = length text - from
 
 pub values-spec : {M : Type 1} → statement M
 values-spec =
@@ -31,5 +31,5 @@ values-spec =
     (λ c κs. search laws)  -- mark-at-requires
     (λ c. search laws)  -- returns-2
     (λ c. search laws)  -- returns-3
-    (λ c. omega (arith, values-further (c .before .before .before .before .before .before .before .before .before .constant-at .ensures) (c .before .before .before .before .mark-at .ensures) (c .before .before .if2 .left)))  -- loop-less
+    (λ c. omega (arith, values-further (c .before .before .before .before .before .before .before .before .constant-at .ensures) (c .before .before .before .before .mark-at .ensures) (c .before .before .if2 .left)))  -- loop-less
     (λ c. search laws))  -- loop-again
