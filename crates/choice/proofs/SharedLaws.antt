@@ -173,6 +173,7 @@ module _ (w : List ℕ) (from : ℕ) (article table : List ℕ) (terms : Terms) 
 
     pub block-end : length w ≤ at → SharedFor w from article table terms last (record { slots = slots; n = n }) listed
     block-end h = record {
+      long = inv .wide;
       on = λ d low high. record {
         here = λ k. record {
           long = inv .wide;

@@ -92,4 +92,5 @@ pub record SharedOn (w : List ℕ) (from : ℕ) (article table : List ℕ) (term
 
 -- and so it is on each day of the block
 pub record SharedFor (w : List ℕ) (from : ℕ) (article table : List ℕ) (terms : Terms) (last : ℕ) (shared : Shared) (listed : List ℕ) : Type 0 where
+  pub long : length listed ≡ mostListed
   pub on : (d : ℕ) → terms .date .0 ≤ d → d ≤ last → SharedOn w from article table (termsOn terms d) shared listed

@@ -3,6 +3,7 @@
 mod unused;
 
 use crate::unused::unused;
+use choice::Shared;
 use choice::block::MOST_LISTED;
 use grants::places::Places;
 use grants::terms::Terms;
@@ -13,8 +14,6 @@ use picks::picks_on;
 use picks::picks_within;
 use rules::Outcome;
 use survey::window::Window;
-pub use choice::Shared;
-pub use choice::shared_for;
 ghost use lib.ListN.{take};
 ghost use Rattle.choice.specs.Block.{SharedOn};
 ghost use Rattle.grants.specs.Asks.{Asked};

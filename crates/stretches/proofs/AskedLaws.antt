@@ -1,20 +1,20 @@
 -- The stretches that a question asks for: it asks by what is made of it, and the marks make only days of change due.
-use Prim.Native.Nat.{ℕ, _+_, _<_}
+use Prim.Native.Nat.{ℕ, _+_, _≤_, _<_}
 use mathlib.Core.Path.{_≡_, sym, _∙_, ap, subst}
 use mathlib.Core.Bool.{Bool, true, false}
 use mathlib.Core.List.{List}
 use native.Mathlib.Omega.{arith}
 use lib.Dec.{eqb}
 use lib.ListN.{length, take, getD}
-use lib.Seq.{length-take-le}
 use Rattle.rules.specs.Lists.{any}
 use Rattle.rules.specs.Days.{isDay, next}
 use Rattle.rules.specs.Question.{Question}
 use Rattle.rules.specs.Calendar.{stretches, outcome}
 use Rattle.rules.specs.Changes.{isChange}
+use Rattle.rules.specs.declared.Outcome as Coded
 use Rattle.rules.proofs.AlikeLaws.{same-changes}
 use Rattle.rules.proofs.StaysLaws.{stays-next}
-use Rattle.layout.specs.Records.{recordsLeft, Between}
+use Rattle.layout.specs.Records.{recordsLeft}
 use Rattle.question.specs.declared.Ask.{Ask}
 use Rattle.question.specs.Asked.{askIn}
 use Rattle.grants.specs.declared.terms.Wanted.{Wanted}
@@ -24,18 +24,13 @@ use Rattle.survey.specs.Window.{Windows}
 use Rattle.survey.proofs.WindowLaws.{window-as}
 use Rattle.period.specs.Positions.{Dates}
 use Rattle.period.specs.Marks.{MarksAre}
+use Rattle.outcomes.specs.Outcomes.{OutcomesFor}
 use Rattle.stretches.specs.declared.Stretches.{Stretches}
-use Rattle.stretches.specs.Stretches.{Marked, Lists, MarkedFor, ListsFor}
+use Rattle.stretches.specs.Stretches.{Marked, Lists, ListsBy}
 
 -- ---- the marks
 
 module _ {b article : List ℕ} {sort : ℕ} {w : Window} (h : Windows b 5 article sort w) where
-  pub window-size : w .last ≡ length (take (w .last) b)
-  window-size = sym (length-take-le (w .last) b (h .fits))
-
-  pub window-between : Between (take (w .last) b) (w .first)
-  window-between = h .between
-
   -- the days of change are those of the rows of the article and sort
   change-own : (d : ℕ) → isChange (recordsLeft (take (w .last) b) (w .first)) article sort d ≡ isChange (recordsLeft b 5) article sort d
   unfolding isChange
@@ -66,14 +61,14 @@ module _ {s : List ℕ} {ask : Ask} {k : Wanted} (made : WantedIs s ask k) {b : 
     pub asked-window : Windows b 5 (articleCut s ask) (k .terms .sort) w
     asked-window = window-as (made .asks .article) (made .asks .sort) h
 
-    pub asked-marked : {dates : List ℕ} {marks : List Bool} → Dates dates → 0 < length dates
-        → MarksAre (take (w .last) b) (w .first) (articleCut s ask) (k .terms .sort) dates marks → MarkedFor b (articleCut s ask) (k .table) (k .terms) dates marks
-    asked-marked d l m = record {
-      some-day = l;
-      few = d .few;
-      of = λ q x. steady asked-window q (x .article) (x .sort) d l m;
-    }
+    -- what is known of each day makes the question's stretches
+    pub asked-lists : {dates : List ℕ} {marks : List Bool} → Dates dates → 0 < length dates → MarksAre (take (w .last) b) (w .first) (articleCut s ask) (k .terms .sort) dates marks
+        → {outcomes : List Coded.Outcome} → OutcomesFor b (articleCut s ask) (k .table) (k .terms) dates marks outcomes → {r : Stretches} → ListsBy dates marks outcomes r
+        → Lists (stretches (outcome (recordsLeft b 5) (askIn s ask)) dates) r
+    asked-lists d l m o r = r .of (outcome (recordsLeft b 5) (askIn s ask)) (record {
+      marked = steady asked-window (askIn s ask) (made .asks .article) (made .asks .sort) d l m;
+      priced = o .of (askIn s ask) (made .asks);
+    })
 
-  pub asked-told : {dates : List ℕ} {r : Stretches} → ListsFor b (articleCut s ask) (k .table) (k .terms) dates r
-      → Lists (stretches (outcome (recordsLeft b 5) (askIn s ask)) dates) r
-  asked-told h = h .of (askIn s ask) (made .asks)
+pub dates-few : {dates : List ℕ} → Dates dates → length dates ≤ 1096
+dates-few d = d .few

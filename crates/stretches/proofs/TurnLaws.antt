@@ -1,29 +1,21 @@
 -- A day more: the stretch in hand, by the definition's walk.
 use Prim.Native.Nat.{ℕ, suc, _-_}
-use mathlib.Core.Path.{_≡_, refl, sym, _∙_, ap, subst}
-use mathlib.Core.Bool.{Bool, true, false, _&&_}
-use mathlib.Core.List.{List}
+use mathlib.Core.Path.{_≡_, refl, sym, _∙_, ap}
+use mathlib.Core.Bool.{Bool, true, false, _&&_, not, false≢true}
 use native.Mathlib.Omega.{arith}
 use lib.Dec.{eqb}
 use lib.IntN.{ℤ, pos, negsuc}
 use mir.Syntax.{w64}
 use mir.Val.{ofZ, SFits}
 use borrow.Author.Tests.{eq-eqb, ne-eqb, eqb-true, eqb-false}
-use Rattle.rules.specs.Calendar.{Outcome, asOutcome, sameInt, sameOutcome, outcome}
-use Rattle.rules.specs.Question.{on}
+use Rattle.rules.specs.Calendar.{Outcome, asOutcome, sameInt, sameOutcome}
 use Rattle.rules.specs.declared.Outcome as Coded
-use Rattle.rules.proofs.TestLaws.{and-true}
+use Rattle.rules.proofs.TestLaws.{and-true, and-left, and-right, not-so}
 use Rattle.rules.proofs.CalendarLaws.{eq-of, same-outcome}
 use Rattle.rules.proofs.WalkLaws as Walk
 use Rattle.layout.specs.Ensures.{Says}
-use Rattle.grants.specs.declared.terms.Terms.{Terms}
-use Rattle.grants.specs.Asks.{Asks, Asked, termsOn}
-use Rattle.grants.proofs.AskLaws.{asks-on, asked-on}
-use Rattle.quote.specs.Quote.{OutcomeFor}
-use Rattle.survey.specs.declared.window.Window.{Window}
-use Rattle.survey.specs.Window.{Windows}
 use Rattle.stretches.specs.declared.Stretch as Declared
-use Rattle.stretches.specs.Stretches.{TermsOn, Opened, Longer, Steady, Turned, OpenedFor, SteadyFor, TurnedFor}
+use Rattle.stretches.specs.Stretches.{Opened, Longer, Told, Turned, TurnedBy}
 
 -- ---- outcomes compared
 
@@ -52,26 +44,6 @@ outcome-same a b f g = record {
       && int-bits (a .unit .0) (b .unit .0) f g i);
 }
 
--- ---- a stretch that begins, or grows
-
-pub terms-then : (terms : Terms) (d : ℕ) → TermsOn terms d (termsOn terms d)
-terms-then terms d = record { is = refl }
-
-module _ {terms : Terms} {d : ℕ} {then : Terms} (t : TermsOn terms d then) where
-  pub asked-then : {number table : List ℕ} → Asked number table terms → Asked number table then
-  asked-then {number} {table} a = subst (Asked number table) (sym (t .is)) (asked-on a d)
-
-  pub window-then : {b article : List ℕ} {w : Window} → Windows b 5 article (terms .sort) w → Windows b 5 article (then .sort) w
-  window-then {b} {article} {w} h = subst (λ (x : Terms). Windows b 5 article (x .sort) w) (sym (t .is)) h
-
-  -- the question on that day asks by those terms
-  pub opened-for : {b number table : List ℕ} {o : Coded.Outcome} → OutcomeFor b number table then o
-      → OpenedFor b number table terms d (record { first = record { 0 = d }; last = record { 0 = d }; outcome = o })
-  unfolding outcome on
-  opened-for {b} {number} {table} {o} h = record {
-    of = λ q a. record { is = ap (Walk.opened d) (h .of (on q d) (subst (Asks (on q d) number table) (sym (t .is)) (asks-on a d)) .is) };
-  }
-
 -- ---- the turn
 
 module _ {f : ℕ → Outcome} {hand : Declared.Stretch} {d : ℕ} where
@@ -85,30 +57,26 @@ module _ {f : ℕ → Outcome} {hand : Declared.Stretch} {d : ℕ} where
         is = rw s (l .is ∙ (λ i. record { first = hand .first .0; last = d; outcome = e i }));
       }
 
-  turned-quiet : {due : Bool} {r : Declared.Stretch} → Steady f hand d due → due ≡ false → Longer hand d r → Turned f hand d (record { stretch = r; fresh = 0 })
-  turned-quiet s e l = grown l (s .stays e)
+  begun : {o : Coded.Outcome} {new : Declared.Stretch} → Opened o d new → asOutcome o ≡ f d → sameOutcome (asOutcome (hand .outcome)) (asOutcome o) ≡ false
+      → Turned f hand d (record { stretch = new; fresh = 1 })
+  unfolding Walk.turned
+  begun n e z =
+      let s : sameOutcome (asOutcome (hand .outcome)) (f d) ≡ false = ap (λ (x : Outcome). sameOutcome (asOutcome (hand .outcome)) x) (sym e) ∙ z in
+      record { most = omega arith; fresh = rw s; is = rw s (n .is ∙ ap (Walk.opened d) e) }
 
-  module _ {new : Declared.Stretch} {b : Bool} (o : Opened f d new) (t : Says (sameOutcome (asOutcome (hand .outcome)) (asOutcome (new .outcome))) b) where
-    turned-same : {r : Declared.Stretch} → b ≡ true → Longer hand d r → Turned f hand d (record { stretch = r; fresh = 0 })
-    turned-same e l = grown l (eq-of (asOutcome (hand .outcome)) (asOutcome (new .outcome)) (t .is ∙ e) ∙ ap (λ s. s .outcome) (o .is))
+module _ {hand : Declared.Stretch} {d : ℕ} {due same : Bool} {o : Coded.Outcome} (says : Says (sameOutcome (asOutcome (hand .outcome)) (asOutcome o)) same) where
+  -- another outcome on a day that is due
+  pub turned-new : (due && not same) ≡ true → {new : Declared.Stretch} → Opened o d new → TurnedBy hand d due o (record { stretch = new; fresh = 1 })
+  turned-new e n = record {
+    most = omega arith;
+    of = λ f t. begun n (t .priced (and-left due (not same) e)) (says .is ∙ not-so same (and-right due (not same) e));
+  }
 
-    turned-new : b ≡ false → Turned f hand d (record { stretch = new; fresh = 1 })
-    unfolding Walk.turned
-    turned-new e =
-        let s : sameOutcome (asOutcome (hand .outcome)) (f d) ≡ false = ap (λ (x : Outcome). sameOutcome (asOutcome (hand .outcome)) x) (sym (ap (λ s. s .outcome) (o .is))) ∙ (t .is ∙ e) in
-        record { most = omega arith; fresh = rw s; is = rw s (o .is) }
-
--- ---- for every question that asks so
-
-module _ {b number table : List ℕ} {terms : Terms} {hand : Declared.Stretch} {d : ℕ} where
-  pub quiet-for : {due : Bool} {r : Declared.Stretch} → SteadyFor b number table terms hand d due → due ≡ false → Longer hand d r
-      → TurnedFor b number table terms hand d (record { stretch = r; fresh = 0 })
-  quiet-for s e l = record { most = omega arith; of = λ q a. turned-quiet (s .of q a) e l }
-
-  module _ {new : Declared.Stretch} {t : Bool} (o : OpenedFor b number table terms d new)
-      (same : Says (sameOutcome (asOutcome (hand .outcome)) (asOutcome (new .outcome))) t) where
-    pub same-for : {r : Declared.Stretch} → t ≡ true → Longer hand d r → TurnedFor b number table terms hand d (record { stretch = r; fresh = 0 })
-    same-for e l = record { most = omega arith; of = λ q a. turned-same (o .of q a) same e l }
-
-    pub new-for : t ≡ false → TurnedFor b number table terms hand d (record { stretch = new; fresh = 1 })
-    new-for e = record { most = omega arith; of = λ q a. turned-new (o .of q a) same e }
+  -- a day that is not due, or has the same outcome
+  pub turned-old : (due && not same) ≡ false → {r : Declared.Stretch} → Longer hand d r → TurnedBy hand d due o (record { stretch = r; fresh = 0 })
+  turned-old e l = record { most = omega arith; of = λ f t. grown l (stays f t due same refl refl) }
+    where
+      stays : (f : ℕ → Outcome) → Told f hand d due o → (x y : Bool) → due ≡ x → same ≡ y → asOutcome (hand .outcome) ≡ f d
+      stays f t false y g h = t .stays g
+      stays f t true true g h = eq-of (asOutcome (hand .outcome)) (asOutcome o) (says .is ∙ h) ∙ t .priced g
+      stays f t true false g h = absurd (false≢true (sym e ∙ (λ i. g i && not (h i))))

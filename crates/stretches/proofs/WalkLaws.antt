@@ -1,20 +1,22 @@
 -- The days that have gone by and those still to come make up the stretches of the period.
 use Prim.Native.Nat.{ℕ, _+_, _-_, _≤_, _<_}
 use mathlib.Core.Path.{_≡_, refl, sym, _∙_, ap}
-use mathlib.Core.Bool.{Bool, true, false, not, cond}
+use mathlib.Core.Bool.{Bool, true, false, not, cond, or-true}
 use mathlib.Core.List.{List, [], _∷_, _++_, map, append-assoc}
 use native.Mathlib.Omega.{arith}
 use native.Mathlib.Numerals.{add-one}
+use lib.Dec.{eqb}
 use lib.ListN.{length, take, drop, getD, set, replicate, length-set, length-replicate, drop-of-length-le}
 use lib.Seq.{take-suc, drop-cons, take-set-le, getD-set-same}
 use Rattle.rules.specs.Lists.{consIf}
 use Rattle.rules.specs.Calendar.{Outcome, asOutcome, Stretch, sameOutcome, stretches, mostDays}
+use Rattle.rules.specs.declared.Outcome as Coded
 use Rattle.rules.proofs.WalkLaws as Walk
 use Rattle.layout.proofs.StoreLaws.{all-same, behind-store}
-use Rattle.grants.specs.declared.terms.Terms.{Terms}
+use Rattle.outcomes.specs.Outcomes.{noOutcome}
 use Rattle.stretches.specs.declared.Stretch as Declared
 use Rattle.stretches.specs.declared.turns.Turning.{Turning}
-use Rattle.stretches.specs.Stretches.{asStretch, noStretch, Opened, Steady, Turned, Marked, Lists, Going, OpenedFor, SteadyFor, TurnedFor, MarkedFor, ListsFor, GoingFor}
+use Rattle.stretches.specs.Stretches.{asStretch, noStretch, Opened, Told, Turned, TurnedBy, Marked, Known, Lists, Going, ListsBy, GoingBy}
 
 map-snoc : (xs : List Declared.Stretch) (r : Declared.Stretch) → map asStretch (xs ++ (r ∷ [])) ≡ map asStretch xs ++ (asStretch r ∷ [])
 map-snoc [] r = refl
@@ -25,12 +27,12 @@ front-more : (list : List Declared.Stretch) (n : ℕ) → n < length list → ma
 front-more list n h = ap (λ (k : ℕ). map asStretch (take k list)) (add-one n) ∙ ap (map asStretch) (take-suc list n noStretch h) ∙ map-snoc (take n list) (getD list n noStretch)
 
 module _ {f : ℕ → Outcome} {dates : List ℕ} {marks : List Bool} where
-  go-start : {r : Declared.Stretch} → Marked f dates marks → Opened f (getD dates 0 0) r → Going f dates marks (set (replicate 1096 noStretch) 0 r) 0 1
+  go-start : {r : Declared.Stretch} → Marked f dates marks → asStretch r ≡ Walk.opened (getD dates 0 0) (f (getD dates 0 0)) → Going f dates marks (set (replicate 1096 noStretch) 0 r) 0 1
   go-start {r} m o =
       let list : List Declared.Stretch = replicate 1096 noStretch in
       let l : length list ≡ mostDays = length-replicate 1096 noStretch in
       let here : getD (set list 0 r) 0 noStretch ≡ r = getD-set-same list 0 r noStretch (omega arith) in
-      let begun : asStretch (getD (set list 0 r) 0 noStretch) ≡ Walk.opened (getD dates 0 0) (f (getD dates 0 0)) = ap asStretch here ∙ o .is in
+      let begun : asStretch (getD (set list 0 r) 0 noStretch) ≡ Walk.opened (getD dates 0 0) (f (getD dates 0 0)) = ap asStretch here ∙ o in
       record {
         marked = m;
         low = omega arith;
@@ -53,14 +55,12 @@ module _ {f : ℕ → Outcome} {dates : List ℕ} {marks : List Bool} where
       abbrev d : ℕ
       d = getD dates i 0
 
-      go-steady : Steady f hand d (getD marks i false)
-      go-steady = record {
-        stays = λ e.
-            let k : i - 1 + 1 ≡ i = omega (arith, g .low) in
-            g .hand
-            ∙ g .marked .stays (i - 1) (omega (arith, g .low)) (ap (λ (j : ℕ). getD marks j false) k ∙ e)
-            ∙ ap (λ (j : ℕ). f (getD dates j 0)) k;
-      }
+      go-stays : getD marks i false ≡ false → asOutcome (hand .outcome) ≡ f d
+      go-stays e =
+          let k : i - 1 + 1 ≡ i = omega (arith, g .low) in
+          g .hand
+          ∙ g .marked .stays (i - 1) (omega (arith, g .low)) (ap (λ (j : ℕ). getD marks j false) k ∙ e)
+          ∙ ap (λ (j : ℕ). f (getD dates j 0)) k
 
       walked-on : Walk.walked f (asStretch hand) (drop i dates)
           ≡ consIf (not (sameOutcome (asOutcome (hand .outcome)) (f d))) (asStretch hand) (Walk.walked f (Walk.turned (asStretch hand) d (f d)) (drop (i + 1) dates))
@@ -124,35 +124,38 @@ module _ {f : ℕ → Outcome} {dates : List ℕ} {marks : List Bool} where
       behind = λ i k. g .behind i (omega arith);
     }
 
--- ---- for every question that asks so
+-- ---- whatever the outcomes of days are, as long as they are known
 
-module _ {b number table : List ℕ} {terms : Terms} {dates : List ℕ} {marks : List Bool} where
-  pub for-start : {r : Declared.Stretch} → MarkedFor b number table terms dates marks → OpenedFor b number table terms (getD dates 0 0) r
-      → GoingFor b number table terms dates marks (set (replicate 1096 noStretch) 0 r) 0 1
-  for-start {r} m o = record {
-    few = m .few;
+module _ (dates : List ℕ) (marks : List Bool) (outcomes : List Coded.Outcome) where
+  pub by-start : 0 < length dates → length dates ≤ mostDays → {r : Declared.Stretch} → Opened (getD outcomes 0 noOutcome) (getD dates 0 0) r
+      → GoingBy dates marks outcomes (set (replicate 1096 noStretch) 0 r) 0 1
+  by-start some-day few {r} o = record {
+    few = few;
     low = omega arith;
     place = omega arith;
-    most = m .some-day;
+    most = some-day;
     long = length-set (replicate 1096 noStretch) 0 r ∙ length-replicate 1096 noStretch;
-    of = λ q a. go-start (m .of q a) (o .of q a);
+    of = λ f k. go-start (k .marked) (o .is ∙ ap (Walk.opened (getD dates 0 0)) (k .priced .each 0 some-day refl));
   }
 
-  module _ {list : List Declared.Stretch} {n i : ℕ} (g : GoingFor b number table terms dates marks list n i) where
+  module _ {list : List Declared.Stretch} {n i : ℕ} (g : GoingBy dates marks outcomes list n i) where
     module _ (h : i < length dates) where
-      pub for-steady : SteadyFor b number table terms (getD list n noStretch) (getD dates i 0) (getD marks i false)
-      for-steady = record { of = λ q a. go-steady (g .of q a) h }
+      told : (f : ℕ → Outcome) → Known f dates marks outcomes → Told f (getD list n noStretch) (getD dates i 0) (getD marks i false) (getD outcomes i noOutcome)
+      told f k = record {
+        stays = go-stays (g .of f k) h;
+        priced = λ e. k .priced .each i h (rw (e, or-true (eqb i 0)));
+      }
 
-      pub for-turn : {t : Turning} → TurnedFor b number table terms (getD list n noStretch) (getD dates i 0) t
-          → GoingFor b number table terms dates marks (set list (n + t .fresh) (t .stretch)) (n + t .fresh) (i + 1)
-      for-turn {t} w = record {
+      pub by-turn : {t : Turning} → TurnedBy (getD list n noStretch) (getD dates i 0) (getD marks i false) (getD outcomes i noOutcome) t
+          → GoingBy dates marks outcomes (set list (n + t .fresh) (t .stretch)) (n + t .fresh) (i + 1)
+      by-turn {t} w = record {
         few = g .few;
         low = omega arith;
         place = omega (arith, w .most, g .place);
         most = omega arith;
         long = length-set list (n + t .fresh) (t .stretch) ∙ g .long;
-        of = λ q a. go-turn (g .of q a) h (w .of q a);
+        of = λ f k. go-turn (g .of f k) h (w .of f (told f k));
       }
 
-    pub for-end : length dates ≤ i → ListsFor b number table terms dates (record { list = list; n = n + 1 })
-    for-end h = record { of = λ q a. go-end (g .of q a) h }
+    pub by-end : length dates ≤ i → ListsBy dates marks outcomes (record { list = list; n = n + 1 })
+    by-end h = record { of = λ f k. go-end (g .of f k) h }

@@ -1,16 +1,15 @@
 -- The stretches as the code keeps them, and how far the days have gone by.
 use Prim.Native.Nat.{ℕ, _+_, _-_, _≤_, _<_}
 use mathlib.Core.Path.{_≡_}
-use mathlib.Core.Bool.{Bool, false, cond}
+use mathlib.Core.Bool.{Bool, true, false, cond}
 use mathlib.Core.List.{List, _++_, map}
 use lib.IntN.{pos}
 use lib.ListN.{length, take, drop, getD}
-use Rattle.rules.specs.Calendar.{Outcome, asOutcome, Stretch, sameOutcome, stretches, outcome, mostDays}
-use Rattle.rules.specs.Question.{Question, currencyOf}
+use Rattle.rules.specs.Calendar.{Outcome, asOutcome, Stretch, sameOutcome, stretches, mostDays}
+use Rattle.rules.specs.Question.{currencyOf}
+use Rattle.rules.specs.declared.Outcome as Coded
 use Rattle.rules.proofs.WalkLaws as Walk
-use Rattle.layout.specs.Records.{recordsLeft}
-use Rattle.grants.specs.declared.terms.Terms.{Terms}
-use Rattle.grants.specs.Asks.{Asks, termsOn}
+use Rattle.outcomes.specs.Outcomes.{PricedOn}
 use Rattle.stretches.specs.declared.Stretch as Declared
 use Rattle.stretches.specs.declared.Stretches.{Stretches}
 use Rattle.stretches.specs.declared.turns.Turning.{Turning}
@@ -42,26 +41,28 @@ noStretch =
 
 -- ---- a day more
 
--- `r` are the same terms on the day d
-pub record TermsOn (terms : Terms) (d : ℕ) (r : Terms) : Type 0 where
-  pub is : r ≡ termsOn terms d
-
--- `r` is the stretch of the day d alone
-pub record Opened (f : ℕ → Outcome) (d : ℕ) (r : Declared.Stretch) : Type 0 where
-  pub is : asStretch r ≡ Walk.opened d (f d)
+-- `r` is the stretch of the day d alone, which has this outcome
+pub record Opened (o : Coded.Outcome) (d : ℕ) (r : Declared.Stretch) : Type 0 where
+  pub is : asStretch r ≡ Walk.opened d (asOutcome o)
 
 -- `r` is the stretch grown to the day d
 pub record Longer (hand : Declared.Stretch) (d : ℕ) (r : Declared.Stretch) : Type 0 where
   pub is : asStretch r ≡ record { first = hand .first .0; last = d; outcome = asOutcome (hand .outcome) }
 
--- a day that is not due has the outcome in hand
-pub record Steady (f : ℕ → Outcome) (hand : Declared.Stretch) (d : ℕ) (due : Bool) : Type 0 where
+-- a day that is not due has the outcome in hand, and one that is has this
+pub record Told (f : ℕ → Outcome) (hand : Declared.Stretch) (d : ℕ) (due : Bool) (o : Coded.Outcome) : Type 0 where
   pub stays : due ≡ false → asOutcome (hand .outcome) ≡ f d
+  pub priced : due ≡ true → asOutcome o ≡ f d
 
 pub record Turned (f : ℕ → Outcome) (hand : Declared.Stretch) (d : ℕ) (r : Turning) : Type 0 where
   pub most : r .fresh ≤ 1
   pub fresh : r .fresh ≡ cond (sameOutcome (asOutcome (hand .outcome)) (f d)) 0 1
   pub is : asStretch (r .stretch) ≡ Walk.turned (asStretch hand) d (f d)
+
+-- whatever the outcomes of days are, as long as these are told
+pub record TurnedBy (hand : Declared.Stretch) (d : ℕ) (due : Bool) (o : Coded.Outcome) (r : Turning) : Type 0 where
+  pub most : r .fresh ≤ 1
+  pub of : (f : ℕ → Outcome) → Told f hand d due o → Turned f hand d r
 
 -- ---- all days
 
@@ -70,6 +71,11 @@ pub record Marked (f : ℕ → Outcome) (dates : List ℕ) (marks : List Bool) :
   pub some-day : 0 < length dates
   pub few : length dates ≤ mostDays
   pub stays : (i : ℕ) → i + 1 < length dates → getD marks (i + 1) false ≡ false → f (getD dates i 0) ≡ f (getD dates (i + 1) 0)
+
+-- so the outcome of every day is known
+pub record Known (f : ℕ → Outcome) (dates : List ℕ) (marks : List Bool) (outcomes : List Coded.Outcome) : Type 0 where
+  pub marked : Marked f dates marks
+  pub priced : PricedOn f dates marks outcomes
 
 -- `r` lists these stretches, and none behind them
 pub record Lists (ss : List Stretch) (r : Stretches) : Type 0 where
@@ -89,31 +95,16 @@ pub record Going (f : ℕ → Outcome) (dates : List ℕ) (marks : List Bool) (l
   pub hand : asOutcome (getD list n noStretch .outcome) ≡ f (getD dates (i - 1) 0)
   pub goes : map asStretch (take n list) ++ Walk.walked f (asStretch (getD list n noStretch)) (drop i dates) ≡ stretches f dates
 
--- ---- the same for every question that asks so: f has what it costs, day by day
+-- ---- whatever the outcomes of days are, as long as they are known
 
-pub record OpenedFor (b number table : List ℕ) (terms : Terms) (d : ℕ) (r : Declared.Stretch) : Type 0 where
-  pub of : (q : Question) → Asks q number table terms → Opened (outcome (recordsLeft b 5) q) d r
-
-pub record SteadyFor (b number table : List ℕ) (terms : Terms) (hand : Declared.Stretch) (d : ℕ) (due : Bool) : Type 0 where
-  pub of : (q : Question) → Asks q number table terms → Steady (outcome (recordsLeft b 5) q) hand d due
-
-pub record TurnedFor (b number table : List ℕ) (terms : Terms) (hand : Declared.Stretch) (d : ℕ) (r : Turning) : Type 0 where
-  pub most : r .fresh ≤ 1
-  pub of : (q : Question) → Asks q number table terms → Turned (outcome (recordsLeft b 5) q) hand d r
-
-pub record MarkedFor (b number table : List ℕ) (terms : Terms) (dates : List ℕ) (marks : List Bool) : Type 0 where
-  pub some-day : 0 < length dates
-  pub few : length dates ≤ mostDays
-  pub of : (q : Question) → Asks q number table terms → Marked (outcome (recordsLeft b 5) q) dates marks
-
-pub record ListsFor (b number table : List ℕ) (terms : Terms) (dates : List ℕ) (r : Stretches) : Type 0 where
-  pub of : (q : Question) → Asks q number table terms → Lists (stretches (outcome (recordsLeft b 5) q) dates) r
+pub record ListsBy (dates : List ℕ) (marks : List Bool) (outcomes : List Coded.Outcome) (r : Stretches) : Type 0 where
+  pub of : (f : ℕ → Outcome) → Known f dates marks outcomes → Lists (stretches f dates) r
 
 -- the days before i have gone by
-pub record GoingFor (b number table : List ℕ) (terms : Terms) (dates : List ℕ) (marks : List Bool) (list : List Declared.Stretch) (n i : ℕ) : Type 0 where
+pub record GoingBy (dates : List ℕ) (marks : List Bool) (outcomes : List Coded.Outcome) (list : List Declared.Stretch) (n i : ℕ) : Type 0 where
   pub few : length dates ≤ mostDays
   pub low : 1 ≤ i
   pub place : n < i
   pub most : i ≤ length dates
   pub long : length list ≡ mostDays
-  pub of : (q : Question) → Asks q number table terms → Going (outcome (recordsLeft b 5) q) dates marks list n i
+  pub of : (f : ℕ → Outcome) → Known f dates marks outcomes → Going f dates marks list n i

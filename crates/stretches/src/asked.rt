@@ -2,6 +2,7 @@
 use crate::Stretches;
 use crate::walk::stretches_of;
 use grants::terms::wanted_in;
+use outcomes::outcomes_of;
 use period::marks::marks_of;
 use question::Ask;
 use survey::window::Window;
@@ -37,5 +38,6 @@ pub fn stretches_in(
     let article = &question[from..to];
     let last = window.last;
     let marks = marks_of(&book[..last], window.first, article, terms.sort, dates);
-    stretches_of(book, window, article, &table, terms, dates, marks)
+    let priced = outcomes_of(book, window, article, &table, terms, dates, marks);
+    stretches_of(dates, marks, priced)
 }

@@ -4,42 +4,23 @@ use crate::Stretches;
 use crate::turns::opened;
 use crate::turns::turn;
 use days::Day;
-use grants::terms::Terms;
-use survey::window::Window;
-ghost use Rattle.grants.specs.Asks.{Asked};
-ghost use Rattle.survey.specs.Window.{Windows};
-ghost use Rattle.stretches.specs.Stretches.{MarkedFor, ListsFor};
+use rules::Outcome;
+ghost use Prim.Native.Nat.{_≤_, _<_};
+ghost use lib.ListN.{length};
+ghost use Rattle.stretches.specs.Stretches.{ListsBy};
 
-// The stretch in hand is the last of the list.
-pub fn stretches_of(
-    b: &[u8],
-    w: Window,
-    article: &[u8],
-    table: &[u8],
-    terms: Terms,
-    dates: &[u32],
-    marks: [bool; 1097],
-) -> Stretches
-    requires { ⌜ Asked (now article) (now table) terms ⌝ }
-    requires { ⌜ Windows (now b) 5 (now article) (terms .sort) w ⌝ }
-    requires { ⌜ MarkedFor (now b) (now article) (now table) terms (now dates) marks ⌝ }
-    ensures { λ r. ⌜ ListsFor (now (b .entry)) (now (article .entry)) (now (table .entry)) terms (now (dates .entry)) r ⌝ }
+// The stretch in hand is the last of the list. The first day and the marked ones have their outcomes.
+pub fn stretches_of(dates: &[u32], marks: [bool; 1097], outcomes: [Outcome; 1096]) -> Stretches
+    requires { ⌜ 0 < length (now dates) ⌝ }
+    requires { ⌜ length (now dates) ≤ 1096 ⌝ }
+    ensures { λ r. ⌜ ListsBy (now (dates .entry)) marks outcomes r ⌝ }
 {
     let mut list = [NO_STRETCH; 1096];
-    list[0] = opened(b, w, article, table, terms, Day(dates[0]));
+    list[0] = opened(Day(dates[0]), outcomes[0]);
     let mut n = 0;
     let mut i = 1;
     while i < dates.len() {
-        let t = turn(
-            b,
-            w,
-            article,
-            table,
-            terms,
-            list[n],
-            Day(dates[i]),
-            marks[i],
-        );
+        let t = turn(list[n], Day(dates[i]), marks[i], outcomes[i]);
         let hand = t.stretch;
         n = n + t.fresh;
         list[n] = hand;

@@ -1,12 +1,13 @@
--- `stretches::asked::stretches_in` meets its contract: the question asks by what is made of it, and the marks make all other days steady, by
--- the laws `asked-..`.
+-- `stretches::asked::stretches_in` meets its contract: the question asks by what is made of it, the days of change are
+-- priced, and the marks make all other days steady, by the laws `asked-..`.
 use borrow.Author.Needs.{needs}
 use Rattle.grants.proofs.AskLaws.{article-inside, wanted-asked}
-use Rattle.stretches.proofs.AskedLaws.{window-size, window-between, asked-window, asked-marked, asked-told}
+use Rattle.outcomes.proofs.OutcomeLaws.{window-size, window-between}
+use Rattle.stretches.proofs.AskedLaws.{asked-window, asked-lists, dates-few}
 use Rattle.stretches.proofs.asked.stretches_in.Statement.{statement}
 use Rattle.stretches.proofs.asked.stretches_in.Tie as tie
 
-ruleset laws = (needs, article-inside, wanted-asked, window-size, window-between, asked-window, asked-marked, asked-told)
+ruleset laws = (needs, article-inside, wanted-asked, window-size, window-between, asked-window, asked-lists, dates-few)
 
 pub stretches-in-spec : {M : Type 1} → statement M
 stretches-in-spec =
@@ -19,6 +20,7 @@ stretches-in-spec =
     (λ c. search laws)  -- part-article-end
     (λ c. search laws)  -- slice-aggregate-marks-of
     (λ c κs. search laws)  -- marks-of-requires
-    (λ c. search needs)  -- slice-aggregate-stretches-of
+    (λ c. search needs)  -- slice-aggregate-outcomes-of
+    (λ c κs. search laws)  -- outcomes-of-requires
     (λ c κs. search laws)  -- stretches-of-requires
     (λ c. search laws))  -- returns

@@ -1,20 +1,20 @@
 -- `stretches::walk::stretches_of` meets its contract: the stretches closed, the one in hand and the days to come make up the whole, by
--- the laws `for-..`.
+-- the laws `by-..`.
 use Prim.Native.Nat.{_-_}
 use lib.ListN.{length}
 use borrow.Author.Needs.{needs}
-use Rattle.stretches.specs.Stretches.{GoingFor}
-use Rattle.stretches.proofs.WalkLaws.{for-start, for-steady, for-turn, for-end}
+use Rattle.stretches.specs.Stretches.{GoingBy}
+use Rattle.stretches.proofs.WalkLaws.{by-start, by-turn, by-end}
 use Rattle.stretches.proofs.walk.stretches_of.Statement.{statement}
 use Rattle.stretches.proofs.walk.stretches_of.Tie as tie
 
-ruleset laws = (needs, for-start, for-steady, for-turn, for-end)
+ruleset laws = (needs, by-start, by-turn, by-end)
 
 abbrev Inv-loop : tie.InvT-loop
-Inv-loop b w article table terms dates marks list₀ n₀ i₀ list n i = GoingFor b article table terms dates marks list n i
+Inv-loop dates marks outcomes list₀ n₀ i₀ list n i = GoingBy dates marks outcomes list n i
 
 abbrev μ-loop : tie.MeasureT-loop
-μ-loop b w article table terms dates marks list₀ n₀ i₀ list n i = length dates - i
+μ-loop dates marks outcomes list₀ n₀ i₀ list n i = length dates - i
 
 pub stretches-of-spec : {M : Type 1} → statement M
 stretches-of-spec =
@@ -31,7 +31,7 @@ stretches-of-spec =
     (λ c. search needs)  -- mul-turn-2
     (λ c. search needs)  -- shared-slice-read-turn
     (λ c. search needs)  -- array-read-turn
-    (λ c κs. (search needs, (search needs, for-steady (c .before .before .before .loop .inv) (c .before .before .loop-test .taken))))  -- turn-requires
+    (λ c κs. search needs)  -- turn-requires
     (λ c. search needs)  -- add-n
     (λ c. search needs)  -- mul-list
     (λ c. search needs)  -- array-set-from-list-2
