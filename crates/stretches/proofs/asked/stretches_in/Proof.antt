@@ -7,7 +7,15 @@ use Rattle.stretches.proofs.AskedLaws.{asked-window, asked-lists, dates
 use Rattle.stretches.proofs.asked.stretches_in.Statement.{statement}
 use Rattle.stretches.proofs.asked.stretches_in.Tie as tie
 
-ruleset laws = (needs, article-inside, wanted-asked, window-size, window-between, asked-window, asked-lists, dates-few)
+ruleset laws = (needs, article-inside, wanted-asked, window-size, window-between, asked-window, dates-few)
+
+returns : tie.Need-returns
+returns c =
+    let priced = c .before in
+    let marked = priced .before .before in
+    let made = marked .before .before .before .before .before .before .before in
+    let asked = made .before .before .before .before .pre in
+    asked-lists (made .wanted-in .ensures) (asked .1 .0) (asked .1 .1 .0) (asked .1 .1 .1) (marked .marks-of .ensures) (priced .outcomes-of .ensures) (c .stretches-of .ensures)
 
 pub stretches-in-spec : {M : Type 1} → statement M
 stretches-in-spec =
@@ -23,4 +31,4 @@ stretches-in-spec =
     (λ c. search needs)  -- slice-aggregate-outcomes-of
     (λ c κs. search laws)  -- outcomes-of-requires
     (λ c κs. search laws)  -- stretches-of-requires
-    (λ c. search laws))  -- returns
+    returns)

@@ -22,15 +22,18 @@ stretches-of-spec =
     (tie.spec
     Inv-loop
     μ-loop
-    (λ c. search needs)  -- shared-slice-read-opened
-    (λ c κs. search laws)  -- opened-requires
+    (λ c. search needs)  -- shared-slice-read-t18
+    (λ c. search needs)  -- array-copy-out-opened
+    (λ c κs. search needs)  -- opened-requires
     (λ c. search needs)  -- array-set-from-list
     (λ c. search laws)  -- loop-holds
     (λ c. search needs)  -- mul-turn
     (λ c. search needs)  -- array-copy-out-turn
-    (λ c. search needs)  -- mul-turn-2
-    (λ c. search needs)  -- shared-slice-read-turn
+    (λ c. search needs)  -- mul-t28
+    (λ c. search needs)  -- shared-slice-read-t30
     (λ c. search needs)  -- array-read-turn
+    (λ c. search needs)  -- mul-turn-2
+    (λ c. search needs)  -- array-copy-out-turn-2
     (λ c κs. search needs)  -- turn-requires
     (λ c. search needs)  -- add-n
     (λ c. search needs)  -- mul-list
@@ -38,5 +41,5 @@ stretches-of-spec =
     (λ c. search needs)  -- add-i
     (λ c. search needs)  -- loop-less
     (λ c. search laws)  -- loop-again
-    (λ c. search needs)  -- add-t32
+    (λ c. search needs)  -- add-t41
     (λ c. search laws))  -- returns
