@@ -1,5 +1,5 @@
 -- A record over the days of a block: it is the same on each of them, or it is listed; and what the list holds.
-use Prim.Native.Nat.{ℕ, suc, _+_, _-_, _≤_, _<_}
+use Prim.Native.Nat.{ℕ, suc, _+_, _≤_, _<_}
 use mathlib.Core.Path.{_≡_, refl, sym, _∙_, ap, subst}
 use mathlib.Core.Bool.{Bool, true, false, _&&_, _||_, not, cond, false≢true}
 use mathlib.Core.List.{List, [], _∷_, _++_}
@@ -25,7 +25,7 @@ use Rattle.grants.specs.declared.terms.Terms.{Terms}
 use Rattle.grants.specs.Asks.{Asks, termsOn}
 use Rattle.choice.specs.declared.hands.Passing.{Passing}
 use Rattle.choice.specs.declared.block.Through.{Through}
-use Rattle.choice.specs.Walk.{slotOf, standing, passingOf, passingIn, uncounted, SlotIs, RowPasses}
+use Rattle.choice.specs.Walk.{slotOf, standing, passingOf, uncounted, SlotIs, RowPasses}
 use Rattle.choice.specs.Block.{AsksWithin, Alike, Same, Unread, RowThrough, PassesThrough, mostListed, RowNoted}
 use Rattle.choice.proofs.PassingLaws.{no-day, row-is, other-is}
 

@@ -23,7 +23,7 @@ module _ (upto : ℕ) where
   limit-some n h = record { is = rw (ne-eqb upto 0 n); below = omega arith }
 
 module _ (new old : Hand) where
-  pub better-is : {a b top : ℕ} → Number (limitOf (new .upto)) top a → Number (limitOf (old .upto)) top b 
+  pub better-is : {a b top : ℕ} → Number (limitOf (new .upto)) top a → Number (limitOf (old .upto)) top b
       → Says (betterHand new old) (ltb a b || (eqb a b && (ltb (old .from) (new .from) || (eqb (new .from) (old .from) && ltb (new .at) (old .at)))))
   unfolding betterHand
   better-is p q = record { is = rw (p .is, q .is) }

@@ -1,5 +1,5 @@
 -- Of two hands that stand apart in the book one is better: so it does not matter in which order two rows go by.
-use Prim.Native.Nat.{ℕ, _≤_, _<_}
+use Prim.Native.Nat.{_≤_, _<_}
 use mathlib.Core.Path.{_≡_, refl, sym, _∙_, ap}
 use mathlib.Core.Bool.{Bool, true, false, _&&_, _||_, not, cond, false≢true}
 use native.Mathlib.Omega.{arith}

@@ -22,7 +22,6 @@ use Rattle.rules.proofs.KindLaws.{rowKind, read-only}
 use Rattle.rules.proofs.ChoiceLaws as Choice
 use Rattle.layout.specs.Records.{recordsLeft, Between, RecordHere, StopIs}
 use Rattle.book.proofs.WalkLaws.{pass-here, pass-next, pass-record, pass-end}
-use Rattle.records.specs.Tests as Tests
 use Rattle.grants.specs.declared.terms.Terms.{Terms}
 use Rattle.grants.specs.Asks.{Asks}
 use Rattle.choice.specs.declared.hands.Hand.{Hand}

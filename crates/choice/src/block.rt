@@ -1,4 +1,4 @@
-// Days in a row that are asked about one after the other: most rows are to each of them what they are to the first, and the others are listed.
+// A block: days in a row that are asked about one after the other. A row that is the same to all of them is seen once, any other is listed.
 use crate::hands::NO_SLOT;
 use crate::hands::Passing;
 use crate::passing::row_passing;
@@ -60,7 +60,14 @@ fn row_through(t: &[u8], row: PriceRow, at: usize, table: &[u8], terms: Terms, l
 }
 
 // The record that stands at `at` and has the body t.
-pub fn record_through(t: &[u8], at: usize, article: &[u8], table: &[u8], terms: Terms, last: Day) -> Through
+pub fn record_through(
+    t: &[u8],
+    at: usize,
+    article: &[u8],
+    table: &[u8],
+    terms: Terms,
+    last: Day,
+) -> Through
     requires { ⌜ Accepted (now t) ⌝ }
     requires { ⌜ Tabled (now table) terms ⌝ }
     ensures { λ r. ⌜ PassesThrough (now (article .entry)) (now (table .entry)) terms (last .0) at (whole kinded (now (t .entry))) r ⌝ }

@@ -14,7 +14,6 @@ use crate::passing::passing;
 use book::record_stop;
 use days::Day;
 use grants::terms::Terms;
-ghost use Prim.Native.Nat.{_≤_};
 ghost use mathlib.Core.Path.{_≡_};
 ghost use lib.ListN.{length};
 ghost use Rattle.rules.specs.Book.{rows};
@@ -44,7 +43,7 @@ pub fn slots_for(w: &[u8], from: usize, article: &[u8], table: &[u8], terms: Ter
     slots
 }
 
-// What the slots keep of the rows that are the same on all days of a block, and how many others are listed.
+// What the slots keep of the rows that are the same on all days of a block; n others are listed, or more than fit.
 pub struct Shared {
     pub slots: [Seen; 100],
     pub n: usize,

@@ -5,11 +5,10 @@ use mathlib.Core.Bool.{Bool, true, false, _||_, false≢true}
 use mathlib.Core.List.{List}
 use native.Mathlib.Omega.{arith}
 use native.Mathlib.Decide.{decLt, ℕ-discrete}
-use lib.Dec.{eqb}
 use lib.ListN.{length, take, getD, set, replicate, length-set, length-replicate}
 use lib.Seq.{length-take-le, getD-set-same, getD-set-other}
 use borrow.Author.Tests.{ne-eqb}
-use Rattle.rules.specs.Calendar.{asOutcome, outcome, mostDays}
+use Rattle.rules.specs.Calendar.{asOutcome, outcome}
 use Rattle.rules.specs.Question.{Question, on}
 use Rattle.rules.specs.declared.Outcome as Coded
 use Rattle.layout.specs.Records.{recordsLeft, Between}
@@ -23,7 +22,7 @@ use Rattle.choice.specs.Block.{mostListed, SharedOn, SharedFor}
 use Rattle.quote.specs.Quote.{OutcomeFor}
 use Rattle.period.specs.Positions.{Dates}
 use Rattle.outcomes.specs.declared.Block.{Block}
-use Rattle.outcomes.specs.Outcomes.{TermsOn, BlockEnd, BlockFrom, BlockAt, noOutcome, isDue, PricedOn, PricedFor, NextDue, OutcomesFor, Pricing}
+use Rattle.outcomes.specs.Outcomes.{TermsOn, BlockEnd, BlockFrom, BlockAt, noOutcome, isDue, PricedFor, NextDue, OutcomesFor, Pricing}
 
 -- ---- the window of the article and sort
 
@@ -35,9 +34,6 @@ module _ {b article : List ℕ} {sort : ℕ} {w : Window} (h : Windows b 5 artic
   window-between = h .between
 
 -- ---- the terms of a day
-
-pub terms-then : (terms : Terms) (d : ℕ) → TermsOn terms d (termsOn terms d)
-terms-then terms d = record { is = refl }
 
 module _ {terms : Terms} {d : ℕ} {then : Terms} (t : TermsOn terms d then) where
   pub asked-then : {number table : List ℕ} → Asked number table terms → Asked number table then
@@ -61,13 +57,6 @@ module _ {terms : Terms} {d : ℕ} {then : Terms} (t : TermsOn terms d then) whe
   }
 
 -- ---- a block
-
-module _ {i days : ℕ} (h : i < days) where
-  pub end-near : days - i < 32 → BlockEnd i days days
-  end-near l = record { later = h; fits = omega arith }
-
-  pub end-far : 32 ≤ days - i → BlockEnd i days (i + 32)
-  end-far l = record { later = omega arith; fits = omega arith }
 
 ordered : {dates : List ℕ} → Dates dates → (i j : ℕ) → i ≤ j → j < length dates → getD dates i 0 ≤ getD dates j 0
 ordered {dates} d i j l h = go (decLt i j)

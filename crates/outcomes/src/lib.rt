@@ -11,7 +11,7 @@ use rules::Outcome;
 use survey::window::Window;
 ghost use Prim.Native.Nat.{_≤_, _<_};
 ghost use mathlib.Core.Path.{_≡_};
-ghost use lib.ListN.{length, take, getD};
+ghost use lib.ListN.{length, take};
 ghost use Rattle.grants.specs.Asks.{Asked, termsOn};
 ghost use Rattle.choice.specs.Block.{SharedOn};
 ghost use Rattle.survey.specs.Window.{Windows};
