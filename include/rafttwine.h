@@ -51,7 +51,7 @@
  *   4 bytes   the day, as the number yyyymmdd
  *   4 bytes   the quantity, 1 to 100000
  *   1 byte    how many conditions are granted, at most 32; then for each of them
- *                a name    of 1 to 20 bytes. Small letters a to z count as capitals
+ *                a name    of 1 to 20 bytes. Small letters count as capitals: a to z, and bytes 224 to 254 but 247
  *                2 bytes   in version 2 alone: its factor in thousandths, 0 to RAFTTWINE_MOST_FACTOR
  *             A condition's place is its position in this list, from 1
  *   1 byte    how many properties there are, at most 32; then for each of them
@@ -82,7 +82,7 @@ extern "C" {
 
 /* This header's version. The first number changes when a program has to be compiled anew, the second when something is added. */
 #define RAFTTWINE_VERSION_MAJOR 2
-#define RAFTTWINE_VERSION_MINOR 2
+#define RAFTTWINE_VERSION_MINOR 3
 #define RAFTTWINE_VERSION_PATCH 0
 /* As one number that grows from version to version, and as text with dots between. */
 #define RAFTTWINE_VERSION_NUMBER (RAFTTWINE_VERSION_MAJOR * 10000 + RAFTTWINE_VERSION_MINOR * 100 + RAFTTWINE_VERSION_PATCH)
@@ -334,7 +334,7 @@ rafttwine_placed rafttwine_write_prices(const uint8_t *book, size_t book_length,
  * properties are a list:
  *
  *   1 byte    how many properties there are, at most 64; then for each of them
- *                a name   what the relation calls it, of 0 to 255 bytes. Small letters a to z count as capitals
+ *                a name   what the relation calls it, of 0 to 255 bytes. Small letters count as capitals
  *                1 byte   0 if it has no value, 1 if that is a text, 2 if it is a number
  *                a name   of a text: its 0 to 255 bytes
  *                8 bytes  of a number: it, signed (two's complement)

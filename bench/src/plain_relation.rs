@@ -111,7 +111,10 @@ fn order(one: Value, other: Value, case_counts: bool) -> Option<Ordering> {
 }
 
 fn raised(string: &[u8]) -> impl Iterator<Item = u8> + '_ {
-    string.iter().map(u8::to_ascii_uppercase)
+    string.iter().map(|&byte| match byte {
+        b'a'..=b'z' | 224..=246 | 248..=254 => byte - 32,
+        _ => byte,
+    })
 }
 
 impl<'a> Operand<'a> {

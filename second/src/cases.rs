@@ -5,6 +5,7 @@
 
 use crate::basket::ANSWER_LENGTH;
 use crate::days::{day_before, is_day, next_day, period};
+use crate::letters::small;
 use crate::make::{self, latin1, Article, Granted, Packaging, Price, Property, Question, Record, Rounding, Scheme, TextRecord};
 use crate::price::LINE_LENGTH;
 use crate::random::Random;
@@ -259,12 +260,13 @@ fn swept(case: Case, target: Target) -> impl Iterator<Item = Case> {
 
 // The pools.
 
-/// Names that begin alike, repeat when raised, or only look as if they did.
+/// Names that begin alike, repeat when raised, or only look as if they did: bytes 223, 247 and 255 stay, though others stand 32
+/// before them.
 const NAMES: [&str; 14] = [
     "OAK",
-    "ASH",
-    "ELM",
-    "O",
+    "\u{df}\u{f7}\u{ff}",
+    "\u{bf}\u{d7}\u{df}",
+    "\u{c0}\u{d6}\u{d8}\u{de}",
     "OA",
     "OAKS",
     "OAK ",
@@ -440,7 +442,7 @@ impl Scene {
     /// The same name once raised, but with some letters small.
     fn recased(&mut self, name: &[u8]) -> Vec<u8> {
         let chance = self.random.pick(&[0, 50, 100]);
-        name.iter().map(|byte| if self.random.percent(chance) { byte.to_ascii_lowercase() } else { *byte }).collect()
+        name.iter().map(|byte| if self.random.percent(chance) { small(*byte) } else { *byte }).collect()
     }
 
     fn condition(&mut self) -> Vec<u8> {

@@ -18,6 +18,7 @@ pub mod file_cases;
 pub mod file_compare;
 pub mod file_faults;
 pub mod fraction;
+pub mod letters;
 pub mod make;
 pub mod number;
 pub mod packaging;

@@ -1,6 +1,7 @@
 //! The question, read whole for every call.
 
 use crate::days::is_day;
+use crate::letters::raised;
 use crate::reader::{begun, Reader};
 
 /// Factors are told in thousandths. This one leaves an amount as it is, and holds where none is told.
@@ -80,7 +81,7 @@ impl Question {
     pub fn granted_once(&self) -> Vec<Granted> {
         let mut once: Vec<Granted> = Vec::new();
         for (index, sent) in self.granted.iter().enumerate() {
-            let name = sent.name.to_ascii_uppercase();
+            let name = raised(&sent.name);
             if once.iter().all(|earlier| earlier.name != name) {
                 let place = index as u8 + 1;
                 once.push(Granted { place, name, factor: sent.factor });

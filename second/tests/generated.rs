@@ -7,6 +7,7 @@ use second::calls::Second;
 use second::cases::{plain_case, sweep, Case};
 use second::compare::{compare, run, Call, Plan, ALL_CALLS, QUESTION_NUMBERS};
 use second::counts::Counts;
+use second::letters::raised;
 use second::make::{Granted, Question};
 use second::question_ok;
 use second::shrink::shrunk;
@@ -98,9 +99,8 @@ fn factors_of_the_whole_range_come_up() {
 
 /// The granted names in front of a place that are the same once raised.
 fn repeated(question: &Question, place: usize) -> impl Iterator<Item = &Granted> {
-    let raised = |granted: &Granted| granted.name.to_ascii_uppercase();
-    let name = raised(&question.granted[place]);
-    question.granted[..place].iter().filter(move |earlier| raised(earlier) == name)
+    let name = raised(&question.granted[place].name);
+    question.granted[..place].iter().filter(move |earlier| raised(&earlier.name) == name)
 }
 
 #[test]

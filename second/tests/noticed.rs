@@ -7,9 +7,10 @@ use second::book::Way;
 use second::cases::Case;
 use second::compare::{compare, Call, Plan};
 use second::fraction::Fraction;
+use second::letters::capital;
 use second::make::{Granted, Record};
 use second::price::{round, Reckoning, LINE_LENGTH, PLAIN};
-use second::question::FACTOR_OF_ONE;
+use second::question::{Question, FACTOR_OF_ONE};
 use second::shrink::shrunk;
 
 /// The first of many cases on which a broken call is noticed, made small.
@@ -171,6 +172,35 @@ fn a_factor_of_nothing_that_takes_the_grant_away_is_noticed() {
     }));
     assert!(small.book.len() <= 3);
     assert!(factors(&small.question.granted).contains(&0));
+}
+
+// Letters.
+
+/// The granted names of a question by other letters, before they are raised.
+fn by_letters(read: fn(&mut Question)) -> Case {
+    let small = noticed(&Broken::Rules(Rules { read, ..RIGHT }));
+    assert!(small.book.len() <= 3);
+    small
+}
+
+fn each_letter(question: &mut Question, letter: fn(u8) -> u8) {
+    for granted in &mut question.granted {
+        granted.name = granted.name.iter().copied().map(letter).collect();
+    }
+}
+
+#[test]
+fn another_raising_is_noticed() {
+    // Umlauts that no row can have, as if they were not raised; then a byte more that is raised.
+    let lost = by_letters(|question| each_letter(question, |byte| if byte > 223 && capital(byte) < byte { 161 } else { byte }));
+    assert!(lost.question.granted.iter().any(|granted| granted.name.iter().any(|&byte| byte > 223)));
+    for (byte, small) in [
+        (223, by_letters(|question| each_letter(question, |byte| if byte == 223 { 191 } else { byte }))),
+        (247, by_letters(|question| each_letter(question, |byte| if byte == 247 { 215 } else { byte }))),
+        (255, by_letters(|question| each_letter(question, |byte| if byte == 255 { 223 } else { byte }))),
+    ] {
+        assert!(small.question.granted.iter().any(|granted| granted.name.contains(&byte)), "{byte}");
+    }
 }
 
 // Halves.

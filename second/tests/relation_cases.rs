@@ -5,7 +5,8 @@ use std::collections::HashSet;
 
 use second::bad_relations::{bad_relations, beside, texts};
 use second::calls::{RelationCalls, Second};
-use second::make::latin1;
+use second::letters::capital;
+use second::make::{latin1, ListedValue};
 use second::random::Random;
 use second::refusal::{BAD_DERIVED_NAME, BAD_RELATION, TOO_DEEP};
 use second::relation::{Properties, Refused, Relation};
@@ -290,6 +291,34 @@ fn constants_without_their_case_are_noticed() {
     // In a price the names are raised anyway.
     let small = noticed(RelationCall::PriceDerived, &Broken { relation: |text| text.to_ascii_uppercase(), ..RIGHT });
     assert!(small.properties.is_empty());
+}
+
+/// The names derived where the properties have other letters in their values.
+fn by_letters(case: &RelationCase, relation: &Relation, letter: fn(u8) -> u8) -> Option<Vec<Vec<u8>>> {
+    let mut case = case.clone();
+    for listed in &mut case.properties {
+        if let ListedValue::Text(text) = &mut listed.value {
+            *text = text.iter().copied().map(letter).collect();
+        }
+    }
+    relation.names(&Properties::read(&case.inputs().properties)?).ok()
+}
+
+#[test]
+fn values_that_another_raising_would_change_come_up() {
+    let letters: [fn(u8) -> u8; 4] = [
+        // Umlauts lost, as if they were not raised; then a byte more that is raised.
+        |byte| if byte > 223 && capital(byte) < byte { 161 } else { byte },
+        |byte| if byte == 223 { 191 } else { byte },
+        |byte| if byte == 247 { 215 } else { byte },
+        |byte| if byte == 255 { 223 } else { byte },
+    ];
+    for letter in letters {
+        let count = read_cases()
+            .filter(|(case, _, relation)| by_letters(case, relation, |byte| byte) != by_letters(case, relation, letter))
+            .count();
+        assert!(count > 3, "{count}");
+    }
 }
 
 #[test]

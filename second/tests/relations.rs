@@ -145,11 +145,18 @@ fn the_case_of_a_property_does_not_count() {
 }
 
 #[test]
-fn only_a_to_z_are_raised() {
-    let listed = [Listed::text("A", "\u{e4}{"), Listed::text("B", "\u{c4}[")];
-    assert_false("A = B", &listed);
-    assert_true("A > B", &listed);
-    assert_true("A = '\u{e4}{'", &listed);
+fn letters_of_latin_1_are_raised() {
+    let listed = [Listed::text("A", "gr\u{fc}n"), Listed::text("B", "GR\u{dc}N")];
+    assert_true("A = B", &listed);
+    assert_true("A IN ('GR\u{dc}N') AND 'Gr\u{fc}n' = B", &listed);
+    assert_false("'gr\u{fc}n' = 'GR\u{dc}N'", &listed);
+    // What stays as it is has another byte 32 before it.
+    for (byte, before) in [("{", "["), ("\u{df}", "\u{bf}"), ("\u{f7}", "\u{d7}"), ("\u{ff}", "\u{df}")] {
+        let listed = [Listed::text("A", byte), Listed::text("B", before)];
+        assert_false("A = B", &listed);
+        assert_true("A > B", &listed);
+        assert_true(&format!("A = '{byte}'"), &listed);
+    }
 }
 
 #[test]

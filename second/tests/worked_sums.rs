@@ -404,14 +404,50 @@ fn granted_names_are_raised_and_counted_once() {
         Price::fixed("A2", b'X', 4).condition("ELM").into(),
         surcharge(5).condition("\u{c4}").into(),
         surcharge(0).condition("NIL").into(),
+        surcharge(6).condition("\u{e4}").into(),
     ]);
     let names = ["elm", "oak", "OAK", "Oak", "Ash", "elm", "\u{e4}", "\u{c4}", "nil"];
     let (answer, lines) = lines_of(&b, &ask(DAY).granted(&names));
     let shown: Vec<_> = lines.iter().map(|line| (line.1, line.2, line.3)).collect();
-    assert_eq!(shown, [('B', 0, 100), ('X', 2, 1), ('X', 5, 3), ('X', 8, 5), ('X', 9, 0)]);
-    // The small umlaut is not raised, so it stays a name of its own without a line.
-    assert_eq!(answer.unused, 0b0_0100_0001);
-    assert_eq!(answer.unused_count, 2);
+    assert_eq!(shown, [('B', 0, 100), ('X', 2, 1), ('X', 5, 3), ('X', 7, 5), ('X', 9, 0)]);
+    assert_eq!((answer.unused, answer.unused_count), (1, 1));
+}
+
+/// Of every byte of a name: it is granted in a row with the letter's capital, and in no other.
+#[test]
+fn letters_of_latin_1_are_raised() {
+    let names = (32..=126).chain(160..=255).filter_map(char::from_u32);
+    for letter in names {
+        let mut capital = letter.to_uppercase();
+        let capital = match (capital.next(), capital.next()) {
+            // Two letters for sharp s, and of micro and y with two dots none in Latin-1.
+            (Some(capital), None) if u32::from(capital) < 256 => capital,
+            _ => letter,
+        };
+        let granted = ask(DAY).granted(&[&letter.to_string()]);
+        for row in (32..=126).chain(160..=255).filter_map(char::from_u32) {
+            let b = book([article("A1"), base(100).into(), surcharge(5).condition(&row.to_string()).into()]);
+            let expected = if row == capital { 105 } else { 100 };
+            assert_eq!(unit(&b, &granted), Ok(expected), "{letter} {row}");
+        }
+    }
+}
+
+#[test]
+fn umlauts_are_raised_in_every_call() {
+    let own = Packaging::new("A1", "").value(0, 7);
+    let b = book([
+        article("A1"),
+        base(100).into(),
+        surcharge(5).condition("GR\u{dc}N").into(),
+        own.into(),
+        Packaging::new("*", "GR\u{dc}N").value(0, 3).into(),
+    ]);
+    let (answer, lines) = lines_of(&b, &ask(DAY).granted(&["blau", "gr\u{fc}n", "Gr\u{dc}n"]));
+    assert_eq!((answer.unit, answer.unused, answer.unused_count), (105, 1, 1));
+    assert_eq!((lines[1].1, lines[1].2), ('X', 2));
+    let packed = packaging(&b, &ask(DAY).granted(&["gr\u{fc}n", "GR\u{dc}N"]).bytes());
+    assert_eq!((packed.number, packed.values[0]), (0, 10));
 }
 
 #[test]

@@ -14,6 +14,16 @@ surcharge  no text  oak   12.50 EUR
 One piece                112.50 EUR
 No price line for castor
 
+Small letters of what is granted are raised to capitals, umlauts too; a row says it in capitals:
+
+>>> green = PriceRow("A1", Level.SURCHARGE, Cents(2_000), condition="GRÜN")
+>>> stained = book(Article("A1"), PriceRow("A1", Level.BASE, Cents(10_000)), green)
+>>> print(price(stained, question("A1", date(2024, 6, 30), granted=["grün", "GRÜN"])))
+base       no text        100.00 EUR
+surcharge  no text  grün   20.00 EUR
+------------------------------------
+One piece                 120.00 EUR
+
 A surcharge by the metre has the price of a metre in its row, and the metres are in the question; or whatever else is counted:
 
 >>> from rafttwine import Factor, Granted

@@ -51,7 +51,7 @@ class HeldValue:
 @dataclass(frozen=True)
 class Held(Laid):
     """A property of the planned piece by the name that relations have for it, and its value: a text, a whole number, or None for
-    none. Small letters a to z count as capitals. Of a name that no relation can have a RowWarning tells."""
+    none. Small letters count as capitals. Of a name that no relation can have a RowWarning tells."""
 
     name: str
     value: Value = None

@@ -170,8 +170,9 @@ def day_or_number(number: int) -> Union[date, NoDay]:
 
 
 def raised(name: str) -> str:
-    """A granted name as the library compares it: with capitals for the small letters a to z. Names in rows stand as they are."""
-    return re.sub("[a-z]", lambda letter: letter[0].upper(), name)
+    """A granted name as the library compares it: with capitals for the small letters that have one in Latin-1, which ß and ÿ lack.
+    Names in rows stand as they are."""
+    return re.sub("[a-zà-öø-þ]", lambda letter: letter[0].upper(), name)
 
 
 def money(hundredths: int, between: str = ",") -> str:

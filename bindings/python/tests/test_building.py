@@ -62,4 +62,4 @@ class BuildingTest(unittest.TestCase):
         self.assertEqual((repr(Percent("12.5")), str(Percent(-3))), ("Percent('12.50')", "-3.00 %"))
 
     def test_first_example(self) -> None:
-        self.assertEqual(doctest.testmod(rafttwine), (0, 23))
+        self.assertEqual(doctest.testmod(rafttwine), (0, 26))

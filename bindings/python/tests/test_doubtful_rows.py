@@ -19,6 +19,8 @@ DOUBTFUL: list[tuple[list[str], Callable[[], object]]] = [
     ([f"PriceRow.condition: 'oak' {NEVER} 'OAK'"], lambda: PriceRow("A1", Level.BASE, Cents(1), condition="oak")),
     ([f"PriceRow.condition: 'OAk' {NEVER} 'OAK'"], lambda: PriceRow("A1", Level.BASE, Cents(1), condition="OAk")),
     ([f"PackagingRow.condition: 'oak' {NEVER} 'OAK'"], lambda: PackagingRow("A1", "oak")),
+    ([f"PriceRow.condition: 'GRüN' {NEVER} 'GRÜN'"], lambda: PriceRow("A1", Level.BASE, Cents(1), condition="GRüN")),
+    ([f"PackagingRow.condition: 'àöøþß÷ÿ' {NEVER} 'ÀÖØÞß÷ÿ'"], lambda: PackagingRow("A1", "àöøþß÷ÿ")),
     ([f"PriceRow.value: a discount of 5.00 {RAISES}"], lambda: PriceRow("A1", Level.DISCOUNT, Cents(500))),
     ([f"PriceRow.value: a discount of 0.01 % {RAISES}"], lambda: PriceRow("A1", Level.DISCOUNT, Percent("0.01"))),
     ([f"PriceRow.condition: 'z' {NEVER} 'Z'", f"PriceRow.value: a discount of 10.00 % {RAISES}"],
@@ -44,6 +46,8 @@ DOUBTFUL: list[tuple[list[str], Callable[[], object]]] = [
     ([], lambda: question("A1", date.max, granted=[TWICE_AND_A_HALF, TWICE_AND_A_HALF, "ash", "ASH", Granted("ash")])),
     ([], lambda: PriceRow("A1", Level.BASE, Cents(1), first=date(2024, 7, 1), last=date(2024, 7, 1))),
     ([], lambda: PriceRow("a1", Level.BASE, Cents(1), condition="OAK 2")),
+    ([], lambda: PriceRow("A1", Level.BASE, Cents(1), condition="GRÜN")),
+    ([], lambda: PackagingRow("A1", "¿µß×÷ÿ")),
     ([], lambda: PriceRow("A1", Level.DISCOUNT, Cents(0))),
     ([], lambda: PriceRow("A1", Level.DISCOUNT, Percent(-10))),
     ([], lambda: PriceRow("A1", Level.SURCHARGE, Percent(10))),
@@ -76,6 +80,15 @@ class DoubtfulRowsTest(unittest.TestCase):
                     PriceRow("A1", Level.SURCHARGE, Cents(100), condition="oak"))
         answer = price(book(*rows), question("A1", date(2024, 1, 1), granted=["oak", "OAK"]))
         self.assertEqual(([line.amount for line in answer.lines], answer.unused), ([1000, 10], (1,)))
+
+    def test_the_library_raises_the_same_letters(self) -> None:
+        for letter in map(chr, [*range(32, 127), *range(160, 256)]):
+            with warnings.catch_warnings(record=True) as caught:
+                warnings.simplefilter("always")
+                row = PriceRow("A1", Level.SURCHARGE, Cents(1), condition=letter)
+            plain = (Article("A1"), PriceRow("A1", Level.BASE, Cents(1)))
+            answer = price(book(*plain, row), question("A1", date(2024, 1, 1), granted=[letter]))
+            self.assertEqual(answer.unit, 1 if caught else 2, letter)
 
     def test_what_is_said_of_factors_is_true_of_the_library(self) -> None:
         rows = Article("A1"), PriceRow("A1", Level.BASE, Cents(1000)), PriceRow("A1", Level.SURCHARGE, Cents(100), condition="OAK")

@@ -94,6 +94,6 @@ class FindingTest(unittest.TestCase):
 
     def test_a_call_is_missing(self) -> None:
         there = "".join(f"void rafttwine_{name}(void) {{}}\n" for name in library.CALLS if name not in ("version", "packaging"))
-        other = self.compiled(f"unsigned rafttwine_version(void) {{ return 20200; }}\n{there}")
-        self.assertIn(f"{other}, version 2.2.0, has no rafttwine_packaging, which this package needs; ",
+        other = self.compiled(f"unsigned rafttwine_version(void) {{ return 20300; }}\n{there}")
+        self.assertIn(f"{other}, version 2.3.0, has no rafttwine_packaging, which this package needs; ",
                       self.asked(RAFTTWINE_LIBRARY=other))

@@ -19,6 +19,7 @@ fn what_is_hardly_meant() {
         warnings,
         [
             format!("record 2, PriceRow.condition: \"Oak\" {small}"),
+            format!("record 3, PriceRow.condition: \"ÄÖü\" {small}"),
             "record 3, PriceRow.value: a discount of 3.33 % raises the price; what lowers it is below zero".to_string(),
             "record 4, PriceRow.days: the last day, 1 July 2024, is before the first, 2 July 2024, so it never holds".to_string(),
             format!("record 5, PackagingRow.condition: \"oak\" {small}"),
@@ -29,7 +30,7 @@ fn what_is_hardly_meant() {
 /// What the warnings say is so: each of these rows does what its warning says.
 #[test]
 fn warnings_are_right() {
-    let asked = Question::new("A1", day(20240701)).granted(["Oak", "ü"]).bytes().unwrap();
+    let asked = Question::new("A1", day(20240701)).granted(["Oak", "ü", "ß÷ÿ"]).bytes().unwrap();
     let with = |row: PriceRow| {
         let mut book = Book::new();
         book.add(Article::new("A1")).unwrap().add(PriceRow::base("A1", Cents(100))).unwrap().add(row).unwrap();
@@ -38,7 +39,9 @@ fn warnings_are_right() {
     let more = PriceRow::surcharge("A1", Cents(5));
     assert_eq!(with(more.condition("Oak")), (100, 1));
     assert_eq!(with(more.condition("OAK")), (105, 0));
-    assert_eq!(with(more.condition("ü")), (105, 0));
+    assert_eq!(with(more.condition("ü")), (100, 1));
+    assert_eq!(with(more.condition("Ü")), (105, 0));
+    assert_eq!(with(more.condition("ß÷ÿ")), (105, 0));
     assert_eq!(with(more.days(day(20240702), day(20240701))), (100, 1));
     assert_eq!(with(more.days(day(20240701), day(20240701))), (105, 0));
     assert_eq!(with(PriceRow::discount("A1", Cents(1))), (101, 1));

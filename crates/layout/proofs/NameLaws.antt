@@ -1,7 +1,7 @@
 -- Names at a place, byte strings compared, small letters raised.
 use Prim.Native.Nat.{ℕ, zero, suc, _+_, _-_, _≤_, _<_}
 use mathlib.Core.Path.{_≡_, refl, sym, _∙_, ap}
-use mathlib.Core.Bool.{Bool, true, false, _&&_, and-true, and-false, and-assoc}
+use mathlib.Core.Bool.{Bool, true, false, _&&_, _||_, not, and-true, and-false, and-assoc}
 use mathlib.Core.List.{List, [], _∷_, map}
 use mathlib.Core.Option.{Option, none}
 use mathlib.Core.Logic.{_⊎_, inl, inr}
@@ -11,10 +11,11 @@ use native.Mathlib.Decide.{decLt}
 use lib.Dec.{eqb, leb}
 use lib.ListN.{length, take, drop, getD, set, drop-of-length-le, length-map, List·getD-eq-default, List·getD-map}
 use lib.Seq.{drop-cons}
-use borrow.Author.Tests.{leb-true, lt-ltb, le-ltb, ne-eqb}
+use borrow.Author.Tests.{lt-ltb, le-ltb, ne-eqb}
 use Rattle.rules.specs.Lists.{all, between, isSome, same}
 use Rattle.rules.specs.Layout.{Layout, _>>=_, _such_, byte, whole, wholly}
-use Rattle.rules.specs.Bytes.{name, nameByte, raise}
+use Rattle.rules.specs.Bytes.{name, nameByte, smallLetter, raise}
+use Rattle.rules.proofs.TestLaws.{and-left, between-low}
 use Rattle.layout.specs.Reads.{Reads, part}
 use Rattle.layout.specs.Ensures.{Says, Accepts, Number, NameEnd, Puts}
 use Rattle.layout.proofs.LayoutLaws.{then-reads, then-rest, such-reads, then-when, then-broken, byte-at, bytes-at, byte-cut, bytes-cut}
@@ -156,20 +157,20 @@ module _ (xs ys : List ℕ) where
 
 -- ---- raised
 
-module _ (b : ℕ) where
-  -- there is room for the capital, whatever the other test says
-  pub small-letter : (t : Bool) → (leb 97 b && t) ≡ true → 32 ≤ b
-  small-letter t e = omega (arith, leb-true 97 b (go (leb 97 b) e))
+module _ {b : ℕ} {r : Bool} (p : Says (smallLetter b) r) where
+  -- there is room for the capital
+  pub small-letter : r ≡ true → 32 ≤ b
+  small-letter e = go (between 97 122 b) refl (p .is ∙ e)
     where
-      go : (x : Bool) → (x && t) ≡ true → x ≡ true
-      go true e = refl
-      go false e = e
+      go : (t : Bool) → between 97 122 b ≡ t → (t || (between 224 254 b && not (eqb b 247))) ≡ true → 32 ≤ b
+      go true f h = omega (arith, between-low 97 122 b f)
+      go false f h = omega (arith, between-low 224 254 b (and-left (between 224 254 b) (not (eqb b 247)) h))
 
-  pub raised : b < 256 → (leb 97 b && leb b 122) ≡ true → Number (raise b) 256 (b - 32)
-  raised h t = record { is = rw t; below = omega arith }
+  pub raised : b < 256 → r ≡ true → Number (raise b) 256 (b - 32)
+  raised h e = record { is = rw (p .is, e); below = omega arith }
 
-  pub not-raised : b < 256 → (leb 97 b && leb b 122) ≡ false → Number (raise b) 256 b
-  not-raised h t = record { is = rw t; below = h }
+  pub not-raised : b < 256 → r ≡ false → Number (raise b) 256 b
+  not-raised h e = record { is = rw (p .is, e); below = h }
 
 module _ (old : List ℕ) (at : ℕ) (name out : List ℕ) (i : ℕ) (inv : Storing old at (map raise name) out i) where
   pub raise-again : {r : ℕ} → i < length name → Number (raise (getD name i 0)) 256 r → Storing old at (map raise name) (set out (at + i) r) (i + 1)

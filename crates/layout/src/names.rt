@@ -4,7 +4,7 @@ ghost use Prim.Native.Nat.{_+_, _≤_};
 ghost use mathlib.Core.List.{map};
 ghost use lib.ListN.{length};
 ghost use Rattle.rules.specs.Lists.{all, same};
-ghost use Rattle.rules.specs.Bytes.{nameByte, raise};
+ghost use Rattle.rules.specs.Bytes.{nameByte, smallLetter, raise};
 ghost use Rattle.layout.specs.Ensures.{Says, Number, NameEnd, Puts};
 
 pub fn is_name_byte(b: u8) -> bool
@@ -71,11 +71,18 @@ pub fn same_bytes(a: &[u8], b: &[u8]) -> bool
     ok
 }
 
+// One that has a capital in Latin-1; 247 is the sign of division.
+fn is_small_letter(b: u8) -> bool
+    ensures { λ r. ⌜ Says (smallLetter b) r ⌝ }
+{
+    ((b'a' <= b) & (b <= b'z')) | ((224 <= b) & (b <= 254) & !(b == 247))
+}
+
 // A small letter's capital; any other byte as it is.
 pub fn raise_byte(b: u8) -> u8
     ensures { λ r. ⌜ Number (raise b) 256 r ⌝ }
 {
-    if (b'a' <= b) & (b <= b'z') { b - 32 } else { b }
+    if is_small_letter(b) { b - 32 } else { b }
 }
 
 pub fn put_raised(out: &mut [u8], at: usize, name: &[u8])

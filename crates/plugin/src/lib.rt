@@ -130,7 +130,7 @@ pub extern "C" fn rafttwine_write_prices(book: &[u8], out: &mut [u8]) -> PlacedA
 // The library's version: major times 10,000, minor times 100, patch. A program that loads the library can hold it against its header.
 #[no_mangle]
 pub extern "C" fn rafttwine_version() -> u32
-    ensures { λ r. ⌜ r ≡ 20200 ⌝ }
+    ensures { λ r. ⌜ r ≡ 20300 ⌝ }
 {
-    20_200
+    20_300
 }

@@ -27,13 +27,14 @@ pub record Case : Type 0 where
   pub relation : List ℕ
   pub worked : Out
 
--- a desk: COLOUR is rot, WIDTH is 900, FINISH is listed without a value first, and then with one
+-- a desk: COLOUR is rot, WIDTH is 900, FINISH is listed without a value first, and then with one, STAIN is Grün
 pub desk : List Held
 desk =
     record { name = text "Colour"; value = some (Text (text "rot")) }
     ∷ record { name = text "WIDTH"; value = some (Number (pos 900)) }
     ∷ record { name = text "FINISH"; value = none }
     ∷ record { name = text "FINISH"; value = some (Text (text "OIL")) }
+    ∷ record { name = text "STAIN"; value = some (Text (text "Grün")) }
     ∷ []
 
 pub found : Case → Out
@@ -89,6 +90,11 @@ cases =
     ∷ lost "WIDTH <> '900'"
     ∷ granted "WIDTH IN ('900', 900) AND COLOUR IN('blau','ROT')"
     ∷ lost "WIDTH IN ('900', 800)"
+    -- umlauts: beside a property as good as their capitals, between constants not, and in no name of a property
+    ∷ granted "STAIN = 'GRÜN' AND 'grün' EQ STAIN AND STAIN IN ('blau', 'grÜN')"
+    ∷ lost "STAIN <> 'grün' OR 'grün' = 'GRÜN'"
+    ∷ case "$VARCOND='grün' IF STAIN='GRÜN'" (Names (text "grün" ∷ []))
+    ∷ wrong "GRÜN=1" 19
     -- AND before OR, and parentheses
     ∷ granted "1=2 AND 1=2 OR 1=1"
     ∷ lost "1=2 AND (1=2 OR 1=1)"

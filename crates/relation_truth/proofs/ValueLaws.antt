@@ -1,18 +1,18 @@
 -- Values: those of a list of properties behind their kind byte, and those of the operands of a text.
 use Prim.Native.Nat.{ℕ, zero, suc, _+_, _-_, _*_, _≤_, _<_}
 use mathlib.Core.Path.{_≡_, refl, sym, _∙_, ap}
-use mathlib.Core.Bool.{Bool, true, false, _&&_, cond, false≢true}
+use mathlib.Core.Bool.{Bool, true, false, _&&_, _||_, not, cond, false≢true}
 use mathlib.Core.List.{List, [], _∷_, map}
 use mathlib.Core.Option.{Option, some, none}
 use native.Mathlib.Omega.{arith}
 use native.Mathlib.Numerals.{add-one}
 use native.Mathlib.Nat.{not-suc-le-zero}
-use lib.Dec.{leb}
+use lib.Dec.{eqb}
 use lib.IntN.{pos, negsuc, negℤ}
 use lib.ListN.{length, take, drop, getD}
 use borrow.Author.Tests.{lt-ltb, le-ltb, lt-leb}
 use Rattle.rules.specs.Lists.{between, isSome, ifSome}
-use Rattle.rules.specs.Bytes.{big, signedOf, raise}
+use Rattle.rules.specs.Bytes.{big, signedOf, smallLetter, raise}
 use Rattle.rules.proofs.TestLaws.{between-high}
 use Rattle.layout.specs.Reads.{part, nameStop}
 use Rattle.layout.specs.Ensures.{Number as NumberIs}
@@ -83,8 +83,10 @@ raise-capital b = go (between 97 122 b) refl
     go : (t : Bool) → between 97 122 b ≡ t → raise (capital b) ≡ raise b
     go false e = ap (λ t. raise (cond t (b - 32) b)) e
     go true e =
-        let low : between 97 122 (b - 32) ≡ false = ap (λ t. t && leb (b - 32) 122) (lt-leb 97 (b - 32) (omega (arith, between-high 97 122 b e))) in
-        ap (λ t. raise (cond t (b - 32) b)) e ∙ (ap (λ t. cond t (b - 32 - 32) (b - 32)) low ∙ sym (ap (λ t. cond t (b - 32) b) e))
+        let low : b - 32 < 97 = omega (arith, between-high 97 122 b e) in
+        let capital-now : smallLetter (b - 32) ≡ false = rw (lt-leb 97 (b - 32) low, lt-leb 224 (b - 32) (omega arith)) in
+        ap (λ t. raise (cond t (b - 32) b)) e
+        ∙ (ap (λ t. cond t (b - 32 - 32) (b - 32)) capital-now ∙ sym (ap (λ t. cond (t || (between 224 254 b && not (eqb b 247))) (b - 32) b) e))
 
 raised-capital : (n : List ℕ) → map raise (map capital n) ≡ map raise n
 raised-capital [] = refl

@@ -2,6 +2,7 @@ pub mod Encode
 pub mod Cases
 pub mod Limits
 pub mod FactorSums
+pub mod RaiseSums
 pub mod BasketSums
 pub mod WorkedSums
 pub mod TestLaws
@@ -33,6 +34,7 @@ pub mod MarkedLaws
 pub mod WalkLaws
 pub mod FactorLaws
 pub mod HalvesLaws
+pub mod RaiseLaws
 pub mod CallLaws
 pub mod BasketLaws
 pub mod PeriodLaws

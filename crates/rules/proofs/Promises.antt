@@ -5,13 +5,13 @@ use mathlib.Core.Bool.{true, not, cond}
 use mathlib.Core.List.{List, [], _∷_, _++_, map}
 use mathlib.Core.Option.{Option, some, none, Option·some-injective}
 use lib.Count.{ones}
-use lib.Dec.{eqb, leb}
+use lib.Dec.{eqb, leb, ltb}
 use mathlib.Core.Logic.{_⊎_}
 use lib.IntN.{ℤ, pos, _+ℤ_, _*ℤ_}
 use native.Mathlib.Omega.{arith}
 use lib.ListN.{length, take, drop, getD, replicate}
-use Rattle.rules.specs.Lists.{any, join}
-use Rattle.rules.specs.Bytes.{bytesOf, signedBytesOf, raise}
+use Rattle.rules.specs.Lists.{all, any, join, same}
+use Rattle.rules.specs.Bytes.{bytesOf, signedBytesOf, nameByte, raise}
 use Rattle.rules.specs.Days.{isDay, next, lastDay}
 use Rattle.rules.specs.Book.{Record, Article, Row, base, articleOf, rows, roundings}
 use Rattle.rules.specs.BookLayout.{records}
@@ -45,6 +45,7 @@ use Rattle.rules.proofs.FactorLaws as Factor
 use Rattle.rules.proofs.FactorLaws.{granting}
 use Rattle.rules.proofs.RoundingLaws as Rounding
 use Rattle.rules.proofs.HalvesLaws as Halves
+use Rattle.rules.proofs.RaiseLaws as Raise
 use Rattle.rules.proofs.CalendarLaws as Calendar
 use Rattle.rules.proofs.CallLaws as Calls
 use Rattle.rules.proofs.QuestionsLaws as Questions
@@ -121,6 +122,31 @@ unfolding basket
 same-questions b room ps ps′ qs e e′ h =
     ap (λ (o : Option (List Question)). orRefuse 1 (records b) >>= λ book. orRefuse 2 o >>= λ qs. refuseUnless 7 (leb (length (basketBytes (map (answered book) qs))) room) >>= λ _. done (map (answered book) qs))
     (Questions.questions-laid mostBasket ps qs e h ∙ sym (Questions.questions-laid mostBasket ps′ qs e′ h))
+
+-- ---- names raised
+
+-- The letters that are raised, each with its capital, and those beside them that have none in Latin-1.
+pub raised-letters : map raise (text "abcdefghijklmnopqrstuvwxyzàáâãäåæçèéêëìíîïðñòóôõöøùúûüýþ") ≡ text "ABCDEFGHIJKLMNOPQRSTUVWXYZÀÁÂÃÄÅÆÇÈÉÊËÌÍÎÏÐÑÒÓÔÕÖØÙÚÛÜÝÞ"
+raised-letters = refl
+
+pub not-raised : map raise (text "ßÿ÷") ≡ text "ßÿ÷"
+not-raised = refl
+
+-- Raising twice is raising once: what was raised has no letter left that could be raised.
+pub raised-once : (n : List ℕ) → map raise (map raise n) ≡ map raise n
+raised-once = Raise.raised-once
+
+-- The bytes of a name stay bytes of a name.
+pub raised-name : (n : List ℕ) → all nameByte n ≡ true → all nameByte (map raise n) ≡ true
+raised-name = Raise.raised-name
+
+-- A name of ASCII is raised as it was before other letters were: a to z, and nothing else.
+pub raised-ascii : (n : List ℕ) → all (λ b. ltb b 128) n ≡ true → map raise n ≡ map Raise.raisedToZ n
+raised-ascii = Raise.raised-ascii
+
+-- Two granted names are one exactly if they are raised alike.
+pub one-name : (c d : Granted) → eqb (length (grants (c ∷ d ∷ []))) 1 ≡ same (map raise (d .name)) (map raise (c .name))
+one-name = Raise.one-name
 
 -- ---- the choice of a row
 

@@ -1,6 +1,6 @@
 -- "Sums worked by hand" and "Traps that have fooled price plugins": one table, one statement, closed by computation. What a case is stands in Cases.antt,
--- the cases that try the layouts at their limits in Limits.antt, those of
--- factors in FactorSums.antt, those of baskets in BasketSums.antt.
+-- the cases that try the layouts at their limits in Limits.antt, those of factors in FactorSums.antt, those of umlauts in RaiseSums.antt, those of
+-- baskets in BasketSums.antt.
 use Prim.Native.Nat.{ℕ, _-_}
 use mathlib.Core.Path.{_≡_, refl}
 use mathlib.Core.List.{List, [], _∷_, _++_, map}
@@ -17,6 +17,7 @@ use Rattle.rules.proofs.Cases.{Listed, Text, Weight, Refusal, Read, InB
 use Rattle.rules.proofs.Cases.{minus, fixed, percent, A1, T100, OAK, oak, EUR, USD, row, in2024, baseRow, bookOf, ask}
 use Rattle.rules.proofs.Limits.{limits}
 use Rattle.rules.proofs.FactorSums.{factors}
+use Rattle.rules.proofs.RaiseSums.{raisings}
 use Rattle.rules.proofs.BasketSums.{baskets}
 
 -- ---- the books
@@ -269,7 +270,7 @@ refusals =
     ∷ []
 
 abbrev table : List Case
-table = sums ++ (traps ++ (more ++ (choices ++ (refusals ++ (limits ++ (factors ++ baskets))))))
+table = sums ++ (traps ++ (more ++ (choices ++ (refusals ++ (limits ++ (factors ++ (raisings ++ baskets)))))))
 
 -- Every sum that was worked by hand, and every trap, comes out of the rules as the paper has it.
 worked-sums : map found table ≡ map (λ c. c .worked) table

@@ -1,6 +1,6 @@
 -- "The price book": how numbers and names stand in bytes, for every layout.
 use Prim.Native.Nat.{ℕ, zero, suc, _+_, _*_, _-_, _/_, _%_, _^_}
-use mathlib.Core.Bool.{Bool, _||_, cond}
+use mathlib.Core.Bool.{Bool, _&&_, _||_, not, cond}
 use mathlib.Core.List.{List, [], _∷_}
 use lib.Dec.{eqb, leb, ltb}
 use lib.ListN.{take}
@@ -84,6 +84,10 @@ name lo hi = do
 abbrev pub capitals : List ℕ → Bool
 capitals bs = all (between (letter "A") (letter "Z")) bs
 
--- "Which row is chosen": small letters of a granted name become capitals
+-- the small letters of Latin-1 that have a capital there: a to z, and bytes 224 to 254 but for the sign of division
+abbrev pub smallLetter : ℕ → Bool
+smallLetter b = between (letter "a") (letter "z") b || (between 224 254 b && not (eqb b 247))
+
+-- "Which row is chosen", "Raise umlauts too": small letters of a granted name become capitals, which stand 32 before them
 abbrev pub raise : ℕ → ℕ
-raise b = cond (between (letter "a") (letter "z") b) (b - 32) b
+raise b = cond (smallLetter b) (b - 32) b

@@ -4,6 +4,7 @@ use std::cmp::Ordering;
 
 use super::tree::{Assignment, Comparison, Condition, Operand, Relation, Value};
 use super::{Properties, Refused, Truth};
+use crate::letters::raised;
 use crate::reader::is_name_byte;
 use crate::refusal::BAD_DERIVED_NAME;
 
@@ -82,7 +83,7 @@ fn order(one: &Value, other: &Value, case_counts: bool) -> Option<Ordering> {
     match (one, other) {
         (Value::Number(one), Value::Number(other)) => Some(one.cmp(other)),
         (Value::Text(one), Value::Text(other)) if case_counts => Some(one.cmp(other)),
-        (Value::Text(one), Value::Text(other)) => Some(one.to_ascii_uppercase().cmp(&other.to_ascii_uppercase())),
+        (Value::Text(one), Value::Text(other)) => Some(raised(one).cmp(&raised(other))),
         _ => None,
     }
 }

@@ -1,6 +1,7 @@
 //! The properties that stand beside the question.
 
 use super::tree::Value;
+use crate::letters::raised;
 use crate::reader::Reader;
 
 const MOST_PROPERTIES: u8 = 64;
@@ -30,7 +31,7 @@ impl Properties {
 }
 
 fn read_property(reader: &mut Reader) -> Option<(Vec<u8>, Option<Value>)> {
-    let name = reader.name(0, 255)?.to_ascii_uppercase();
+    let name = raised(&reader.name(0, 255)?);
     let value = match reader.byte()? {
         0 => None,
         1 => Some(Value::Text(reader.name(0, 255)?)),

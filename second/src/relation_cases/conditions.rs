@@ -2,6 +2,7 @@
 
 use super::lists::{NUMBERS, PROPERTIES, TEXTS};
 use super::{RelationScene, Token};
+use crate::letters::{raised, small};
 use crate::make::{latin1, Listed, ListedValue};
 
 const COMPARISONS: [&str; 14] = ["<", "<=", "=", "=", "<>", "=>", ">=", ">", "LT", "LE", "EQ", "NE", "GE", "GT"];
@@ -129,8 +130,8 @@ impl RelationScene {
     fn close_text(&mut self, text: &[u8]) -> Token {
         let mut text = text.to_vec();
         match self.random.below(6) {
-            0 => text.make_ascii_lowercase(),
-            1 => text.make_ascii_uppercase(),
+            0 => text = text.into_iter().map(small).collect(),
+            1 => text = raised(&text),
             2 => text.push(self.random.pick(b"aA_ \0\xff")),
             3 => _ = text.pop(),
             _ => {}

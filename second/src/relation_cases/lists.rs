@@ -12,9 +12,28 @@ pub(super) const PROPERTIES: [&str; 16] =
 /// Names that it cannot say.
 const OTHER_NAMES: [&str; 5] = ["", "A B", "\u{c4}", "$A", "AND"];
 
-/// Strings that are equal, or change places, once small letters are raised; `_` stands between the capitals and the small letters.
-pub(super) const TEXTS: [&str; 18] =
-    ["OAK", "oak", "Oak", "OAKS", "OA", "ASH", "", "", "A", "a", "z", "Z", "_", "900", "1000", "5", "\u{e4}", "\u{c4}"];
+/// Strings that are equal, or change places, once small letters are raised, and some that would be if more were; `_` stands between
+/// the capitals and the small letters.
+pub(super) const TEXTS: [&str; 18] = [
+    "OAK",
+    "oak",
+    "Oak",
+    "OAKS",
+    "OA",
+    "\u{fc}\u{ff}",
+    "",
+    "",
+    "\u{f7}",
+    "\u{d7}",
+    "z",
+    "Z",
+    "_",
+    "900",
+    "1000",
+    "\u{dc}\u{df}",
+    "\u{e4}",
+    "\u{c4}",
+];
 
 pub(super) const NUMBERS: [i64; 13] =
     [0, 1, -1, 5, 5, 900, 1000, -900, 256, 999_999_999_999_999_999, -999_999_999_999_999_999, 1 << 32, 1 - (1 << 40)];

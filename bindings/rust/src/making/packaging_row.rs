@@ -41,7 +41,7 @@ impl<'a> PackagingRow<'a> {
     }
 
     /// The row is added where this is granted. Granted names are raised to capitals and this one stands as it is, so that one with
-    /// a small letter from a to z never counts.
+    /// a small letter never counts.
     pub fn condition(self, condition: &'a str) -> PackagingRow<'a> {
         PackagingRow { condition, ..self }
     }

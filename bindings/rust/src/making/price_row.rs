@@ -59,7 +59,7 @@ impl<'a> PriceRow<'a> {
     }
 
     /// The row counts where this is granted. Granted names are raised to capitals and this one stands as it is, so that one with a
-    /// small letter from a to z never counts.
+    /// small letter never counts.
     pub fn condition(self, condition: &'a str) -> PriceRow<'a> {
         PriceRow { condition, ..self }
     }

@@ -7,7 +7,7 @@ const MOST_HELD: usize = 64;
 const MOST_NAME: usize = 255;
 
 /// What was chosen for a planned piece: properties by the names that relations have for them, each with a text, a number or nothing.
-/// Small letters from a to z count as capitals. Of properties with one name the first counts.
+/// Small letters count as capitals. Of properties with one name the first counts.
 ///
 /// These are not the properties of a [`Question`](crate::Question), which make an order number.
 ///

@@ -45,8 +45,8 @@ impl<'a> Question<'a> {
         Question { quantity, ..self }
     }
 
-    /// The conditions that the planned piece grants, once each, in place of those told before. Small letters from a to z count as
-    /// capitals. The place of each is its position here, from 1.
+    /// The conditions that the planned piece grants, once each, in place of those told before. Small letters count as capitals,
+    /// `ü` as well as `u`. The place of each is its position here, from 1.
     pub fn granted(self, granted: impl IntoIterator<Item = &'a str>) -> Question<'a> {
         Question { granted: granted.into_iter().map(|name| (name, Factor::ONE)).collect(), ..self }
     }

@@ -2,6 +2,8 @@
 
 use std::fmt;
 
+use crate::latin_1;
+
 /// A record that is in its layout, and yet does what nobody means, as a condition that is never granted.
 #[derive(Clone, Debug, PartialEq, Eq)]
 pub struct Warning {
@@ -24,7 +26,7 @@ pub(super) type Remark = (&'static str, String);
 
 /// Of a condition that no granted name is ever equal to.
 pub(super) fn small_letters(field: &'static str, condition: &str) -> Option<Remark> {
-    let small = condition.bytes().any(|letter| letter.is_ascii_lowercase());
+    let small = condition.chars().any(latin_1::is_small);
     small.then(|| {
         (field, format!("{condition:?} has small letters and is never granted, since granted names are raised to capitals"))
     })

@@ -26,7 +26,7 @@ type Share = [Wanted; 2];
 const SHARE: Share = [Wanted { count: 30, longest: 800 }, Wanted { count: 8, longest: 400 }];
 
 /// Relations have a book and a question beside them too.
-const SHARE_OF_RELATIONS: Share = [Wanted { count: 14, longest: 450 }, Wanted { count: 3, longest: 300 }];
+const SHARE_OF_RELATIONS: Share = [Wanted { count: 14, longest: 450 }, Wanted { count: 3, longest: 400 }];
 
 pub fn vectors() -> Vec<Vector> {
     let of_calls = CALLS.into_iter().flat_map(|call| drawn(SHARE, call.possible(), |index| of_case(call, index)));

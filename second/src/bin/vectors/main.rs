@@ -37,7 +37,7 @@ use std::process::ExitCode;
 use vector::Vector;
 
 /// The program reads no more.
-const LONGEST: usize = 262_144;
+const LONGEST: usize = 524_288;
 
 fn main() -> ExitCode {
     let arguments: Vec<String> = std::env::args().skip(1).collect();

@@ -28,6 +28,8 @@ fn list() -> Vec<u8> {
         Listed::text("mark", "_"),
         Listed::text("BARE", "x"),
         Listed::number("least", i64::MIN),
+        Listed::text("stain", "Gr\u{fc}n"),
+        Listed::text("signs", "\u{df}\u{f7}\u{ff}"),
     ])
 }
 
@@ -42,7 +44,7 @@ fn price(book: &[u8], question: Question, relation: &[u8]) -> Vector {
 }
 
 /// Comparisons and what joins them, of the properties above; then what is undefined of them.
-const CONDITIONS: [&str; 34] = [
+const CONDITIONS: [&str; 40] = [
     "wood='OAK'",
     "wood<>'ASH'",
     "'oaks'>WOOD",
@@ -61,6 +63,12 @@ const CONDITIONS: [&str; 34] = [
     "least GT -999999999999999999",
     "mark>'z'",
     "mark>'Z'AND'_'<'z'",
+    "stain='GR\u{dc}N'",
+    "stain IN ('blau','gr\u{dc}n')",
+    "'gr\u{fc}n'='GR\u{dc}N'",
+    "signs='\u{df}\u{f7}\u{ff}'",
+    "signs='\u{df}\u{d7}\u{ff}'",
+    "signs IN('\u{bf}\u{f7}\u{ff}','\u{df}\u{f7}\u{df}')",
     "wood IN ('ash','oAK')",
     "size IN(1,'x',900)",
     "size IN ('x',1)",
@@ -82,7 +90,7 @@ const CONDITIONS: [&str; 34] = [
 /// One name if the condition is true, in questions of either version by turns.
 fn granting(place: usize, condition: &str) -> Vector {
     let version = place as u8 % 2 + 1;
-    derive(ask(DAY).version(version), format!("$VARCOND='oak' IF {condition}").as_bytes())
+    derive(ask(DAY).version(version), &latin1(&format!("$VARCOND='oak' IF {condition}")))
 }
 
 /// Names in order and with repeats, blanks and small letters, room that is exact and one byte short, and as many names as may be.
@@ -189,7 +197,7 @@ fn questions_and_lists() -> Vec<Vector> {
     vectors
 }
 
-/// P1 and P3 by a relation, room that is exact and one byte short, then 1 and 3 to 6.
+/// P1 and P3 by a relation, room that is exact and one byte short, then 1 and 3 to 6, and an umlaut.
 fn prices() -> Vec<Vector> {
     let text = b"$VARCOND='oak' IF wood='OAK',$VARCOND='ash' IF wood='ASH',$VARCOND='elm'";
     let without = b"$VARCOND='oak' IF wood='ASH'";
@@ -198,6 +206,7 @@ fn prices() -> Vec<Vector> {
     let foreign = book(&[base(5).into(), Price::fixed("A1", b'X', 5).condition("OAK").currency(b"USD").into()]);
     let great = book(&[base(100_000_000).into(), Price::percent("A1", b'X', 1, 100_000).condition("OAK").into()]);
     let bare = make::book(&[Article::new("A1", "").into()]);
+    let green = book(&[base(5).into(), Price::fixed("A1", b'X', 2).condition("GR\u{dc}N").into()]);
     vec![
         price(&k, ask(DAY).quantity(3), text),
         price(&k, ask(DAY).version(2), text),
@@ -210,5 +219,6 @@ fn prices() -> Vec<Vector> {
         price(&foreign, ask(DAY), text),
         price(&foreign, ask(DAY), without),
         price(&great, ask(DAY), text),
+        price(&green, ask(DAY), b"$VARCOND='gr\xfcn' IF stain='GR\xdcN'"),
     ]
 }

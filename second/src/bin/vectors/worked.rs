@@ -11,6 +11,7 @@ pub fn vectors() -> Vec<Vector> {
     let mut vectors = sums_of_k();
     vectors.extend(rounded_and_scaled());
     vectors.extend(traps());
+    vectors.extend(umlauts());
     vectors.extend(factors());
     vectors.extend(factors_out_of_range());
     vectors.extend(order_and_cartons());
@@ -117,6 +118,36 @@ fn traps() -> Vec<Vector> {
         calendar(&with_a_gap, ask(20240609), 20240613),
         price(&surcharges, ask(day).granted(&["Oak", "OAK", "ash"])),
     ]
+}
+
+/// Letters of Latin-1 raised, in prices, repeats, the unused set and cartons; what stands 32 behind another byte and is no letter; and
+/// rows in small letters.
+fn umlauts() -> Vec<Vector> {
+    let day = 20240615;
+    let green = book(&[
+        base(100).into(),
+        Price::fixed("A1", b'X', 1).condition("GR\u{dc}N").into(),
+        Price::fixed("A1", b'X', 2).condition("gr\u{fc}n").into(),
+        Price::fixed("A1", b'X', 4).condition("\u{c0}\u{d6}\u{d8}\u{de}").into(),
+        Packaging::new("A1", "").value(0, 7).into(),
+        Packaging::new("*", "GR\u{dc}N").value(0, 5).into(),
+    ]);
+    let mut vectors = vec![
+        price(&green, ask(day).granted(&["gr\u{fc}n"])),
+        price(&green, ask(day).granted(&["blau", "Gr\u{fc}n", "GR\u{dc}N", "gr\u{dc}n"])),
+        price(&green, ask(day).factored(&[("gr\u{fc}n", 3_000), ("GR\u{dc}N", 7_000)])),
+        price(&green, ask(day).granted(&["\u{e0}\u{f6}\u{f8}\u{fe}"])),
+        calendar(&green, ask(day).granted(&["gr\u{fc}n"]), day),
+        other(Call::Packaging, &green, ask(day).granted(&["gr\u{fc}n", "GR\u{dc}N"])),
+        basket(&green, &[ask(day), ask(day).granted(&["GR\u{fc}N"])], 2 * 33 + 3 * LINE_LENGTH),
+    ];
+    for (byte, before) in [("\u{df}", "\u{bf}"), ("\u{f7}", "\u{d7}"), ("\u{ff}", "\u{df}")] {
+        for row in [byte, before] {
+            let marked = book(&[base(100).into(), Price::fixed("A1", b'X', 1).condition(row).into()]);
+            vectors.push(price(&marked, ask(day).granted(&[byte])));
+        }
+    }
+    vectors
 }
 
 /// Questions of version 2: K by each factor at an end or next to one, rows of all levels with rounding, repeats, and the calls

@@ -21,13 +21,16 @@ const WRONG: u8 = 14;
 const DEEP: u8 = 15;
 const UNFIT: u8 = 16;
 
-/// A red desk, 900 wide: its finish is listed without a value and then with one, and of others nothing is listed.
+/// A red desk, 900 wide, stained green: its finish is listed without a value and then with one, its marks have no capitals, and of
+/// others nothing is listed.
 fn desk() -> Vec<u8> {
     make::properties(&[
         Listed::text("Colour", "rot"),
         Listed::number("WIDTH", 900),
         Listed::none("FINISH"),
         Listed::text("FINISH", "OIL"),
+        Listed::text("STAIN", "Gr\u{fc}n"),
+        Listed::text("MARKS", "\u{df}\u{f7}\u{ff}"),
     ])
 }
 

@@ -10,6 +10,7 @@ pub raise-byte-spec : {M : Type 1} → statement M
 raise-byte-spec =
     tie.close
     (tie.spec
+    (λ c κs. search needs)  -- is-small-letter-requires
     (λ c. search laws)  -- sub-result
     (λ c. search laws)  -- returns
     (λ c. search laws))  -- returns-2

@@ -60,6 +60,7 @@ fn granted() -> Vec<Vector> {
         packs(own("A"), 10),
         packs(any("B"), 100),
         packs(own("c"), 1_000),
+        packs(own("\u{dc}"), 10_000),
         packs(Packaging::new("A2", "A"), 5_000),
     ];
     let other_article = make::book(&[
@@ -74,6 +75,7 @@ fn granted() -> Vec<Vector> {
         counted("a name is raised", &records, &["a", "b"], 111),
         counted("a repeat counts once", &records, &["a", "A", "b", "B", "a"], 111),
         counted("a condition in small letters is never granted", &records, &["c"], 1),
+        counted("an umlaut is raised, and repeats its capital", &records, &["\u{fc}", "\u{dc}"], 10_001),
         counted("nothing granted", &records, &[], 1),
         Vector::packed("records of another article", &other_article, &ask(&["OAK"]), 0x80, one, 0),
         Vector::packed("sort, currency and quantity do not matter", &other_article, &purchase(), 0x80, one, 0),

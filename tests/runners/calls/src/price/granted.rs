@@ -13,7 +13,9 @@ const BASE: Line = (1, 'B', 0, 1_000);
 
 fn raised() -> Vec<Vector> {
     let book = book![base(1, 1_000), extra(2, 10).condition("OAK")];
-    let umlaut = book![base(1, 1_000), extra(2, 10).condition("GR\u{fc}N"), extra(3, 20).condition("GR\u{dc}N")];
+    let umlaut = book![base(1, 1_000), extra(3, 20).condition("GR\u{fc}N"), extra(2, 10).condition("GR\u{dc}N")];
+    let beyond = book![base(1, 1_000), extra(2, 10).condition("\u{c0}\u{d6}\u{d8}\u{de}")];
+    let staying = book![base(1, 1_000), extra(2, 10).condition("\u{df}\u{f7}\u{ff}"), extra(3, 20).condition("\u{bf}\u{d7}\u{df}")];
     let edges = book![base(1, 1_000), extra(2, 10).condition("AZ@[`{")];
     let small = book![base(1, 1_000), extra(2, 10).condition("oak")];
     let with_oak = [BASE, (2, 'X', 1, 10)];
@@ -23,7 +25,17 @@ fn raised() -> Vec<Vector> {
         Vector::priced("a mixed name is raised", &book, &granting("oAk"), &with_oak, 1_010),
         Vector::priced("a name in capitals stays", &book, &granting("OAK"), &with_oak, 1_010),
         Vector::priced("a row name in small letters is never granted", &small, &granting("oak"), &[BASE], 1_000).unused(1, 1),
-        Vector::priced("letters beyond a to z stay", &umlaut, &granting("gr\u{fc}n"), &with_oak, 1_010),
+        Vector::priced("an umlaut is raised", &umlaut, &granting("gr\u{fc}n"), &with_oak, 1_010),
+        Vector::priced("an umlaut in a row stands as it is", &umlaut, &granting("GR\u{fc}N"), &with_oak, 1_010),
+        Vector::priced("an umlaut in capitals stays", &umlaut, &granting("GR\u{dc}N"), &with_oak, 1_010),
+        Vector::priced(
+            "the first and the last letters beyond ASCII",
+            &beyond,
+            &granting("\u{e0}\u{f6}\u{f8}\u{fe}"),
+            &with_oak,
+            1_010,
+        ),
+        Vector::priced("what has no capital stays", &staying, &granting("\u{df}\u{f7}\u{ff}"), &with_oak, 1_010),
         Vector::priced("the bytes around the letters stay", &edges, &granting("az@[`{"), &with_oak, 1_010),
         Vector::priced("a longer row name is another", &book, &granting("oa"), &[BASE], 1_000).unused(1, 1),
         Vector::priced("a shorter row name is another", &book, &granting("oaks"), &[BASE], 1_000).unused(1, 1),
@@ -46,12 +58,14 @@ fn repeats() -> Vec<Vector> {
     let two = book![base(1, 1_000), extra(2, 10).condition("A"), extra(3, 20).condition("B")];
     let a_a_b = ask(DAY).granted(&["a", "A", "b"]);
     let b_a_b = ask(DAY).granted(&["b", "a", "B", "A"]);
+    let umlauts = ask(DAY).granted(&["\u{fc}", "\u{dc}", "a"]);
     let all = granting_all(&birches());
     vec![
         Vector::priced("32 spellings of one name bring one line, at place 1", &birch, &all, &[BASE, (2, 'X', 1, 10)], 1_010),
         Vector::priced("32 spellings of a name without a row: place 1 alone", &book![base(1, 1_000)], &all, &[BASE], 1_000)
             .unused(1, 1),
         Vector::priced("places are those of the list as sent", &two, &a_a_b, &[BASE, (2, 'X', 1, 10), (3, 'X', 3, 20)], 1_030),
+        Vector::priced("umlauts repeat one another", &two, &umlauts, &[BASE, (2, 'X', 3, 10)], 1_010).unused(1, 1),
         Vector::priced("names go in the order granted", &two, &b_a_b, &[BASE, (3, 'X', 1, 20), (2, 'X', 2, 10)], 1_030),
     ]
 }
