@@ -1,5 +1,5 @@
 // The list of properties that is lent beside a question: which bytes are one, and where the value of a name stands in it.
-mod names;
+pub mod names;
 pub mod positions;
 pub mod slots;
 

@@ -2,3 +2,4 @@ pub mod Laws
 pub mod ValueLaws
 pub mod OrderLaws
 pub mod SignLaws
+pub mod EqualLaws

@@ -46,11 +46,11 @@ is-above (suc (suc k)) = sym (lt-ltb 1 (suc (suc k)) (omega arith))
 
 -- ---- the sign's number
 
-or-left : (x y : Bool) → (x || y) ≡ false → x ≡ false
+pub or-left : (x y : Bool) → (x || y) ≡ false → x ≡ false
 or-left true y e = e
 or-left false y e = refl
 
-or-right : (x y : Bool) → (x || y) ≡ false → y ≡ false
+pub or-right : (x y : Bool) → (x || y) ≡ false → y ≡ false
 or-right true y e = absurd (false≢true (sym e))
 or-right false y e = e
 
@@ -121,13 +121,13 @@ module _ (g : Sign) (o : ℕ) where
 -- ---- two values compared
 
 module _ (s p : List ℕ) (v : Value) where
-  constant-none : v .kind ≡ 0 → constantIn s p v ≡ none
+  pub constant-none : v .kind ≡ 0 → constantIn s p v ≡ none
   constant-none e = ap (λ k. constantOf s p k (v .listed) (v .from) (v .to) (v .below) (v .size)) e
 
-  constant-text : v .kind ≡ 3 → constantIn s p v ≡ some (Text (stringIn s p v))
+  pub constant-text : v .kind ≡ 3 → constantIn s p v ≡ some (Text (stringIn s p v))
   constant-text e = ap (λ k. constantOf s p k (v .listed) (v .from) (v .to) (v .below) (v .size)) e
 
-  constant-number : (v .kind ≡ 0 → ⊥) → (v .kind ≡ 3 → ⊥) → constantIn s p v ≡ some (Number (wholeOf (v .below) (v .size)))
+  pub constant-number : (v .kind ≡ 0 → ⊥) → (v .kind ≡ 3 → ⊥) → constantIn s p v ≡ some (Number (wholeOf (v .below) (v .size)))
   constant-number n m = go (v .kind) n m
     where
       go : (k : ℕ) → (k ≡ 0 → ⊥) → (k ≡ 3 → ⊥) → constantOf s p k (v .listed) (v .from) (v .to) (v .below) (v .size) ≡ some (Number (wholeOf (v .below) (v .size)))

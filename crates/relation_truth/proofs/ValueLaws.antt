@@ -23,7 +23,7 @@ use Rattle.relation_words.specs.Heard.{wholeOf}
 use Rattle.property_list.specs.Listed.{ValueStands, PositionIs, valueAt, valueStop, valueHere}
 use Rattle.property_list.specs.Slots.{SlotsOf}
 use Rattle.relation_truth.specs.declared.values.Value.{Value}
-use Rattle.relation_truth.specs.Values.{heldIn, operandOf, OperandIn, noValue, aString, aNumber, wholeIn, ListedIs, ConstantIs, ValueIs}
+use Rattle.relation_truth.specs.Values.{heldIn, operandOf, OperandIn, noValue, aString, aNumber, wholeIn, ListedIs, ValueIs}
 
 -- ---- a number of eight bytes
 
@@ -123,16 +123,13 @@ module _ (s p : List ℕ) (kind from to : ℕ) (below : Bool) (size : ℕ) where
         here zero h = absurd (not-suc-le-zero h)
         here (suc k) h = refl
 
-  pub value-constant : OperandIn s kind from to size → (kind ≡ 2 → ⊥) → {r : Value} → ConstantIs kind from to below size r → ValueIs s p (operandOf s kind from to below size) r
-  value-constant o n c = c .is s p o n
-
-  quoted-is : {r : Value} → OperandIn s kind from to size → kind ≡ 3 → r ≡ aString false (from + 1) (to - 1) → ValueIs s p (operandOf s kind from to below size) r
-  quoted-is o e f =
+  pub value-quoted : {r : Value} → OperandIn s kind from to size → kind ≡ 3 → r ≡ aString false (from + 1) (to - 1) → ValueIs s p (operandOf s kind from to below size) r
+  value-quoted o e f =
       let l : from + 2 ≤ to = o .closed e in
       rw (e, f) (record { is = rw add-one; inside = record { on = omega arith; most = omega (arith, o .most) } })
 
-  whole-is : {r : Value} → (kind ≡ 2 → ⊥) → (kind ≡ 3 → ⊥) → r ≡ aNumber below size → ValueIs s p (operandOf s kind from to below size) r
-  whole-is n m f = rw f (record { is = go kind n m; inside = record { on = omega arith; most = omega arith } })
+  pub value-whole : {r : Value} → (kind ≡ 2 → ⊥) → (kind ≡ 3 → ⊥) → r ≡ aNumber below size → ValueIs s p (operandOf s kind from to below size) r
+  value-whole n m f = rw f (record { is = go kind n m; inside = record { on = omega arith; most = omega arith } })
     where
       go : (k : ℕ) → (k ≡ 2 → ⊥) → (k ≡ 3 → ⊥) → some (Number (wholeOf below size)) ≡ operandValue (heldIn p) (operandOf s k from to below size)
       go zero n m = refl
@@ -140,10 +137,3 @@ module _ (s p : List ℕ) (kind from to : ℕ) (below : Bool) (size : ℕ) where
       go (suc (suc zero)) n m = absurd (n refl)
       go (suc (suc (suc zero))) n m = absurd (m refl)
       go (suc (suc (suc (suc k)))) n m = refl
-
-module _ (kind from to : ℕ) (below : Bool) (size : ℕ) where
-  pub constant-quoted : {r : Value} → kind ≡ 3 → r ≡ aString false (from + 1) (to - 1) → ConstantIs kind from to below size r
-  constant-quoted e f = record { is = λ s p o _. quoted-is s p kind from to below size o e f }
-
-  pub constant-whole : {r : Value} → (kind ≡ 3 → ⊥) → r ≡ aNumber below size → ConstantIs kind from to below size r
-  constant-whole m f = record { is = λ s p _ n. whole-is s p kind from to below size n m f }

@@ -8,10 +8,11 @@ use lib.ListN.{length, take, drop}
 use Rattle.rules.specs.Lists.{ifSome}
 use Rattle.rules.specs.Bytes.{big, signedOf, raise}
 use Rattle.layout.specs.Reads.{part}
-use Rattle.relation_rules.specs.Grammar.{capital, Sign, Less, Constant, Text, Number, Operand, Property, Given}
+use Rattle.relation_rules.specs.Grammar.{capital, Sign, Less, Equal, Constant, Text, Number, Operand, Property, Given}
 use Rattle.relation_rules.specs.Reader.{allSigns}
-use Rattle.relation_rules.specs.Truth.{Held, propertiesOf, operandValue}
+use Rattle.relation_rules.specs.Truth.{Held, propertiesOf, operandValue, compared}
 use Rattle.relation_words.specs.Heard.{wholeOf}
+use Rattle.relation_truth.specs.Told.{truthNo}
 use Rattle.relation_truth.specs.declared.values.Value.{Value}
 
 -- the properties of a list
@@ -92,6 +93,6 @@ pub record ValueIs (s p : List ℕ) (x : Operand) (r : Value) : Type 0 where
   pub is : constantIn s p r ≡ operandValue (heldIn p) x
   pub inside : ValueIn s p r
 
--- r is the value of the constant that was heard, in whatever text it stands
-pub record ConstantIs (kind from to : ℕ) (below : Bool) (size : ℕ) (r : Value) : Type 0 where
-  pub is : (s p : List ℕ) → OperandIn s kind from to size → (kind ≡ 2 → ⊥) → ValueIs s p (operandOf s kind from to below size) r
+-- r tells whether the value is this number, whatever the text and the list
+pub record NumberIs (v : Value) (below : Bool) (size r : ℕ) : Type 0 where
+  pub is : (s p : List ℕ) → truthNo r ≡ compared true Equal (constantIn s p v) (some (Number (wholeOf below size)))

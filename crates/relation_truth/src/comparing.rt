@@ -30,7 +30,7 @@ fn sign_holds(sign: usize, order: u8) -> bool
     1 < order
 }
 
-fn truth_by(sign: usize, order: u8) -> u8
+pub fn truth_by(sign: usize, order: u8) -> u8
     ensures { λ r. ⌜ TruthIs (truthOf (holds (signNo sign) (orderNo order))) r ⌝ }
 {
     if sign_holds(sign, order) { 1 } else { 2 }

@@ -1,6 +1,7 @@
 // Truth of conditions: 0 undefined, 1 true, 2 false; joined by OR and AND, turned by NOT. And what is compared in them: the values of operands,
 // and their order.
 pub mod comparing;
+pub mod equals;
 mod listed;
 mod orders;
 pub mod values;

@@ -3,10 +3,9 @@ use crate::listed::listed_value;
 use property_list::positions::position_of;
 use property_list::slots::SLOTS;
 use relation_words::tokens::Found;
-ghost use Prim.Native.Nat.{_<_};
 ghost use mathlib.Core.Path.{_≡_};
 ghost use Rattle.property_list.specs.Slots.{SlotsOf};
-ghost use Rattle.relation_truth.specs.Values.{OperandIn, ConstantIs, ValueIs, operandOf, noValue, aString, aNumber};
+ghost use Rattle.relation_truth.specs.Values.{OperandIn, ValueIs, operandOf, noValue, aString, aNumber};
 
 // `kind`: 0 no value; 3 a string, which stands from `from` to `to` in the list of properties if it is listed, else in the text; 4 a number,
 // by its sign and size.
@@ -58,18 +57,7 @@ pub fn a_number(below: bool, size: usize) -> Value
     }
 }
 
-// The value of a constant that was heard: a string's lies between its quotes.
-pub fn constant_value(kind: u8, from: usize, to: usize, below: bool, size: usize) -> Value
-    requires { ⌜ from < to ⌝ }
-    ensures { λ r. ⌜ ConstantIs kind from to below size r ⌝ }
-{
-    if kind == 3 {
-        return a_string(false, from + 1, to - 1);
-    }
-    a_number(below, size)
-}
-
-// The value of the operand that was heard: a name's is that of the first property of this name.
+// The value of the operand that was heard: a name's is that of the first property of this name; a string's lies between its quotes.
 pub fn value_of(text: &[u8], p: &[u8], slots: &[usize; SLOTS], x: Found) -> Value
     requires { ⌜ OperandIn (now text) (x .kind) (x .from) (x .to) (x .size) ⌝ }
     requires { ⌜ SlotsOf (now p) (now slots) ⌝ }
@@ -84,5 +72,8 @@ pub fn value_of(text: &[u8], p: &[u8], slots: &[usize; SLOTS], x: Found) -> Valu
         }
         return listed_value(p, at);
     }
-    constant_value(x.kind, from, to, x.below, x.size)
+    if x.kind == 3 {
+        return a_string(false, from + 1, to - 1);
+    }
+    a_number(x.below, x.size)
 }

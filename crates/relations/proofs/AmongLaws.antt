@@ -1,22 +1,24 @@
 -- The constants behind IN, one by one, and the parenthesis around them.
-use Prim.Native.Nat.{ℕ, suc, _-_, _≤_, _<_}
+use Prim.Native.Nat.{ℕ, zero, suc, _+_, _-_, _≤_, _<_}
 use mathlib.Core.Path.{_≡_, refl, sym, _∙_, ap, subst}
 use mathlib.Core.Bool.{Bool, true, false≢true}
 use mathlib.Core.List.{List, [], _∷_}
 use mathlib.Core.Option.{Option, some}
 use native.Mathlib.Omega.{arith}
+use native.Mathlib.Numerals.{add-one}
 use lib.ListN.{length, drop}
 use Rattle.rules.specs.Letters.{text}
-use Rattle.relation_rules.specs.Grammar.{Fixed, Equal, Constant, constantToken, Operand, One, More, tokenOf}
+use Rattle.layout.specs.Reads.{part}
+use Rattle.relation_rules.specs.Grammar.{Fixed, Equal, Constant, Text, Number, constantToken, Operand, One, More, tokenOf}
 use Rattle.rules.specs.PlacedRefusals.{RefusedAt}
 use Rattle.relation_rules.specs.Reader.{Part, Around, AtIn, AtOpen, AtListed, AtComma, next, take, Between, run}
 use Rattle.relation_rules.specs.Parts.{TokenAt}
 use Rattle.relation_rules.specs.Truth.{Held, either, operandValue, compared}
 use Rattle.relation_rules.proofs.MoveLaws.{token-moves, over-value, over-next-value}
-use Rattle.relation_words.specs.Words.{wordOf}
-use Rattle.relation_words.specs.Heard.{HeardOn, mayHear}
+use Rattle.relation_words.specs.Words.{Stretch, wordOf}
+use Rattle.relation_words.specs.Heard.{HeardOn, mayHear, wholeOf}
 use Rattle.relation_truth.specs.Told.{truthNo, TruthIs}
-use Rattle.relation_truth.specs.Values.{heldIn, operandOf, OperandIn, signNo, constantIn, ValueIn, ConstantIs, ValueIs}
+use Rattle.relation_truth.specs.Values.{heldIn, operandOf, OperandIn, constantIn, NumberIs, ValueIs}
 use Rattle.relation_truth.specs.declared.values.Value.{Value}
 use Rattle.relations.specs.Expected.{wantsConstant, wantsOpen, wantsMark}
 use Rattle.relations.specs.Reading.{NoName, amongOf, EqualTo, ValuesTo, ValuesRead, AmongRead}
@@ -25,12 +27,22 @@ use Rattle.relations.proofs.JoinLaws.{never, through}
 
 -- ---- one constant
 
-module _ (s p : List ℕ) {kind from to : ℕ} {below : Bool} {size : ℕ} (k : OperandIn s kind from to size) (n : NoName kind) {b : Value} (c : ConstantIs kind from to below size b) where
-  pub equal-inside : ValueIn s p b
-  equal-inside = c .is s p k (n .is) .inside
+pub equal-between : {s : List ℕ} {kind from to size : ℕ} → OperandIn s kind from to size → kind ≡ 3 → Stretch s (from + 1) (to - 1)
+equal-between {from = from} {to = to} k e = let l : from + 2 ≤ to = k .closed e in record { on = omega arith; most = omega (arith, k .most) }
 
-  pub equal-is : {o : Option Constant} {r : ℕ} → TruthIs (compared true (signNo 5) o (constantIn s p b)) r → EqualTo o (heldIn p) s kind from to below size r
-  equal-is {o} t = record { is = t .is ∙ ap (compared true Equal o) (c .is s p k (n .is) .is) }
+module _ (s p : List ℕ) (ps : List Held) (v : Value) (kind from to : ℕ) (below : Bool) (size : ℕ) {r : ℕ} where
+  pub equal-string : kind ≡ 3 → TruthIs (compared true Equal (constantIn s p v) (some (Text (part s (from + 1) (to - 1))))) r → EqualTo (constantIn s p v) ps s kind from to below size r
+  equal-string e t = rw e (record { is = t .is ∙ ap (λ (k : ℕ). compared true Equal (constantIn s p v) (some (Text (part s k (to - 1))))) (add-one from) })
+
+  pub equal-number : NoName kind → (kind ≡ 3 → ⊥) → NumberIs v below size r → EqualTo (constantIn s p v) ps s kind from to below size r
+  equal-number n m t = record { is = t .is s p ∙ ap (compared true Equal (constantIn s p v)) (go kind (n .is) m) }
+    where
+      go : (k : ℕ) → (k ≡ 2 → ⊥) → (k ≡ 3 → ⊥) → some (Number (wholeOf below size)) ≡ operandValue ps (operandOf s k from to below size)
+      go zero n m = refl
+      go (suc zero) n m = refl
+      go (suc (suc zero)) n m = absurd (n refl)
+      go (suc (suc (suc zero))) n m = absurd (m refl)
+      go (suc (suc (suc (suc k)))) n m = refl
 
 pub constant-no-name : {s : List ℕ} {from kind which begin to : ℕ} {below : Bool} {size : ℕ} → HeardOn wantsConstant s from kind which begin to below size → NoName kind
 constant-no-name {kind = kind} h = record { is = λ e. absurd (false≢true (ap (mayHear wantsConstant) (sym e) ∙ h .asked)) }

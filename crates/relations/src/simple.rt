@@ -8,8 +8,9 @@ use crate::expected::sign_at;
 use property_list::slots::SLOTS;
 use relation_truth::comparing::compared_as;
 use relation_truth::either_of;
+use relation_truth::equals::is_number;
+use relation_truth::equals::is_string;
 use relation_truth::values::Value;
-use relation_truth::values::constant_value;
 use relation_truth::values::value_of;
 use relation_words::tokens::Found;
 ghost use Prim.Native.Nat.{_≤_};
@@ -63,8 +64,10 @@ fn equal_to(
     requires { ⌜ NoName kind ⌝ }
     ensures { λ r. ⌜ EqualTo (constantIn (now (text .entry)) (now (properties .entry)) value) (heldIn (now (properties .entry))) (now (text .entry)) kind from to below size r ⌝ }
 {
-    let other = constant_value(kind, from, to, below, size);
-    compared_as(text, properties, true, 5, value, other)
+    if kind == 3 {
+        return is_string(text, properties, value, from + 1, to - 1);
+    }
+    is_number(value, below, size)
 }
 
 // The constants behind the parenthesis of IN, up to the one that closes it.

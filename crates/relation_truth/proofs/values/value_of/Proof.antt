@@ -1,10 +1,10 @@
--- `relation_truth::values::value_of` meets its contract: a name that is listed or not, a constant; a law for each.
+-- `relation_truth::values::value_of` meets its contract: a name that is listed or not, a string, a number; a law for each.
 use borrow.Author.Needs.{needs}
-use Rattle.relation_truth.proofs.ValueLaws.{value-unlisted, position-stands, value-listed, value-constant}
+use Rattle.relation_truth.proofs.ValueLaws.{value-unlisted, position-stands, value-listed, value-quoted, value-whole}
 use Rattle.relation_truth.proofs.values.value_of.Statement.{statement}
 use Rattle.relation_truth.proofs.values.value_of.Tie as tie
 
-ruleset laws = (needs, value-unlisted, position-stands, value-listed, value-constant)
+ruleset laws = (needs, value-unlisted, position-stands, value-listed, value-quoted, value-whole)
 
 pub value-of-spec : {M : Type 1} → statement M
 value-of-spec =
@@ -18,5 +18,9 @@ value-of-spec =
     (λ c. search laws)  -- returns
     (λ c κs. search laws)  -- listed-value-requires
     (λ c. search laws)  -- returns-2
-    (λ c κs. search laws)  -- constant-value-requires
-    (λ c. search laws))  -- returns-3
+    (λ c. search needs)  -- add-a-string
+    (λ c. search needs)  -- sub-a-string
+    (λ c κs. search laws)  -- a-string-requires
+    (λ c. search laws)  -- returns-3
+    (λ c κs. search laws)  -- a-number-requires
+    (λ c. search laws))  -- returns-4
