@@ -1,4 +1,5 @@
 // A block: days in a row that are asked about one after the other. A row that is the same to all of them is seen once, any other is listed.
+use crate::MOST_LISTED;
 use crate::hands::NO_SLOT;
 use crate::hands::Passing;
 use crate::passing::row_passing;
@@ -17,9 +18,7 @@ ghost use Rattle.records.specs.Ensures.{rowIn, RowIs};
 ghost use Rattle.grants.specs.Asks.{Tabled};
 ghost use Rattle.choice.specs.Block.{RowThrough, PassesThrough, RowNoted};
 
-// So many rows are listed at most.
-pub const MOST_LISTED: usize = 2048;
-// The count of the listed rows where they would be more.
+// The count of the listed rows where they would be more than fit.
 const TOO_MANY: usize = 2049;
 
 // What a record is on all days of a block; or it is listed, since it is not the same on each.

@@ -1,11 +1,10 @@
 // The choice of every row of a price at once: one walk over the records fills a slot for each level and place.
-pub mod block;
+mod block;
 pub mod hands;
-pub mod passing;
+mod passing;
 pub mod rows;
 pub mod slots;
 
-use crate::block::MOST_LISTED;
 use crate::block::note_row;
 use crate::block::record_through;
 use crate::hands::Seen;
@@ -42,6 +41,9 @@ pub fn slots_for(w: &[u8], from: usize, article: &[u8], table: &[u8], terms: Ter
     }
     slots
 }
+
+// So many rows are listed at most.
+pub const MOST_LISTED: usize = 2048;
 
 // What the slots keep of the rows that are the same on all days of a block; n others are listed, or more than fit.
 pub struct Shared {

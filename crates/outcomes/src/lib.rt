@@ -1,6 +1,6 @@
 // The outcomes of the first day and of the days of change. Days are taken in blocks: what those of a block share is found in one walk.
+use choice::MOST_LISTED;
 use choice::Shared;
-use choice::block::MOST_LISTED;
 use choice::shared_for;
 use days::Day;
 use grants::terms::Terms;

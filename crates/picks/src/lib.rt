@@ -2,8 +2,8 @@
 mod held;
 
 use crate::held::held_in;
+use choice::MOST_LISTED;
 use choice::Shared;
-use choice::block::MOST_LISTED;
 use choice::hands::Seen;
 use choice::rows::row_at;
 use choice::slots_for;

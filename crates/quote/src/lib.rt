@@ -3,8 +3,8 @@
 mod unused;
 
 use crate::unused::unused;
+use choice::MOST_LISTED;
 use choice::Shared;
-use choice::block::MOST_LISTED;
 use grants::places::Places;
 use grants::terms::Terms;
 use lines::Pick;
