@@ -115,7 +115,7 @@ enum rafttwine_refusal {
     RAFTTWINE_SHORT_OUTPUT = 7,       /* the lent output is shorter than what is to be written */
     RAFTTWINE_NO_PACKAGING = 8,       /* the book has no packaging data for the plain article, no condition granted */
     RAFTTWINE_BAD_PERIOD = 9,         /* the period's end is not in the calendar, or before its start, or over 1096 days are asked for */
-    RAFTTWINE_MANY_STRETCHES = 10,    /* over 1200 stretches; a period is too short for that, so nobody meets this number */
+    RAFTTWINE_MANY_STRETCHES = 10,    /* unused: no call gives it, and no other refusal will have the number */
     RAFTTWINE_UNFIT_PACKAGING = 11,   /* packaging data in different units, or a sum of them below zero */
     RAFTTWINE_NO_TEXT = 12,           /* neither text book has the number */
     RAFTTWINE_BAD_ROW = 13,           /* a line of a price file makes no price record, or a price record no line; a place says which */
@@ -139,7 +139,7 @@ static inline const char *rafttwine_refusal_text(unsigned number) {
     case RAFTTWINE_SHORT_OUTPUT: return "the lent output is too short";
     case RAFTTWINE_NO_PACKAGING: return "the book has no packaging data for the plain article";
     case RAFTTWINE_BAD_PERIOD: return "the period's end is no day, or before its start, or too late";
-    case RAFTTWINE_MANY_STRETCHES: return "there are over 1200 stretches";
+    case RAFTTWINE_MANY_STRETCHES: return "no call gives this number, which is kept unused";
     case RAFTTWINE_UNFIT_PACKAGING: return "packaging data are in different units, or sum up to less than zero";
     case RAFTTWINE_NO_TEXT: return "neither text book has the number";
     case RAFTTWINE_BAD_ROW: return "a line of the price file makes no price record, or a price record of the book makes no line";

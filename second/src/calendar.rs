@@ -5,11 +5,9 @@ use crate::book::Book;
 use crate::days::period;
 use crate::price::price_on;
 use crate::question::Question;
-use crate::refusal::{BAD_BOOK, BAD_PERIOD, BAD_QUESTION, DONE, NO_ARTICLE, TOO_LITTLE_ROOM, TOO_MANY_STRETCHES};
+use crate::refusal::{BAD_BOOK, BAD_PERIOD, BAD_QUESTION, DONE, NO_ARTICLE, TOO_LITTLE_ROOM};
 
 pub const STRETCH_LENGTH: usize = 20;
-
-const MOST_STRETCHES: usize = 1_200;
 
 pub fn calendar(book: &[u8], question: &[u8], end: u32, out: &mut [u8]) -> CalendarAnswer {
     answer(stretches(book, question, end).and_then(|stretches| {
@@ -64,11 +62,6 @@ pub fn stretches(book: &[u8], question: &[u8], end: u32) -> Result<Vec<Stretch>,
             Some(last) if same_price(last, &alone) => last.last = day,
             _ => stretches.push(alone),
         }
-    }
-    // More stretches than days cannot be, and a period has fewer days than this; the test only
-    // keeps its place in the order of the refusals.
-    if stretches.len() > MOST_STRETCHES {
-        return Err(TOO_MANY_STRETCHES);
     }
     Ok(stretches)
 }

@@ -36,8 +36,7 @@ impl Call {
     }
 
     /// The numbers that the call can give. Each call has a list of refusals of its own, in which no
-    /// other number stands; of those lists only one number is missing here: a calendar is never
-    /// refused with 10, since its period has at most 1,096 days, and so at most 1,096 stretches.
+    /// other number stands.
     pub fn possible(self) -> &'static [u8] {
         match self {
             Call::Price => &[0, 1, 2, 3, 4, 5, 6, 7],

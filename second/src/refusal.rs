@@ -10,7 +10,7 @@ pub const TOTAL_OUT_OF_RANGE: u8 = 6;
 pub const TOO_LITTLE_ROOM: u8 = 7;
 pub const NO_PACKAGING: u8 = 8;
 pub const BAD_PERIOD: u8 = 9;
-pub const TOO_MANY_STRETCHES: u8 = 10;
+// 10 is unused.
 pub const BAD_PACKAGING: u8 = 11;
 pub const NO_TEXT: u8 = 12;
 /// A line of a price file that makes no record, or a price record that makes no line.

@@ -20,7 +20,7 @@ class Refusal(IntEnum):
     SHORT_OUTPUT = 7
     NO_PACKAGING = 8
     BAD_PERIOD = 9
-    MANY_STRETCHES = 10
+    MANY_STRETCHES = 10  # unused: no call gives it
     UNFIT_PACKAGING = 11
     NO_TEXT = 12
     BAD_ROW = 13
@@ -69,7 +69,7 @@ _REASONS = {
     Refusal.SHORT_OUTPUT: "the lent output is too short",
     Refusal.NO_PACKAGING: "the book has no packaging data for the plain article",
     Refusal.BAD_PERIOD: "the period's end is no day, or before its start, or too late",
-    Refusal.MANY_STRETCHES: "there are over 1200 stretches",
+    Refusal.MANY_STRETCHES: "no call gives this number, which is kept unused",
     Refusal.UNFIT_PACKAGING: "packaging data are in different units, or sum up to less than zero",
     Refusal.NO_TEXT: "neither text book has the number",
     Refusal.BAD_ROW: "a line of the price file makes no price record, or a price record of the book makes no line",

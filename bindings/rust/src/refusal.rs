@@ -25,7 +25,7 @@ pub enum Refusal {
     NoPackaging,
     /// The period's end is before its start, or over 1096 days are asked for.
     BadPeriod,
-    /// Over 1200 stretches, for which a period is too short: nobody meets this one.
+    /// Unused: no call gives it, and no other refusal will have its number.
     ManyStretches,
     /// Packaging data are in different units, or sum up to less than zero.
     UnfitPackaging,
@@ -101,7 +101,7 @@ impl fmt::Display for Refusal {
             ShortOutput => "the lent output is too short",
             NoPackaging => "the book has no packaging data for the plain article",
             BadPeriod => "the period's end is no day, or before its start, or too late",
-            ManyStretches => "there are over 1200 stretches",
+            ManyStretches => "no call gives this number, which is kept unused",
             UnfitPackaging => "packaging data are in different units, or sum up to less than zero",
             NoText => "neither text book has the number",
             BadRow => "a line of the price file makes no price record, or a price record of the book makes no line",

@@ -19,7 +19,7 @@ use Rattle.layout.specs.Ensures.{Puts}
 use Rattle.calendar.specs.declared.listing.Listing.{Listing}
 use Rattle.calendar.specs.Calls.{CalendarIs}
 use Rattle.calendar.specs.Listing.{within, listing, finished, stretchesIn, listed, ListingIs, refusalOf, RefusalIs, Writable}
-use Rattle.calendar.proofs.ByteLaws.{stretches-count, bytes-length}
+use Rattle.calendar.proofs.ByteLaws.{bytes-length}
 
 -- ---- the definition's call in two parts
 
@@ -29,7 +29,7 @@ or-then n (some a) f k g h = h a
 
 module _ {B : Type 0} (form : List Stretch → List B) (b s : List ℕ) (end room : ℕ) where
   abbrev fitting : List Stretch → Result (List Stretch)
-  fitting ss = refuseUnless 10 (leb (length ss) 1200) >>= λ _. refuseUnless 7 (leb (length (form ss)) room) >>= λ _. done ss
+  fitting ss = refuseUnless 7 (leb (length (form ss)) room) >>= λ _. done ss
 
   pub two-parts : calendarIn form b s end room ≡ finished (λ ss. length (form ss)) room (listing b s end)
   unfolding calendarIn finished listing within
@@ -48,23 +48,19 @@ module _ {B : Type 0} (form : List Stretch → List B) (b s : List ℕ) (end roo
 
 -- ---- the second part
 
-module _ (listed stretches size room : ℕ) where
-  pub refused-listed : (listed ≡ 0 → ⊥) → RefusalIs listed stretches size room listed
+module _ (listed size room : ℕ) where
+  pub refused-listed : (listed ≡ 0 → ⊥) → RefusalIs listed size room listed
   unfolding refusalOf
   refused-listed n = record { is = rw (ne-eqb listed 0 n) }
 
   module _ (z : listed ≡ 0) where
-    pub refused-10 : 1200 < stretches → RefusalIs listed stretches size room 10
+    pub refused-7 : room < size → RefusalIs listed size room 7
     unfolding refusalOf
-    refused-10 l = record { is = rw (eq-eqb listed 0 z, lt-leb stretches 1200 l) }
+    refused-7 l = record { is = rw (eq-eqb listed 0 z, lt-leb size room l) }
 
-    pub refused-7 : stretches ≤ 1200 → room < size → RefusalIs listed stretches size room 7
+    pub not-refused : size ≤ room → RefusalIs listed size room 0
     unfolding refusalOf
-    refused-7 k l = record { is = rw (eq-eqb listed 0 z, le-leb stretches 1200 k, lt-leb size room l) }
-
-    pub not-refused : stretches ≤ 1200 → size ≤ room → RefusalIs listed stretches size room 0
-    unfolding refusalOf
-    not-refused k l = record { is = rw (eq-eqb listed 0 z, le-leb stretches 1200 k, le-leb size room l) }
+    not-refused l = record { is = rw (eq-eqb listed 0 z, le-leb size room l) }
 
 -- `r` refuses, or all is there and fits
 pub record Finished (size : List Stretch → ℕ) (room : ℕ) (o : Result (List Stretch)) (l : Listing) (r : ℕ) : Type 0 where
@@ -73,43 +69,35 @@ pub record Finished (size : List Stretch → ℕ) (room : ℕ) (o : Result (List
   pub fits : r ≡ 0 → size (stretchesIn (l .stretches)) ≤ room
 
 module _ (size : List Stretch → ℕ) (room : ℕ) (ss : List Stretch) (n : ℕ) where
-  ended : (x y z : Bool) → leb (length ss) 1200 ≡ y → leb (size ss) room ≡ z
-      → finished size room (cond x (done ss) (refused n)) ≡ cond x (cond y (cond z (done ss) (refused 7)) (refused 10)) (refused n)
+  ended : (x y : Bool) → leb (size ss) room ≡ y → finished size room (cond x (done ss) (refused n)) ≡ cond x (cond y (done ss) (refused 7)) (refused n)
   unfolding finished
-  ended false y z e f = refl
-  ended true false z e f = rw e
-  ended true true false e f = rw (e, f)
-  ended true true true e f = rw (e, f)
+  ended false y e = refl
+  ended true false e = rw e
+  ended true true e = rw e
 
-pub finish : (size : List Stretch → ℕ) {room : ℕ} {o : Result (List Stretch)} {l : Listing} {r k : ℕ} → ListingIs o l → size (stretchesIn (l .stretches)) ≡ k → RefusalIs (l .number) (l .stretches .n) k room r → Finished size room o l r
+pub finish : (size : List Stretch → ℕ) {room : ℕ} {o : Result (List Stretch)} {l : Listing} {r k : ℕ} → ListingIs o l → size (stretchesIn (l .stretches)) ≡ k → RefusalIs (l .number) k room r → Finished size room o l r
 unfolding refusalOf
 finish size {room} {o} {l} {r} {k} w e f =
-    let count : length (stretchesIn (l .stretches)) ≡ l .stretches .n = stretches-count (l .stretches) (omega (arith, w .long, w .few)) in
-    go (eqb (l .number) 0) (leb (length (stretchesIn (l .stretches))) 1200) (leb (size (stretchesIn (l .stretches))) room) refl refl
-    (ap (finished size room) (w .is) ∙ ended size room (stretchesIn (l .stretches)) (l .number) (eqb (l .number) 0) (leb (length (stretchesIn (l .stretches))) 1200) (leb (size (stretchesIn (l .stretches))) room) refl refl)
-    (rw (count, e) (f .is))
+    go (eqb (l .number) 0) (leb (size (stretchesIn (l .stretches))) room) refl refl
+    (ap (finished size room) (w .is) ∙ ended size room (stretchesIn (l .stretches)) (l .number) (eqb (l .number) 0) (leb (size (stretchesIn (l .stretches))) room) refl)
+    (rw e (f .is))
   where
-    go : (x y z : Bool) → eqb (l .number) 0 ≡ x → leb (size (stretchesIn (l .stretches))) room ≡ z
-        → finished size room o ≡ cond x (cond y (cond z (done (stretchesIn (l .stretches))) (refused 7)) (refused 10)) (refused (l .number))
-        → r ≡ cond x (cond y (cond z 0 7) 10) (l .number) → Finished size room o l r
-    go false y z a b is num =
+    go : (x y : Bool) → eqb (l .number) 0 ≡ x → leb (size (stretchesIn (l .stretches))) room ≡ y
+        → finished size room o ≡ cond x (cond y (done (stretchesIn (l .stretches))) (refused 7)) (refused (l .number))
+        → r ≡ cond x (cond y 0 7) (l .number) → Finished size room o l r
+    go false y a b is num =
         let n : l .number ≡ 0 → ⊥ = eqb-false (l .number) 0 a in
         record {
           refuses = λ h. is ∙ ap refused (sym num);
           answers = λ h. absurd (n (sym num ∙ h));
           fits = λ h. absurd (n (sym num ∙ h));
         }
-    go true false z a b is num = record {
+    go true false a b is num = record {
       refuses = λ h. is ∙ ap refused (sym num);
       answers = λ h. absurd (omega arith);
       fits = λ h. absurd (omega arith);
     }
-    go true true false a b is num = record {
-      refuses = λ h. is ∙ ap refused (sym num);
-      answers = λ h. absurd (omega arith);
-      fits = λ h. absurd (omega arith);
-    }
-    go true true true a b is num = record {
+    go true true a b is num = record {
       refuses = λ h. absurd (h num);
       answers = λ h. is;
       fits = λ h. leb-true (size (stretchesIn (l .stretches))) room b;
@@ -117,7 +105,7 @@ finish size {room} {o} {l} {r} {k} w e f =
 
 -- ---- as bytes
 
-module _ (b s : List ℕ) (end : ℕ) (lent : List ℕ) {l : Listing} {r : ℕ} (w : ListingIs (listing b s end) l) (f : RefusalIs (l .number) (l .stretches .n) (20 * l .stretches .n) (length lent) r) where
+module _ (b s : List ℕ) (end : ℕ) (lent : List ℕ) {l : Listing} {r : ℕ} (w : ListingIs (listing b s end) l) (f : RefusalIs (l .number) (20 * l .stretches .n) (length lent) r) where
   size-is : length (stretchesBytes (stretchesIn (l .stretches))) ≡ 20 * l .stretches .n
   size-is = bytes-length (take (l .stretches .n) (l .stretches .list)) ∙ ap (λ (k : ℕ). 20 * k) (length-take-le (l .stretches .n) (l .stretches .list) (omega (arith, w .long, w .few)))
 

@@ -26,7 +26,7 @@ use Rattle.stretches.specs.Stretches.{asStretch, recordOf}
 use Rattle.rules.proofs.ListLaws.{All}
 use Rattle.rules.proofs.DayLaws.{day-most}
 use Rattle.rules.proofs.RefusalLaws.{NeverZero, or-never, unless-never, done-never}
-use Rattle.rules.proofs.CalendarLaws.{Holds, InOrder, RightBy, right-by, right as period-right, period-end, period-days, never-10, stretch-count}
+use Rattle.rules.proofs.CalendarLaws.{Holds, InOrder, RightBy, right-by, right as period-right, period-end, period-days, stretch-count}
 use Rattle.rules.proofs.CallLaws.{CalendarRefusal, calendar-answered}
 use Rattle.rules.proofs.PeriodLaws.{NoPeriod}
 use Rattle.rules.proofs.BookK.{bookK, calendarAsked, calendarEnd, stretchesK, calendar-K, list-K}
@@ -93,8 +93,7 @@ calendar-never form b s end room =
     or-never 1 (questionOf s) _ (λ q.
     or-never 8 (periodTo (q .date) end) _ (λ days.
     or-never 2 (articleOf book (q .article)) _ (λ a.
-    unless-never 9 (leb (length (stretches (outcome book q) days)) 1200) _
-    (unless-never 6 (leb (length (form (stretches (outcome book q) days))) room) _ (done-never (stretches (outcome book q) days)))))))
+    unless-never 6 (leb (length (form (stretches (outcome book q) days))) room) _ (done-never (stretches (outcome book q) days))))))
 
 -- and the book has its article
 answered-article : {B : Type 0} (form : List Stretch → List B) (b s : List ℕ) (end room : ℕ) (ss : List Stretch) {book : List Record} {q : Question}
@@ -164,7 +163,7 @@ module _ (b s : List ℕ) (end : ℕ) (lent : List ℕ) {r : CalendarAnswer} {af
         let right = period-right (outcome book q) (question-sound s q g .date) (period-end (q .date) end days p) (period-days (q .date) end days p) in
         let fine : All Readable ss = readable b f q ss (each-ordered ss (right .ordered)) (right .holds) in
         let fits : leb (length (stretchesBytes ss)) (length lent) ≡ true = le-leb (length (stretchesBytes ss)) (length lent) (omega (arith, bytes-long ss fine, stretch-count (outcome book q) days)) in
-        ap (λ (w : CalendarAnswer). w .number) (is .answer) ∙ rw (f, g, p, h, never-10 (outcome book q) (q .date) end days p, fits)
+        ap (λ (w : CalendarAnswer). w .number) (is .answer) ∙ rw (f, g, p, h, fits)
 
     -- The stretches read back from the bytes start on the question's day, each next one on the day after the one before, and the last ends on
     -- the end date; they stand in date order; neighbours differ; and on every day from a stretch's first to its last the price call, asked with
@@ -222,7 +221,7 @@ module _ (b s : List ℕ) (end : ℕ) (lent : List Declared.Stretch) {r : Calend
     answered-list {days = days} h p room =
         let ss : List Stretch = stretches (outcome book q) days in
         let fits : leb (length ss) (length lent) ≡ true = le-leb (length ss) (length lent) (omega (arith, stretch-count (outcome book q) days)) in
-        listed-said ∙ rw (f, g, p, h, never-10 (outcome book q) (q .date) end days p, fits)
+        listed-said ∙ rw (f, g, p, h, fits)
 
     -- The stretches of the records handed over tile the period, stand in date order and differ from their neighbours, and on every day of a
     -- stretch the price call has its outcome: as for the bytes.

@@ -32,11 +32,10 @@ listing bookBytes questionBytes end = do
   q ← orRefuse 2 (questionOf questionBytes)
   within book q end
 
--- and whether they fit: refusals 10 and 7 behind them
+-- and whether they fit: refusal 7 behind them
 unfoldable pub finished : (List Stretch → ℕ) → ℕ → Result (List Stretch) → Result (List Stretch)
 finished size room o = do
   ss ← o
-  _ ← refuseUnless 10 (leb (length ss) 1200)
   _ ← refuseUnless 7 (leb (size ss) room)
   done ss
 
@@ -66,12 +65,12 @@ pub record Refused (number : ℕ) (r : Listing) : Type 0 where
 
 -- ---- whether they fit
 
-unfoldable pub refusalOf : ℕ → ℕ → ℕ → ℕ → ℕ
-refusalOf listed stretches size room = cond (eqb listed 0) (cond (leb stretches 1200) (cond (leb size room) 0 7) 10) listed
+unfoldable pub refusalOf : ℕ → ℕ → ℕ → ℕ
+refusalOf listed size room = cond (eqb listed 0) (cond (leb size room) 0 7) listed
 
 -- `r` is the number of the refusal, or 0
-pub record RefusalIs (listed stretches size room r : ℕ) : Type 0 where
-  pub is : r ≡ refusalOf listed stretches size room
+pub record RefusalIs (listed size room r : ℕ) : Type 0 where
+  pub is : r ≡ refusalOf listed size room
 
 -- there is room for these
 pub record Writable (out : List ℕ) (r : Stretches) : Type 0 where
@@ -92,7 +91,7 @@ pub record StretchAt (l : Listing) (i : ℕ) (r : Declared.Stretch) : Type 0 whe
 pub record ListAnswer (l : Listing) (room : ℕ) (r : CalendarAnswer) : Type 0 where
   pub refuses : (r .number ≡ 0 → ⊥) → r .length ≡ 0
   pub answers : r .number ≡ 0 → r .length ≡ l .stretches .n
-  pub number : RefusalIs (l .number) (l .stretches .n) (l .stretches .n) room (r .number)
+  pub number : RefusalIs (l .number) (l .stretches .n) room (r .number)
 
 -- the first n elements are what g says, and the others are as in ys
 abbrev pub filled : List Declared.Stretch → (ℕ → Declared.Stretch) → ℕ → List Declared.Stretch

@@ -9,15 +9,12 @@ use rules::CalendarAnswer;
 ghost use Rattle.calendar.specs.Calls.{CalendarIs};
 ghost use Rattle.calendar.specs.Listing.{RefusalIs};
 
-// What refuses a call that would write so much, where there is so much room: what refused the listing, then 10, then 7.
-fn refusal(listed: u8, stretches: usize, size: usize, room: usize) -> u8
-    ensures { λ r. ⌜ RefusalIs listed stretches size room r ⌝ }
+// What refuses a call that would write so much, where there is so much room: what refused the listing, then 7.
+fn refusal(listed: u8, size: usize, room: usize) -> u8
+    ensures { λ r. ⌜ RefusalIs listed size room r ⌝ }
 {
     if listed != 0 {
         return listed;
-    }
-    if 1200 < stretches {
-        return 10;
     }
     if room < size { 7 } else { 0 }
 }
@@ -29,7 +26,7 @@ pub fn calendar(book: &[u8], question: &[u8], end: u32, out: &mut [u8]) -> Calen
     let listing = listing_of(book, question, end);
     let stretches = listing.stretches;
     let size = 20 * stretches.n;
-    let number = refusal(listing.number, stretches.n, size, out.len());
+    let number = refusal(listing.number, size, out.len());
     if number != 0 {
         return CalendarAnswer { length: 0, number };
     }

@@ -11,7 +11,7 @@ pub fn list_answer(listing: Listing, room: usize) -> CalendarAnswer
     ensures { λ r. ⌜ ListAnswer listing room r ⌝ }
 {
     let n = listing.stretches.n;
-    let number = refusal(listing.number, n, n, room);
+    let number = refusal(listing.number, n, room);
     if number != 0 {
         return CalendarAnswer { length: 0, number };
     }

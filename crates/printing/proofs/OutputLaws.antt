@@ -117,9 +117,8 @@ few-listed h = record { long = h .long; few = h .few }
 fits-all : (ss : List Stretch) → length ss ≤ mostDays → length (stretchesBytes ss) ≡ 20 * length ss → finished (λ ss. length (stretchesBytes ss)) (20 * mostDays) (done ss) ≡ done ss
 unfolding finished
 fits-all ss h e =
-    let a : leb (length ss) 1200 ≡ true = le-leb (length ss) 1200 (omega arith) in
     let b : leb (length (stretchesBytes ss)) (20 * mostDays) ≡ true = le-leb (length (stretchesBytes ss)) (20 * mostDays) (omega arith) in
-    rw (a, b)
+    rw b
 
 listed-fits : (l : Listing) → l .stretches .n ≤ length (l .stretches .list) → l .stretches .n ≤ mostDays → finished (λ ss. length (stretchesBytes ss)) (20 * mostDays) (listed l) ≡ listed l
 unfolding finished

@@ -58,7 +58,6 @@ module _ (one two question : List ℕ) (h : BooksAlike one two question) where
     where
       after : (ℕ → Outcome) → List ℕ → Result (List Stretch)
       after f ds =
-          refuseUnless 10 (leb (length (stretches f ds)) 1200) >>= λ _.
           refuseUnless 7 (leb (length (form (stretches f ds))) room) >>= λ _. done (stretches f ds)
 
       days : (q : Question) → questionOf question ≡ some q → (o : Option (List ℕ))

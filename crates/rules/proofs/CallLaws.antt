@@ -23,7 +23,6 @@ use Rattle.rules.specs.Calendar.{Stretch, stretches, outcome, periodTo, 
 use Rattle.rules.proofs.RefusalLaws.{then-done, or-done, unless-done, done-is, not-refused, NeverZero, done-never, refused-never, or-never, unless-never, then-never, Refuses, or-refuses, unless-refuses, found-refuses, then-refuses}
 use Rattle.rules.proofs.GivesLaws.{question-sound}
 use Rattle.rules.proofs.RoomLaws.{enough-room}
-use Rattle.rules.proofs.CalendarLaws.{never-10}
 
 -- ---- the price call
 
@@ -201,7 +200,6 @@ pub record Listed {B : Type 0} (form : List Stretch → List B) (b s : List ℕ)
   pub has-article : articleOf book (question .article) ≡ some article
   pub is-period : periodTo (question .date) end ≡ some days
   pub is : stretches (outcome book question) days ≡ ss
-  pub few : leb (length ss) 1200 ≡ true
   pub fits : leb (length (form ss)) room ≡ true
 
 pub calendar-answered : {B : Type 0} (form : List Stretch → List B) (b s : List ℕ) (end room : ℕ) (ss : List Stretch) → calendarIn form b s end room ≡ done ss → Listed form b s end room ss
@@ -212,8 +210,7 @@ calendar-answered form b s end room ss e =
     let d = then-done (orRefuse 9 (periodTo (y .0 .date) end)) _ (y .2) in
     let z = then-done (orRefuse 3 (articleOf (x .0) (y .0 .article))) _ (d .2) in
     let ts = stretches (outcome (x .0) (y .0)) (d .0) in
-    let t = then-done (refuseUnless 10 (leb (length ts) 1200)) _ (z .2) in
-    let w = then-done (refuseUnless 7 (leb (length (form ts)) room)) _ (t .2) in
+    let w = then-done (refuseUnless 7 (leb (length (form ts)) room)) _ (z .2) in
     record {
       book = x .0;
       question = y .0;
@@ -224,7 +221,6 @@ calendar-answered form b s end room ss e =
       has-article = or-done 3 (articleOf (x .0) (y .0 .article)) (z .1);
       is-period = or-done 9 (periodTo (y .0 .date) end) (d .1);
       is = done-is ts ss (w .2);
-      few = subst (λ (l : List Stretch). leb (length l) 1200 ≡ true) (done-is ts ss (w .2)) (unless-done 10 (leb (length ts) 1200) (t .1));
       fits = subst (λ (l : List Stretch). leb (length (form l)) room ≡ true) (done-is ts ss (w .2)) (unless-done 7 (leb (length (form ts)) room) (w .1));
     }
 
@@ -235,22 +231,21 @@ unfolding calendarIn
 calendar-room form b s end room more ss e l =
     let x = calendar-answered form b s end room ss e in
     let fits : leb (length (form ss)) more ≡ true = le-leb (length (form ss)) more (omega (arith, leb-true (length (form ss)) room (x .fits))) in
-    rw (x .is-book, x .is-question, x .is-period, x .has-article, x .is, x .few, fits)
+    rw (x .is-book, x .is-question, x .is-period, x .has-article, x .is, fits)
 
--- a calendar that is refused is refused with one of these; 10 is none of them, since there are never so many stretches
+-- a calendar that is refused is refused with one of these
 abbrev pub CalendarRefusal : ℕ → Type 0
 CalendarRefusal n = (n ≡ 1) ⊎ ((n ≡ 2) ⊎ ((n ≡ 9) ⊎ ((n ≡ 3) ⊎ (n ≡ 7))))
 
 module _ {B : Type 0} (form : List Stretch → List B) (end room : ℕ) where
-  -- from 10 on
-  pub fitting-refuses : (P : ℕ → Type 0) (book : List Record) (q : Question) (days : List ℕ) → P 7 → periodTo (q .date) end ≡ some days
-      → Refuses P (refuseUnless 10 (leb (length (stretches (outcome book q) days)) 1200) >>= λ _. refuseUnless 7 (leb (length (form (stretches (outcome book q) days))) room) >>= λ _. done (stretches (outcome book q) days))
-  fitting-refuses P book q days seven p = rw (never-10 (outcome book q) (q .date) end days p) (unless-refuses P 7 (leb (length (form (stretches (outcome book q) days))) room) _ seven tt)
+  -- from 7 on
+  pub fitting-refuses : (P : ℕ → Type 0) (ss : List Stretch) → P 7 → Refuses P (refuseUnless 7 (leb (length (form ss)) room) >>= λ _. done ss)
+  fitting-refuses P ss seven = unless-refuses P 7 (leb (length (form ss)) room) _ seven tt
 
   pub calendar-refuses : (b s : List ℕ) → Refuses CalendarRefusal (calendarIn form b s end room)
   unfolding calendarIn
   calendar-refuses b s =
       or-refuses CalendarRefusal 1 (records b) _ (inl refl) (λ book.
       or-refuses CalendarRefusal 2 (questionOf s) _ (inr (inl refl)) (λ q.
-      found-refuses CalendarRefusal 9 (periodTo (q .date) end) _ (inr (inr (inl refl))) (λ days p.
-      or-refuses CalendarRefusal 3 (articleOf book (q .article)) _ (inr (inr (inr (inl refl)))) (λ a. fitting-refuses CalendarRefusal book q days (inr (inr (inr (inr refl)))) p))))
+      or-refuses CalendarRefusal 9 (periodTo (q .date) end) _ (inr (inr (inl refl))) (λ days.
+      or-refuses CalendarRefusal 3 (articleOf book (q .article)) _ (inr (inr (inr (inl refl)))) (λ a. fitting-refuses CalendarRefusal (stretches (outcome book q) days) (inr (inr (inr (inr refl))))))))

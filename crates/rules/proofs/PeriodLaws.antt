@@ -106,7 +106,7 @@ module _ {B : Type 0} (form : List Stretch → List B) (b s : List ℕ) (end roo
     where
       rest : List ℕ → Result (List Stretch)
       rest days = orRefuse 3 (articleOf book (q .article)) >>= λ _.
-          refuseUnless 10 (leb (length (stretches (outcome book q) days)) 1200) >>= λ _. refuseUnless 7 (leb (length (form (stretches (outcome book q) days))) room) >>= λ _. done (stretches (outcome book q) days)
+          refuseUnless 7 (leb (length (form (stretches (outcome book q) days))) room) >>= λ _. done (stretches (outcome book q) days)
 
       not-nine : (r : Result (List Stretch)) → Refuses (λ n. n ≡ 9 → ⊥) r → numberOf r ≡ 9 → ⊥
       not-nine (done a) h z = omega arith
@@ -115,4 +115,4 @@ module _ {B : Type 0} (form : List Stretch → List B) (b s : List ℕ) (end roo
       go : (o : Option (List ℕ)) → periodTo (q .date) end ≡ o → numberOf (orRefuse 9 o >>= rest) ≡ 9 → o ≡ none
       go none p z = refl
       go (some days) p z =
-          absurd (not-nine (rest days) (or-refuses (λ n. n ≡ 9 → ⊥) 3 (articleOf book (q .article)) _ (λ z. omega arith) (λ a. fitting-refuses form end room (λ n. n ≡ 9 → ⊥) book q days (λ z. omega arith) p)) z)
+          absurd (not-nine (rest days) (or-refuses (λ n. n ≡ 9 → ⊥) 3 (articleOf book (q .article)) _ (λ z. omega arith) (λ a. fitting-refuses form end room (λ n. n ≡ 9 → ⊥) (stretches (outcome book q) days) (λ z. omega arith))) z)

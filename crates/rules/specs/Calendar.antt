@@ -82,7 +82,7 @@ stretchBytes s = bytesOf 4 (s .first) ++ (bytesOf 4 (s .last) ++ (s .outcome .re
 unfoldable pub stretchesBytes : List Stretch → List ℕ
 stretchesBytes ss = join (map stretchBytes ss)
 
--- ---- the call: refusals 1, 2, 9, 3, 10, 7
+-- ---- the call: refusals 1, 2, 9, 3, 7
 
 abbrev pub mostDays : ℕ
 mostDays = 1096
@@ -99,7 +99,6 @@ calendarIn form bookBytes questionBytes end room = do
   days ← orRefuse 9 (periodTo (q .date) end)
   _ ← orRefuse 3 (articleOf book (q .article))
   let ss = stretches (outcome book q) days
-  _ ← refuseUnless 10 (leb (length ss) 1200)
   _ ← refuseUnless 7 (leb (length (form ss)) room)
   done ss
 

@@ -3,7 +3,7 @@
 --    1  the book, or one of two text books, is none           7  what would be written is longer than the lent output
 --    2  the question is none                                  8  the article has no unconditioned packaging
 --    3  the book has no record of the article                 9  the period ends on no day, before it starts, or is too long
---    4  there is no base line                                10  too many stretches
+--    4  there is no base line                                10  unused: no call gives it
 --    5  a fixed line is not in the base currency             11  packaging units clash, or a value falls below zero
 --    6  the running total leaves its range                   12  neither text book has the number
 use Prim.Native.Nat.{ℕ}
