@@ -4,47 +4,25 @@ use native.Mathlib.Nat.{zero-add}
 use mathlib.Core.Path.{_≡_, refl, sym, _∙_, ap}
 use mathlib.Core.Bool.{Bool, true, false, cond}
 use mathlib.Core.List.{List, _++_}
-use mathlib.Core.Option.{Option, some, none}
 use native.Mathlib.Omega.{arith}
 use lib.Dec.{eqb, leb}
 use lib.ListN.{length, take, drop}
 use lib.Seq.{length-take-le}
 use borrow.Author.Tests.{eq-eqb, ne-eqb, eqb-false, le-leb, lt-leb, leb-true}
-use Rattle.rules.specs.Book.{articleOf}
-use Rattle.rules.specs.BookLayout.{records}
-use Rattle.rules.specs.Question.{questionOf}
-use Rattle.rules.specs.Refusals.{Result, done, refused, _>>=_, orRefuse, refuseUnless, lentAfter}
-use Rattle.rules.specs.Calendar.{Stretch, stretches, outcome, periodTo, stretchesBytes, calendarIn, calendar, shownBytes}
+use Rattle.rules.specs.Refusals.{Result, done, refused, lentAfter}
+use Rattle.rules.specs.Calendar.{Stretch, stretchesBytes, listing, finished, calendarIn, calendar, shownBytes}
 use Rattle.layout.specs.Ensures.{Puts}
 use Rattle.calendar.specs.declared.listing.Listing.{Listing}
 use Rattle.calendar.specs.Calls.{CalendarIs}
-use Rattle.calendar.specs.Listing.{within, listing, finished, stretchesIn, listed, ListingIs, refusalOf, RefusalIs, Writable}
+use Rattle.calendar.specs.Listing.{stretchesIn, listed, ListingIs, refusalOf, RefusalIs, Writable}
 use Rattle.calendar.proofs.ByteLaws.{bytes-length}
 
 -- ---- the definition's call in two parts
 
-or-then : {A B C : Type 0} (n : ℕ) (o : Option A) (f : A → Result B) (k : B → Result C) (g : A → Result C) → ((a : A) → (f a >>= k) ≡ g a) → ((orRefuse n o >>= f) >>= k) ≡ (orRefuse n o >>= g)
-or-then n none f k g h = refl
-or-then n (some a) f k g h = h a
-
 module _ {B : Type 0} (form : List Stretch → List B) (b s : List ℕ) (end room : ℕ) where
-  abbrev fitting : List Stretch → Result (List Stretch)
-  fitting ss = refuseUnless 7 (leb (length (form ss)) room) >>= λ _. done ss
-
   pub two-parts : calendarIn form b s end room ≡ finished (λ ss. length (form ss)) room (listing b s end)
-  unfolding calendarIn finished listing within
-  two-parts =
-      sym
-      (or-then 1 (records b) (λ book. orRefuse 2 (questionOf s) >>= λ q. within book q end) fitting
-      (λ book. orRefuse 2 (questionOf s) >>= λ q. orRefuse 9 (periodTo (q .date) end) >>= λ days. orRefuse 3 (articleOf book (q .article)) >>= λ _. fitting (stretches (outcome book q) days))
-      (λ book.
-      or-then 2 (questionOf s) (λ q. within book q end) fitting
-      (λ q. orRefuse 9 (periodTo (q .date) end) >>= λ days. orRefuse 3 (articleOf book (q .article)) >>= λ _. fitting (stretches (outcome book q) days))
-      (λ q.
-      or-then 9 (periodTo (q .date) end) (λ days. orRefuse 3 (articleOf book (q .article)) >>= λ _. done (stretches (outcome book q) days)) fitting
-      (λ days. orRefuse 3 (articleOf book (q .article)) >>= λ _. fitting (stretches (outcome book q) days))
-      (λ days.
-      or-then 3 (articleOf book (q .article)) (λ _. done (stretches (outcome book q) days)) fitting (λ _. fitting (stretches (outcome book q) days)) (λ a. refl)))))
+  unfolding calendarIn
+  two-parts = refl
 
 -- ---- the second part
 

@@ -11,7 +11,7 @@ use borrow.Author.Tests.{ne-eqb}
 use Rattle.rules.specs.Days.{isDay}
 use Rattle.rules.specs.Book.{articleOf}
 use Rattle.rules.specs.Refusals.{Result, done}
-use Rattle.rules.specs.Calendar.{Stretch, stretches, outcome, periodTo}
+use Rattle.rules.specs.Calendar.{Stretch, stretches, outcome, periodTo, within, listing}
 use Rattle.rules.proofs.ListLaws.{absent, present}
 use Rattle.rules.proofs.CalendarLaws.{period-days, period-end, period-count}
 use Rattle.layout.proofs.StoreLaws.{all-same}
@@ -31,7 +31,7 @@ use Rattle.survey.specs.Survey.{FoundIs}
 use Rattle.survey.specs.Entrance.{EnteredIs}
 use Rattle.survey.proofs.EntranceLaws.{stays-out, goes-in}
 use Rattle.stretches.specs.Stretches.{noStretch, Lists}
-use Rattle.calendar.specs.Listing.{within, listing, ListingIs, Refused}
+use Rattle.calendar.specs.Listing.{ListingIs, Refused}
 
 -- ---- refusals
 

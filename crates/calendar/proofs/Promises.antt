@@ -19,13 +19,13 @@ use Rattle.rules.specs.Lines.{mostTotal}
 use Rattle.rules.specs.Refusals.{Result, done, refused, numberOf, over, lentAfter}
 use Rattle.rules.specs.Price.{price, shown}
 use Rattle.rules.specs.declared.PriceAnswer.{PriceAnswer}
-use Rattle.rules.specs.Calendar.{Outcome, Stretch, stretches, outcome, periodTo, stretchBytes, stretchesBytes, calendarIn, calendar, shownBytes, lentAfterCalendar, calendarList, shownRecords, lentAfterList}
+use Rattle.rules.specs.Calendar.{Outcome, Stretch, stretches, outcome, periodTo, stretchBytes, stretchesBytes, within, listing, finished, calendarIn, calendar, shownBytes, lentAfterCalendar, calendarList, shownRecords, lentAfterList}
 use Rattle.rules.specs.declared.CalendarAnswer.{CalendarAnswer}
 use Rattle.stretches.specs.declared.Stretch as Declared
 use Rattle.stretches.specs.Stretches.{asStretch, recordOf}
 use Rattle.rules.proofs.ListLaws.{All}
 use Rattle.rules.proofs.DayLaws.{day-most}
-use Rattle.rules.proofs.RefusalLaws.{NeverZero, or-never, unless-never, done-never}
+use Rattle.rules.proofs.RefusalLaws.{NeverZero, or-never, unless-never, then-never, done-never}
 use Rattle.rules.proofs.CalendarLaws.{Holds, InOrder, RightBy, right-by, right as period-right, period-end, period-days, stretch-count}
 use Rattle.rules.proofs.CallLaws.{CalendarRefusal, calendar-answered}
 use Rattle.rules.proofs.PeriodLaws.{NoPeriod}
@@ -87,13 +87,14 @@ priced-as b s {q = q} e f g d o day h lines p left is n =
 
 -- a calendar with the number 0 has an answer
 calendar-never : {B : Type 0} (form : List Stretch → List B) (b s : List ℕ) (end room : ℕ) → NeverZero (calendarIn form b s end room)
-unfolding calendarIn
+unfolding calendarIn finished listing within
 calendar-never form b s end room =
-    or-never 0 (records b) _ (λ book.
+    then-never (listing b s end) _
+    (or-never 0 (records b) _ (λ book.
     or-never 1 (questionOf s) _ (λ q.
     or-never 8 (periodTo (q .date) end) _ (λ days.
-    or-never 2 (articleOf book (q .article)) _ (λ a.
-    unless-never 6 (leb (length (form (stretches (outcome book q) days))) room) _ (done-never (stretches (outcome book q) days))))))
+    or-never 2 (articleOf book (q .article)) _ (λ a. done-never (stretches (outcome book q) days))))))
+    (λ ss. unless-never 6 (leb (length (form ss)) room) _ (done-never ss))
 
 -- and the book has its article
 answered-article : {B : Type 0} (form : List Stretch → List B) (b s : List ℕ) (end room : ℕ) (ss : List Stretch) {book : List Record} {q : Question}
@@ -157,7 +158,7 @@ module _ (b s : List ℕ) (end : ℕ) (lent : List ℕ) {r : CalendarAnswer} {af
 
     -- With an article that the book has and a period, room for a stretch a day is enough for an answer.
     pub answered : {a : Article} {days : List ℕ} → articleOf book (q .article) ≡ some a → periodTo (q .date) end ≡ some days → 20 * length days ≤ length lent → r .number ≡ 0
-    unfolding calendarIn shownBytes
+    unfolding calendarIn finished listing within shownBytes
     answered {days = days} h p room =
         let ss : List Stretch = stretches (outcome book q) days in
         let right = period-right (outcome book q) (question-sound s q g .date) (period-end (q .date) end days p) (period-days (q .date) end days p) in
@@ -217,7 +218,7 @@ module _ (b s : List ℕ) (end : ℕ) (lent : List Declared.Stretch) {r : Calend
 
     -- With an article that the book has and a period, room for a record a day is enough for an answer.
     pub answered-list : {a : Article} {days : List ℕ} → articleOf book (q .article) ≡ some a → periodTo (q .date) end ≡ some days → length days ≤ length lent → r .number ≡ 0
-    unfolding calendarIn
+    unfolding calendarIn finished listing within
     answered-list {days = days} h p room =
         let ss : List Stretch = stretches (outcome book q) days in
         let fits : leb (length ss) (length lent) ≡ true = le-leb (length ss) (length lent) (omega (arith, stretch-count (outcome book q) days)) in

@@ -9,13 +9,13 @@ use lib.ListN.{length, take, drop, getD, set, length-set, length-map}
 use lib.Seq.{length-take-le, take-suc, drop-cons, set-at, append-snoc}
 use borrow.Author.Tests.{eqb-true, eqb-false}
 use Rattle.rules.specs.Refusals.{done, refused, lentAfter}
-use Rattle.rules.specs.Calendar.{Stretch, calendarList, shownRecords, lentAfterList, mostDays}
+use Rattle.rules.specs.Calendar.{Stretch, calendarList, shownRecords, lentAfterList, mostDays, listing}
 use Rattle.rules.specs.declared.CalendarAnswer.{CalendarAnswer}
 use Rattle.stretches.specs.declared.Stretch as Declared
 use Rattle.stretches.specs.Stretches.{asStretch, recordOf, noStretch}
 use Rattle.calendar.specs.declared.listing.Listing.{Listing}
 use Rattle.calendar.specs.Calls.{CalendarListIs}
-use Rattle.calendar.specs.Listing.{listing, ListingIs, stretchesIn, stretchOf, ListAnswer, filled}
+use Rattle.calendar.specs.Listing.{ListingIs, stretchesIn, stretchOf, ListAnswer, filled}
 use Rattle.calendar.proofs.ByteLaws.{stretches-count}
 use Rattle.calendar.proofs.CallLaws.{two-parts, Finished, finish}
 

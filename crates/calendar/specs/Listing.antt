@@ -5,39 +5,13 @@ use mathlib.Core.Bool.{cond}
 use mathlib.Core.List.{List, map}
 use lib.Dec.{eqb, leb}
 use lib.ListN.{length, take, getD, set}
-use Rattle.rules.specs.Book.{Record, articleOf}
-use Rattle.rules.specs.BookLayout.{records}
-use Rattle.rules.specs.Question.{Question, questionOf}
-use Rattle.rules.specs.Refusals.{Result, done, refused, _>>=_, orRefuse, refuseUnless}
-use Rattle.rules.specs.Calendar.{Stretch, stretches, outcome, periodTo, mostDays}
+use Rattle.rules.specs.Refusals.{Result, done, refused}
+use Rattle.rules.specs.Calendar.{Stretch, mostDays}
 use Rattle.rules.specs.declared.CalendarAnswer.{CalendarAnswer}
 use Rattle.stretches.specs.declared.Stretch as Declared
 use Rattle.stretches.specs.declared.Stretches.{Stretches}
 use Rattle.calendar.specs.declared.listing.Listing.{Listing}
 use Rattle.stretches.specs.Stretches.{asStretch, noStretch}
-
--- ---- what is listed
-
--- of an accepted book and question: refusals 9 and 3
-unfoldable pub within : List Record → Question → ℕ → Result (List Stretch)
-within book q end = do
-  days ← orRefuse 9 (periodTo (q .date) end)
-  _ ← orRefuse 3 (articleOf book (q .article))
-  done (stretches (outcome book q) days)
-
--- of any bytes: refusals 1 and 2 before them
-unfoldable pub listing : List ℕ → List ℕ → ℕ → Result (List Stretch)
-listing bookBytes questionBytes end = do
-  book ← orRefuse 1 (records bookBytes)
-  q ← orRefuse 2 (questionOf questionBytes)
-  within book q end
-
--- and whether they fit: refusal 7 behind them
-unfoldable pub finished : (List Stretch → ℕ) → ℕ → Result (List Stretch) → Result (List Stretch)
-finished size room o = do
-  ss ← o
-  _ ← refuseUnless 7 (leb (size ss) room)
-  done ss
 
 -- ---- as the code has it
 

@@ -10,7 +10,8 @@ ghost use Prim.Native.Nat.{_<_};
 ghost use Rattle.layout.specs.Records.{recordsLeft};
 ghost use Rattle.question.specs.Asked.{askIn, AskIs};
 ghost use Rattle.survey.specs.Survey.{FoundIs};
-ghost use Rattle.calendar.specs.Listing.{listing, within, Refused, ListingIs};
+ghost use Rattle.rules.specs.Calendar.{listing, within};
+ghost use Rattle.calendar.specs.Listing.{Refused, ListingIs};
 
 // With a number other than 0 nothing is listed.
 pub struct Listing {

@@ -11,7 +11,7 @@ use lib.Seq.{sets, take-suc, take-all, getD-take, length-take-le, take-at}
 use borrow.Author.Tests.{eq-eqb, ne-eqb, le-leb, lt-leb}
 use Rattle.rules.specs.Lists.{join}
 use Rattle.rules.specs.Letters.{text}
-use Rattle.rules.specs.Calendar.{Stretch, calendar, stretchesBytes, mostDays}
+use Rattle.rules.specs.Calendar.{Stretch, calendar, stretchesBytes, mostDays, listing, finished}
 use Rattle.rules.specs.Bytes.{ownLength}
 use Rattle.rules.specs.Program.{digits, decimal, stretchText, endOf, asked, printed, output, mostInput}
 use Rattle.rules.specs.Refusals.{Result, done, refused, _>>=_, refuseUnless, over}
@@ -20,7 +20,7 @@ use Rattle.stretches.specs.declared.Stretch as Declared
 use Rattle.stretches.specs.declared.Stretches.{Stretches}
 use Rattle.stretches.specs.Stretches.{asStretch, noStretch}
 use Rattle.calendar.specs.declared.listing.Listing.{Listing}
-use Rattle.calendar.specs.Listing.{listing, finished, stretchesIn, listed, ListingIs, Refused}
+use Rattle.calendar.specs.Listing.{stretchesIn, listed, ListingIs, Refused}
 use Rattle.calendar.proofs.ByteLaws.{stretches-count, bytes-length}
 use Rattle.calendar.proofs.CallLaws.{two-parts}
 use Rattle.printing.specs.declared.output.Printed.{Printed}

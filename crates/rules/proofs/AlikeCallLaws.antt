@@ -1,18 +1,17 @@
 -- The calls on two books that are alike in what a question reads: the same price and the same calendar, refusals too.
 use Prim.Native.Nat.{ℕ}
-use mathlib.Core.Path.{_≡_, refl, sym, _∙_, ap}
+use mathlib.Core.Path.{_≡_, refl, sym, ap}
 use mathlib.Core.Bool.{false≢true}
 use mathlib.Core.List.{List}
 use mathlib.Core.Option.{Option, some, none}
-use lib.Dec.{leb}
 use lib.ListN.{length}
 use Rattle.rules.specs.Lists.{isSome}
 use Rattle.rules.specs.Book.{Record, articleOf}
 use Rattle.rules.specs.BookLayout.{records}
 use Rattle.rules.specs.Question.{Question, questionOf}
-use Rattle.rules.specs.Refusals.{Result, done, refused, _>>=_, orRefuse, refuseUnless}
-use Rattle.rules.specs.Price.{Priced, priced, Answer, answerOf, answered, inRoom, price}
-use Rattle.rules.specs.Calendar.{Outcome, outcome, Stretch, stretches, periodTo, calendarIn}
+use Rattle.rules.specs.Refusals.{Result, done, _>>=_, orRefuse}
+use Rattle.rules.specs.Price.{Priced, Answer, answerOf, answered, inRoom, price}
+use Rattle.rules.specs.Calendar.{outcome, Stretch, stretches, periodTo, within, listing, finished, calendarIn}
 use Rattle.rules.proofs.AlikeLaws.{Alike, same-priced, same-outcome}
 
 -- Two accepted books that are alike in what the question reads, and both have a record of its article, or neither has.
@@ -50,20 +49,20 @@ module _ (one two question : List ℕ) (h : BooksAlike one two question) where
   unfolding price
   same-price room = rw (h .is-first, h .is-second) (asked-same (questionOf question) _ _ λ q e. ap (λ (r : Result Answer). r >>= inRoom room) (same-answered q e))
 
-  -- The calendar gives the same stretches or the same refusal, in either form.
-  pub same-calendar : {B : Type 0} (form : List Stretch → List B) (end room : ℕ)
-      → calendarIn form one question end room ≡ calendarIn form two question end room
-  unfolding calendarIn
-  same-calendar form end room = rw (h .is-first, h .is-second) (asked-same (questionOf question) _ _ λ q e. days q e (periodTo (q .date) end))
+  -- The calendar lists the same stretches or has the same refusal, in either form.
+  same-listing : (end : ℕ) → listing one question end ≡ listing two question end
+  unfolding listing within
+  same-listing end = rw (h .is-first, h .is-second) (asked-same (questionOf question) _ _ λ q e. days q e (periodTo (q .date) end))
     where
-      after : (ℕ → Outcome) → List ℕ → Result (List Stretch)
-      after f ds =
-          refuseUnless 7 (leb (length (form (stretches f ds))) room) >>= λ _. done (stretches f ds)
-
       days : (q : Question) → questionOf question ≡ some q → (o : Option (List ℕ))
-          → (orRefuse 9 o >>= λ ds. orRefuse 3 (articleOf (h .first-book) (q .article)) >>= λ _. after (outcome (h .first-book) q) ds)
-          ≡ (orRefuse 9 o >>= λ ds. orRefuse 3 (articleOf (h .second-book) (q .article)) >>= λ _. after (outcome (h .second-book) q) ds)
+          → (orRefuse 9 o >>= λ ds. orRefuse 3 (articleOf (h .first-book) (q .article)) >>= λ _. done (stretches (outcome (h .first-book) q) ds))
+          ≡ (orRefuse 9 o >>= λ ds. orRefuse 3 (articleOf (h .second-book) (q .article)) >>= λ _. done (stretches (outcome (h .second-book) q) ds))
       days q e none = refl
       days q e (some ds) =
           found-same 3 (articleOf (h .first-book) (q .article)) (articleOf (h .second-book) (q .article)) _ _ (h .known q e)
-          (λ i. after (λ d. same-outcome (h .first-book) (h .second-book) q (h .alike q e) d i) ds)
+          (λ i. done (stretches (λ d. same-outcome (h .first-book) (h .second-book) q (h .alike q e) d i) ds))
+
+  pub same-calendar : {B : Type 0} (form : List Stretch → List B) (end room : ℕ)
+      → calendarIn form one question end room ≡ calendarIn form two question end room
+  unfolding calendarIn
+  same-calendar form end room = ap (finished (λ ss. length (form ss)) room) (same-listing end)

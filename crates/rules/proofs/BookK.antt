@@ -76,7 +76,7 @@ line place r amount = record { place = place; factor = plainFactor; row = r; amo
 
 -- (the line below names what computes: whoever unfolds `computed` unfolds all of it)
 computed : Unit {0}
-unfolding price calendarIn output asked digits Floor.floor BookLayout.records Book.articleOf Book.roundingFor Question.questionOf Question.on Question.grants Choice.component Choice.step₁ Choice.step₂ Choice.step₃ Choice.step₄ Choice.step₅ Choice.surviving Choice.choose Days.isDay Days.next Days.daysTo Amounts.exact Amounts.ceiling Amounts.nearest Amounts.stepsBy Amounts.multipleBy Amounts.rounded Lines.slots Lines.rowsAt Lines.chosenAt Lines.chosen Lines.total Lines.baseSum Lines.lineAfter Lines.linesAfter Lines.linesOf Lines.linesBytes Lines.totalOf Price.priced Price.answered Price.unusedOf Price.answerOf Calendar.stretchesBytes Calendar.periodTo Calendar.outcome Calendar.outcomeOf Calendar.stretches Calendar.sameOutcome
+unfolding price calendarIn Calendar.finished Calendar.listing Calendar.within output asked digits Floor.floor BookLayout.records Book.articleOf Book.roundingFor Question.questionOf Question.on Question.grants Choice.component Choice.step₁ Choice.step₂ Choice.step₃ Choice.step₄ Choice.step₅ Choice.surviving Choice.choose Days.isDay Days.next Days.daysTo Amounts.exact Amounts.ceiling Amounts.nearest Amounts.stepsBy Amounts.multipleBy Amounts.rounded Lines.slots Lines.rowsAt Lines.chosenAt Lines.chosen Lines.total Lines.baseSum Lines.lineAfter Lines.linesAfter Lines.linesOf Lines.linesBytes Lines.totalOf Price.priced Price.answered Price.unusedOf Price.answerOf Calendar.stretchesBytes Calendar.periodTo Calendar.outcome Calendar.outcomeOf Calendar.stretches Calendar.sameOutcome
 computed = tt
 
 -- ---- prices: three lines, which take 48 bytes

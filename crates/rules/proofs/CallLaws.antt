@@ -19,7 +19,7 @@ use Rattle.rules.specs.declared.Cents.{Cents}
 use Rattle.rules.specs.declared.Total.{Total}
 use Rattle.rules.specs.declared.Total.the-variants.{InRange, OutOfRange}
 use Rattle.rules.specs.Price.{Priced, Answer, inOneCurrency, inRange, priced, answerOf, written, answered, inRoom, price}
-use Rattle.rules.specs.Calendar.{Stretch, stretches, outcome, periodTo, calendarIn}
+use Rattle.rules.specs.Calendar.{Stretch, stretches, outcome, periodTo, within, listing, finished, calendarIn}
 use Rattle.rules.proofs.RefusalLaws.{then-done, or-done, unless-done, done-is, not-refused, NeverZero, done-never, refused-never, or-never, unless-never, then-never, Refuses, or-refuses, unless-refuses, found-refuses, then-refuses}
 use Rattle.rules.proofs.GivesLaws.{question-sound}
 use Rattle.rules.proofs.RoomLaws.{enough-room}
@@ -203,14 +203,15 @@ pub record Listed {B : Type 0} (form : List Stretch → List B) (b s : List ℕ)
   pub fits : leb (length (form ss)) room ≡ true
 
 pub calendar-answered : {B : Type 0} (form : List Stretch → List B) (b s : List ℕ) (end room : ℕ) (ss : List Stretch) → calendarIn form b s end room ≡ done ss → Listed form b s end room ss
-unfolding calendarIn
+unfolding calendarIn finished listing within
 calendar-answered form b s end room ss e =
-    let x = then-done (orRefuse 1 (records b)) _ e in
+    let l = then-done (listing b s end) _ e in
+    let ts = l .0 in
+    let x = then-done (orRefuse 1 (records b)) _ (l .1) in
     let y = then-done (orRefuse 2 (questionOf s)) _ (x .2) in
     let d = then-done (orRefuse 9 (periodTo (y .0 .date) end)) _ (y .2) in
     let z = then-done (orRefuse 3 (articleOf (x .0) (y .0 .article))) _ (d .2) in
-    let ts = stretches (outcome (x .0) (y .0)) (d .0) in
-    let w = then-done (refuseUnless 7 (leb (length (form ts)) room)) _ (z .2) in
+    let w = then-done (refuseUnless 7 (leb (length (form ts)) room)) _ (l .2) in
     record {
       book = x .0;
       question = y .0;
@@ -220,14 +221,14 @@ calendar-answered form b s end room ss e =
       is-question = or-done 2 (questionOf s) (y .1);
       has-article = or-done 3 (articleOf (x .0) (y .0 .article)) (z .1);
       is-period = or-done 9 (periodTo (y .0 .date) end) (d .1);
-      is = done-is ts ss (w .2);
+      is = done-is (stretches (outcome (x .0) (y .0)) (d .0)) ts (z .2) ∙ done-is ts ss (w .2);
       fits = subst (λ (l : List Stretch). leb (length (form l)) room ≡ true) (done-is ts ss (w .2)) (unless-done 7 (leb (length (form ts)) room) (w .1));
     }
 
 -- what is answered with some room is answered with more
 pub calendar-room : {B : Type 0} (form : List Stretch → List B) (b s : List ℕ) (end room more : ℕ) (ss : List Stretch) → calendarIn form b s end room ≡ done ss → room ≤ more
     → calendarIn form b s end more ≡ done ss
-unfolding calendarIn
+unfolding calendarIn finished listing within
 calendar-room form b s end room more ss e l =
     let x = calendar-answered form b s end room ss e in
     let fits : leb (length (form ss)) more ≡ true = le-leb (length (form ss)) more (omega (arith, leb-true (length (form ss)) room (x .fits))) in
@@ -237,15 +238,16 @@ calendar-room form b s end room more ss e l =
 abbrev pub CalendarRefusal : ℕ → Type 0
 CalendarRefusal n = (n ≡ 1) ⊎ ((n ≡ 2) ⊎ ((n ≡ 9) ⊎ ((n ≡ 3) ⊎ (n ≡ 7))))
 
-module _ {B : Type 0} (form : List Stretch → List B) (end room : ℕ) where
-  -- from 7 on
-  pub fitting-refuses : (P : ℕ → Type 0) (ss : List Stretch) → P 7 → Refuses P (refuseUnless 7 (leb (length (form ss)) room) >>= λ _. done ss)
-  fitting-refuses P ss seven = unless-refuses P 7 (leb (length (form ss)) room) _ seven tt
+-- behind what is listed there is 7 alone
+pub finished-refuses : (P : ℕ → Type 0) (size : List Stretch → ℕ) (room : ℕ) (o : Result (List Stretch)) → P 7 → Refuses P o → Refuses P (finished size room o)
+unfolding finished
+finished-refuses P size room o seven h = then-refuses P o _ h (λ ss. unless-refuses P 7 (leb (size ss) room) _ seven tt)
 
-  pub calendar-refuses : (b s : List ℕ) → Refuses CalendarRefusal (calendarIn form b s end room)
-  unfolding calendarIn
-  calendar-refuses b s =
-      or-refuses CalendarRefusal 1 (records b) _ (inl refl) (λ book.
-      or-refuses CalendarRefusal 2 (questionOf s) _ (inr (inl refl)) (λ q.
-      or-refuses CalendarRefusal 9 (periodTo (q .date) end) _ (inr (inr (inl refl))) (λ days.
-      or-refuses CalendarRefusal 3 (articleOf book (q .article)) _ (inr (inr (inr (inl refl)))) (λ a. fitting-refuses CalendarRefusal (stretches (outcome book q) days) (inr (inr (inr (inr refl))))))))
+pub calendar-refuses : {B : Type 0} (form : List Stretch → List B) (end room : ℕ) (b s : List ℕ) → Refuses CalendarRefusal (calendarIn form b s end room)
+unfolding calendarIn listing within
+calendar-refuses form end room b s =
+    finished-refuses CalendarRefusal (λ ss. length (form ss)) room (listing b s end) (inr (inr (inr (inr refl))))
+    (or-refuses CalendarRefusal 1 (records b) _ (inl refl) (λ book.
+    or-refuses CalendarRefusal 2 (questionOf s) _ (inr (inl refl)) (λ q.
+    or-refuses CalendarRefusal 9 (periodTo (q .date) end) _ (inr (inr (inl refl))) (λ days.
+    or-refuses CalendarRefusal 3 (articleOf book (q .article)) _ (inr (inr (inr (inl refl)))) (λ a. tt)))))

@@ -184,5 +184,5 @@ by (AskBasket room) b q = readBasket (Basket.basketCall b q (replicate room 7))
 
 -- (the line below names what computes: whoever unfolds `found` unfolds all of it)
 unfoldable pub found : Case → Worked
-unfolding price Floor.floor BookLayout.records Book.articleOf Book.schemeOf Book.packOf Book.roundingFor Question.questionOf Question.on Question.grants Choice.component Choice.step₁ Choice.step₂ Choice.step₃ Choice.step₄ Choice.step₅ Choice.surviving Choice.choose Days.isDay Days.next Days.daysTo Amounts.exact Amounts.ceiling Amounts.nearest Amounts.stepsBy Amounts.multipleBy Amounts.rounded Lines.slots Lines.rowsAt Lines.chosenAt Lines.chosen Lines.total Lines.baseSum Lines.lineAfter Lines.linesAfter Lines.linesOf Lines.linesBytes Lines.totalOf Price.priced Price.answered Price.unusedOf Price.answerOf finalNumber FinalNumber.finalNumberOf FinalNumber.numberBy packaging Packaging.used Packaging.packedOf output asked digits Calendar.calendarIn Calendar.stretchesBytes Price.shown Refusals.lentAfter LineText.text TextBook.entries Calendar.periodTo Calendar.outcome Calendar.outcomeOf Calendar.stretches Calendar.sameOutcome Questions.questionsOf Basket.basketBytes Basket.basket Basket.shownBasket
+unfolding price Floor.floor BookLayout.records Book.articleOf Book.schemeOf Book.packOf Book.roundingFor Question.questionOf Question.on Question.grants Choice.component Choice.step₁ Choice.step₂ Choice.step₃ Choice.step₄ Choice.step₅ Choice.surviving Choice.choose Days.isDay Days.next Days.daysTo Amounts.exact Amounts.ceiling Amounts.nearest Amounts.stepsBy Amounts.multipleBy Amounts.rounded Lines.slots Lines.rowsAt Lines.chosenAt Lines.chosen Lines.total Lines.baseSum Lines.lineAfter Lines.linesAfter Lines.linesOf Lines.linesBytes Lines.totalOf Price.priced Price.answered Price.unusedOf Price.answerOf finalNumber FinalNumber.finalNumberOf FinalNumber.numberBy packaging Packaging.used Packaging.packedOf output asked digits Calendar.calendarIn Calendar.finished Calendar.listing Calendar.within Calendar.stretchesBytes Price.shown Refusals.lentAfter LineText.text TextBook.entries Calendar.periodTo Calendar.outcome Calendar.outcomeOf Calendar.stretches Calendar.sameOutcome Questions.questionsOf Basket.basketBytes Basket.basket Basket.shownBasket
 found c = by (c .call) (c .book) (c .question)

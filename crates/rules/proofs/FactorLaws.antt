@@ -19,7 +19,7 @@ use Rattle.rules.specs.Amounts.{exact, factored, ceiling, nearestOf, nea
 use Rattle.rules.specs.Lines.{Line, Slot, namedSlot, slotsAt, slots, Chosen, chosenIn, rowsAt, chosenAt, chosen, percentOf, lineAfter, linesAfter, linesOf, total}
 use Rattle.rules.specs.Refusals.{done, _>>=_, orRefuse}
 use Rattle.rules.specs.Price.{priced, answered, answerOf, unusedOf, price}
-use Rattle.rules.specs.Calendar.{outcome, outcomeOf, calendarIn, calendar, calendarList}
+use Rattle.rules.specs.Calendar.{outcome, outcomeOf, within, listing, finished, calendarIn, calendar, calendarList}
 use Rattle.rules.specs.FinalNumber.{finalNumber}
 use Rattle.rules.specs.Packaging.{packaging}
 use Rattle.rules.specs.declared.Way.{Way}
@@ -293,7 +293,7 @@ pub record AnsweredAlike (s s′ : List ℕ) : Type 0 where
   pub packaging : (b : List ℕ) → packaging b s ≡ packaging b s′
 
 pub answered-alike : (s s′ : List ℕ) → questionOf s ≡ questionOf s′ → AnsweredAlike s s′
-unfolding price calendarIn finalNumber packaging
+unfolding price calendarIn finished listing within finalNumber packaging
 answered-alike s s′ e = record {
   price = λ b room. rw e;
   calendar = λ b end room. rw e;

@@ -14,12 +14,12 @@ use Rattle.rules.specs.Days.{isDay, next, daysTo, also}
 use Rattle.rules.specs.Book.{Record, articleOf}
 use Rattle.rules.specs.BookLayout.{records}
 use Rattle.rules.specs.Question.{Question, questionOf}
-use Rattle.rules.specs.Refusals.{Result, done, refused, _>>=_, orRefuse, refuseUnless, numberOf}
-use Rattle.rules.specs.Calendar.{Stretch, stretches, outcome, periodTo, mostDays, calendarIn}
+use Rattle.rules.specs.Refusals.{Result, done, refused, _>>=_, orRefuse, numberOf}
+use Rattle.rules.specs.Calendar.{Stretch, stretches, outcome, periodTo, mostDays, within, listing, finished, calendarIn}
 use Rattle.rules.proofs.DayLaws.{next-above, next-least, next-is-day, day-most}
 use Rattle.rules.proofs.RefusalLaws.{Refuses, or-refuses}
 use Rattle.rules.proofs.CalendarLaws.{Days, end, day, days-order, period-days, period-end, period-count}
-use Rattle.rules.proofs.CallLaws.{fitting-refuses}
+use Rattle.rules.proofs.CallLaws.{finished-refuses}
 
 -- ---- no period
 
@@ -97,22 +97,22 @@ module _ (from to : ℕ) where
 module _ {B : Type 0} (form : List Stretch → List B) (b s : List ℕ) (end room : ℕ) {book : List Record} {q : Question} (e : records b ≡ some book) (f : questionOf s ≡ some q) where
   -- with an accepted book and question, 9 is given exactly where the dates make no period
   pub nine-period : NoPeriod (q .date) end → numberOf (calendarIn form b s end room) ≡ 9
-  unfolding calendarIn
+  unfolding calendarIn finished listing within
   nine-period h = rw (e, f, no-period (q .date) end h)
 
   pub period-nine : isDay (q .date) ≡ true → numberOf (calendarIn form b s end room) ≡ 9 → NoPeriod (q .date) end
-  unfolding calendarIn
-  period-nine d n = period-none (q .date) end d (go (periodTo (q .date) end) refl (rw (e, f) at n))
+  unfolding calendarIn finished listing within
+  period-nine d n = period-none (q .date) end d (go (periodTo (q .date) end) (rw (e, f) at n))
     where
       rest : List ℕ → Result (List Stretch)
-      rest days = orRefuse 3 (articleOf book (q .article)) >>= λ _.
-          refuseUnless 7 (leb (length (form (stretches (outcome book q) days))) room) >>= λ _. done (stretches (outcome book q) days)
+      rest days = orRefuse 3 (articleOf book (q .article)) >>= λ _. done (stretches (outcome book q) days)
 
       not-nine : (r : Result (List Stretch)) → Refuses (λ n. n ≡ 9 → ⊥) r → numberOf r ≡ 9 → ⊥
       not-nine (done a) h z = omega arith
       not-nine (refused n) h z = h z
 
-      go : (o : Option (List ℕ)) → periodTo (q .date) end ≡ o → numberOf (orRefuse 9 o >>= rest) ≡ 9 → o ≡ none
-      go none p z = refl
-      go (some days) p z =
-          absurd (not-nine (rest days) (or-refuses (λ n. n ≡ 9 → ⊥) 3 (articleOf book (q .article)) _ (λ z. omega arith) (λ a. fitting-refuses form end room (λ n. n ≡ 9 → ⊥) (stretches (outcome book q) days) (λ z. omega arith))) z)
+      go : (o : Option (List ℕ)) → numberOf (finished (λ ss. length (form ss)) room (orRefuse 9 o >>= rest)) ≡ 9 → o ≡ none
+      go none z = refl
+      go (some days) z =
+          absurd (not-nine (finished (λ ss. length (form ss)) room (rest days)) (finished-refuses (λ n. n ≡ 9 → ⊥) (λ ss. length (form ss)) room (rest days) (λ z. omega arith)
+          (or-refuses (λ n. n ≡ 9 → ⊥) 3 (articleOf book (q .article)) _ (λ z. omega arith) (λ a. tt))) z)

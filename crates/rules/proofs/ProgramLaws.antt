@@ -18,7 +18,7 @@ use Rattle.rules.specs.Book.{Record}
 use Rattle.rules.specs.BookLayout.{oneRecord, mostBytes, records}
 use Rattle.rules.specs.Question.{Question, versions, questionBody, questionOf}
 use Rattle.rules.specs.Refusals.{Result, done, refused, _>>=_, refuseUnless}
-use Rattle.rules.specs.Calendar.{Stretch, calendarIn, calendar, mostDays, stretchesBytes}
+use Rattle.rules.specs.Calendar.{Stretch, within, listing, finished, calendarIn, calendar, mostDays, stretchesBytes}
 use Rattle.rules.specs.Program.{digits, printed, mostInput, front, behind, bookIn, questionIn, endIn, endOf, asked, output}
 use Rattle.rules.proofs.PeriodLaws.{no-period}
 
@@ -68,7 +68,7 @@ module _ (input : List ℕ) where
 
   -- bytes that are no book, in input of any length
   pub prints-no-book : records (bookIn input) ≡ none → output input ≡ text "refusal 1\n"
-  unfolding output asked calendarIn
+  unfolding output asked calendarIn finished listing within
   prints-no-book e = go (leb (length input) mostInput)
     where
       go : (b : Bool) → printed (refuseUnless 1 b >>= λ _. calendar (bookIn input) (questionIn input) (endOf (endIn input)) (20 * mostDays)) ≡ text "refusal 1\n"
@@ -77,9 +77,9 @@ module _ (input : List ℕ) where
 
   module _ (h : length input ≤ mostInput) {book : List Record} (e : records (bookIn input) ≡ some book) where
     pub prints-no-question : questionOf (questionIn input) ≡ none → output input ≡ text "refusal 2\n"
-    unfolding output asked calendarIn
+    unfolding output asked calendarIn finished listing within
     prints-no-question f = rw (le-leb (length input) mostInput h, e, f) (refusal-text .1)
 
     pub prints-no-end : {q : Question} → questionOf (questionIn input) ≡ some q → (length (endIn input) ≡ 4 → ⊥) → output input ≡ text "refusal 9\n"
-    unfolding output asked calendarIn isDay
+    unfolding output asked calendarIn finished listing within isDay
     prints-no-end {q} f n = rw (le-leb (length input) mostInput h, e, f, ne-eqb (length (endIn input)) 4 n, no-period (q .date) 0 (inl refl)) (refusal-text .2)

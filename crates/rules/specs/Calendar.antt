@@ -82,7 +82,7 @@ stretchBytes s = bytesOf 4 (s .first) ++ (bytesOf 4 (s .last) ++ (s .outcome .re
 unfoldable pub stretchesBytes : List Stretch → List ℕ
 stretchesBytes ss = join (map stretchBytes ss)
 
--- ---- the call: refusals 1, 2, 9, 3, 7
+-- ---- what is listed: refusals 1, 2, 9, 3
 
 abbrev pub mostDays : ℕ
 mostDays = 1096
@@ -91,16 +91,31 @@ mostDays = 1096
 unfoldable pub periodTo : ℕ → ℕ → Option (List ℕ)
 periodTo start end = cond (isDay end && leb start end) (daysTo mostDays start end) none
 
--- `form` is what would be written: bytes, or a list of records
-unfoldable pub calendarIn : {B : Type 0} → (List Stretch → List B) → List ℕ → List ℕ → ℕ → ℕ → Result (List Stretch)
-calendarIn form bookBytes questionBytes end room = do
-  book ← orRefuse 1 (records bookBytes)
-  q ← orRefuse 2 (questionOf questionBytes)
+-- of an accepted book and question
+unfoldable pub within : List Record → Question → ℕ → Result (List Stretch)
+within book q end = do
   days ← orRefuse 9 (periodTo (q .date) end)
   _ ← orRefuse 3 (articleOf book (q .article))
-  let ss = stretches (outcome book q) days
-  _ ← refuseUnless 7 (leb (length (form ss)) room)
+  done (stretches (outcome book q) days)
+
+-- of any bytes
+unfoldable pub listing : List ℕ → List ℕ → ℕ → Result (List Stretch)
+listing bookBytes questionBytes end = do
+  book ← orRefuse 1 (records bookBytes)
+  q ← orRefuse 2 (questionOf questionBytes)
+  within book q end
+
+-- ---- the call: refusal 7 behind them
+
+unfoldable pub finished : (List Stretch → ℕ) → ℕ → Result (List Stretch) → Result (List Stretch)
+finished size room o = do
+  ss ← o
+  _ ← refuseUnless 7 (leb (size ss) room)
   done ss
+
+-- `form` is what would be written: bytes, or a list of records
+unfoldable pub calendarIn : {B : Type 0} → (List Stretch → List B) → List ℕ → List ℕ → ℕ → ℕ → Result (List Stretch)
+calendarIn form bookBytes questionBytes end room = finished (λ ss. length (form ss)) room (listing bookBytes questionBytes end)
 
 -- ---- as bytes
 

@@ -53,7 +53,8 @@ use borrow.Author.Tests.{lt-ltb, le-ltb}
 use Rattle.stretches.specs.declared.Stretch.{Stretch}
 use Rattle.rules.specs.declared.CalendarAnswer.{CalendarAnswer}
 use Rattle.calendar.specs.declared.listing.Listing.{Listing}
-use Rattle.calendar.specs.Listing.{listing, ListingIs, ListAnswer, StretchAt, stretchOf, filled}
+use Rattle.rules.specs.Calendar.{listing}
+use Rattle.calendar.specs.Listing.{ListingIs, ListAnswer, StretchAt, stretchOf, filled}
 use Rattle.calendar.proofs.RecordLaws.{filled-length, list-room, list-few, list-called}
 use Rattle.stretches.proofs.Stretch as T
 use Rattle.stretches.proofs.Stretch.Laws as T′
