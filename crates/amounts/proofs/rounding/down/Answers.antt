@@ -1,5 +1,4 @@
 -- `amounts::rounding::down` meets its contract: below zero by `down_below`, and from zero up as `full` has it.
--- ---- below zero
 use mathlib.Core.Path.{◌≡◌, ◌∙◌, ap}
 use lib.IntN.{ℤ, pos, negsuc, ◌-ℤ◌}
 use lib.Signed.{◌<ℤ◌}
@@ -11,6 +10,7 @@ use Rattle.integers.proofs.Signed.{ok64, flip_fits, lt_z_true}
 use Rattle.amounts.proofs.Steps.{down_below, others_fit, last_fits}
 use Rattle.amounts.proofs.rounding.down.Goals as goal
 
+-- ---- below zero
 below : (c : goal.Then-z-lt0) → c.args.z <ℤ pos 0
 below c = lt_z_true c.args.z (pos 0) (simp (to_z-of_z, c.ranges.z) at c.if-z-lt0.true)
 
