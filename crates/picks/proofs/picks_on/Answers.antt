@@ -2,16 +2,18 @@
 use borrow.Author.Rules.{rules}
 use Rattle.grants.proofs.AskLaws.{asked_tabled}
 use Rattle.picks.proofs.PickLaws.{within_long, within_between, within_filled, within_picks}
-use Rattle.picks.proofs.picks_on.Statement.{statement}
-use Rattle.picks.proofs.picks_on.Tie as tie
+use Rattle.picks.proofs.picks_on.Goals as goal
 
 ruleset laws = (rules, asked_tabled, within_long, within_between, within_filled, within_picks)
 
-pub picks_on_spec : {M : Type 1} → statement M
-picks_on_spec =
-    tie.close
-    (tie.spec
-    (λ c. search laws)  -- slice-aggregate-slots-on
-    (λ c κs. search laws)  -- slots-on-requires
-    (λ c κs. search laws)  -- picks-from-requires
-    (λ c. search laws))  -- returns
+pub slice_bounds-slots_on-end : goal.slice_bounds-slots_on-end
+slice_bounds-slots_on-end c = search laws
+
+pub slots_on-slots-requires : goal.slots_on-slots-requires
+slots_on-slots-requires c = search laws
+
+pub picks_from-requires : goal.picks_from-requires
+picks_from-requires c = search laws
+
+pub returns : goal.returns
+returns c = search laws
