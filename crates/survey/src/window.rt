@@ -15,7 +15,7 @@ const MOST_NOTED: usize = 16;
 pub const MANY: usize = 17;
 
 // How many roundings there are, and where each stands: the first `count` of the spots. Where there are many, no spot counts.
-#[derive(Drop)]
+#[derive(Clone, Copy)]
 pub struct Noted {
     pub count: usize,
     pub spots: [usize; MOST_NOTED],
