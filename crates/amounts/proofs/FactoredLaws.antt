@@ -3,13 +3,12 @@ use Prim.Native.Nat.{ℕ, ◌*◌, ◌≤◌}
 use mathlib.Core.Path.{◌≡◌, refl, sym, ◌∙◌, ap}
 use native.Mathlib.Nat.{mul-le-mul}
 use native.Mathlib.Omega.{arith}
-use lib.IntN.{ℤ, pos, nat_abs, ◌*ℤ◌}
+use lib.IntN.{pos, nat_abs, ◌*ℤ◌}
 use mir.Syntax.{w64}
 use mir.Val.{SFits, to_z}
 use mir.ValLaws.{to_z_pos}
 use Rattle.integers.proofs.Signed.{fits64, abs_mul}
 use Rattle.rules.specs.Amounts.{factored, rounded}
-use Rattle.rules.specs.declared.Rounding.{Rounding}
 use Rattle.rules.specs.declared.Fraction.{Fraction}
 use Rattle.rules.proofs.FactorLaws.{once_rounded}
 use Rattle.amounts.specs.Ensures.{Factorable, FactoredAmount}

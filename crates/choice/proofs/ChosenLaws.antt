@@ -9,7 +9,7 @@ use lib.ListN.{take, drop, get_or}
 use borrow.Author.Tests.{eqb-true}
 use Rattle.rules.specs.Lists.{is_some, keep}
 use Rattle.rules.specs.Layout.{whole}
-use Rattle.rules.specs.Book.{Row, PriceRecord, rows}
+use Rattle.rules.specs.Book.{Row, PriceRecord}
 use Rattle.rules.specs.BookLayout.{kinded}
 use Rattle.rules.specs.Question.{Question}
 use Rattle.rules.specs.Choice.{choose}
@@ -20,8 +20,6 @@ use Rattle.layout.specs.Records.{RecordHere, StopIs}
 use Rattle.records.specs.Asks.{OfKind}
 use Rattle.records.specs.Ensures.{row_in, RowIs}
 use Rattle.records.proofs.FieldLaws.{kind_byte}
-use Rattle.grants.specs.Places as Grants
-use Rattle.grants.proofs.FillLaws as Fill
 use Rattle.choice.specs.declared.hands.Hand.{Hand}
 use Rattle.choice.specs.declared.hands.Seen.{Seen}
 use Rattle.choice.specs.Slots.{in_slot, placed_row, slot_chosen}

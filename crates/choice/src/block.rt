@@ -19,7 +19,7 @@ use rules::PriceRow;
 const TOO_MANY: usize = 2049;
 
 // What a record is on all days of a block; or it is listed, since it is not the same on each.
-#[derive(Drop)]
+#[derive(Clone, Copy)]
 pub struct Through {
     pub passing: Passing,
     pub listed: bool,

@@ -3,7 +3,7 @@ ghost use Rattle.layout.specs.Ensures.{Number, Says};
 ghost use Rattle.choice.specs.Hands.{is_empty, limit_of, better_hand, HandAfter, SeenAfter, TakenIs};
 
 // A row in hand: where its record stands in the book, what it is compared by, and the number of its rounding.
-#[derive(Drop)]
+#[derive(Clone, Copy)]
 pub struct Hand {
     pub at: usize,
     pub upto: u32,
@@ -28,7 +28,7 @@ impl Hand {
 }
 
 // `met` says whether a row in the asked currency was there; `asked` is the best of those, `other` the best in any.
-#[derive(Drop)]
+#[derive(Clone, Copy)]
 pub struct Seen {
     pub met: bool,
     pub asked: Hand,
@@ -47,7 +47,7 @@ impl Seen {
 pub const NO_SLOT: usize = 99;
 
 // A row that goes by: the slot it is of; whether it counts that day, is in the asked currency, and reaches the quantity.
-#[derive(Drop)]
+#[derive(Clone, Copy)]
 pub struct Passing {
     pub slot: usize,
     pub stands: bool,

@@ -3,7 +3,7 @@ ghost use Rattle.std.specs.Prelude.{◌≤◌, ◌<◌, length};
 ghost use Rattle.fields.specs.Field.{Closing, CutAt, PastSpaces, Bare, Opened, NoField, FieldIs, NextIs};
 
 // What stands from `from` to `to` is the field's text, unless it is longer than the text: then each quote in it stands twice.
-#[derive(Drop)]
+#[derive(Clone, Copy)]
 pub struct Field {
     pub from: usize,
     pub to: usize,
@@ -13,7 +13,7 @@ pub struct Field {
 }
 
 // The closing quote of a field, and how many bytes its text has.
-#[derive(Drop)]
+#[derive(Clone, Copy)]
 pub struct Closed {
     pub to: usize,
     pub count: usize,

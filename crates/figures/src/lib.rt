@@ -10,14 +10,14 @@ use layout::numbers::{is_capital, is_either, is_of_three};
 use rules::Currency;
 
 // A number, where there is one.
-#[derive(Drop)]
+#[derive(Clone, Copy)]
 pub struct Figure {
     pub value: u32,
     pub good: bool,
 }
 
 // Hundredths, and whether a minus stands before them.
-#[derive(Drop)]
+#[derive(Clone, Copy)]
 pub struct Amount {
     pub hundredths: u32,
     pub minus: bool,
@@ -25,14 +25,14 @@ pub struct Amount {
 }
 
 // One letter.
-#[derive(Drop)]
+#[derive(Clone, Copy)]
 pub struct Letter {
     pub byte: u8,
     pub good: bool,
 }
 
 // A currency's three.
-#[derive(Drop)]
+#[derive(Clone, Copy)]
 pub struct Capitals {
     pub currency: Currency,
     pub good: bool,

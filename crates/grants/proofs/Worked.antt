@@ -1,5 +1,4 @@
 -- A table worked by hand: three names are sent, the third is the first again once raised, with another factor.
-use Prim.Native.Nat.{ℕ}
 use mathlib.Core.Path.{◌≡◌, refl}
 use mathlib.Core.Bool.{true, false}
 use mathlib.Core.List.{List, [], ◌∷◌, ◌++◌, map}

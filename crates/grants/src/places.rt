@@ -3,7 +3,7 @@ ghost use Rattle.std.specs.Prelude.{◌+◌, ◌-◌, ◌^◌, ◌≤◌, ◌<�
 ghost use Rattle.grants.specs.PlaceSet.{Counts};
 
 // The lowest bit stands for place 1.
-#[derive(Drop)]
+#[derive(Clone, Copy)]
 pub struct Places(pub u32);
 
 impl Places {

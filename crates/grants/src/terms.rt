@@ -8,7 +8,7 @@ use question::Ask;
 use rules::Currency;
 
 // `names` is how many are granted.
-#[derive(Drop)]
+#[derive(Clone, Copy)]
 pub struct Terms {
     pub sort: u8,
     pub currency: Currency,

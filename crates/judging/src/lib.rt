@@ -9,7 +9,7 @@ use price_line::price_line;
 use rules::PlacedAnswer;
 
 // How many bytes of records a line brings, if it is good.
-#[derive(Drop)]
+#[derive(Clone, Copy)]
 pub struct Brought {
     pub size: usize,
     pub good: bool,

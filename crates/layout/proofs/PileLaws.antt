@@ -1,13 +1,13 @@
 -- Pieces of any length put one behind the other: after each of them those that are left, put behind, make up the whole.
 use Prim.Native.Nat.{ℕ, ◌+◌, ◌≤◌, ◌<◌}
 use mathlib.Core.Path.{◌≡◌, refl, sym, ◌∙◌, ap}
-use mathlib.Core.List.{List, [], ◌∷◌, ◌++◌}
+use mathlib.Core.List.{List, [], ◌++◌}
 use native.Mathlib.Omega.{arith}
 use native.Mathlib.Numerals.{add-one}
 use lib.ListN.{length, drop, get_or, length-append, drop_of_length-le}
 use lib.Seq.{sets, drop-cons}
 use Rattle.rules.specs.Lists.{join}
-use Rattle.layout.specs.Ensures.{Puts, PutsTo}
+use Rattle.layout.specs.Ensures.{PutsTo}
 use Rattle.layout.proofs.StoreLaws.{puts_of, sets_of, sets_sets}
 
 -- i pieces are there, and the next one belongs at `at`

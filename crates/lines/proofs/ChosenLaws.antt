@@ -5,20 +5,16 @@ use mathlib.Core.Bool.{Bool, true, false, not}
 use mathlib.Core.List.{List, [], ◌∷◌, ◌++◌, map}
 use mathlib.Core.Option
 use mathlib.Core.Option.{Option, some, none}
-use native.Mathlib.Omega.{arith}
 use lib.Dec.{eqb}
-use Rattle.rules.specs.Lists.{any, first, gather, cons_some, if_some}
-use Rattle.rules.specs.Book.{Row, base, surcharge, discount, plain, rounding_for}
-use Rattle.rules.specs.BookLayout.{in_bounds}
+use Rattle.rules.specs.Lists.{any, first, gather, cons_some}
+use Rattle.rules.specs.Book.{Row, base, surcharge, discount}
 use Rattle.rules.specs.Question.{Question, Grant, grants}
-use Rattle.rules.specs.Choice.{component, better, step₅, surviving, choose}
+use Rattle.rules.specs.Choice.{better, step₅, surviving, choose}
 use Rattle.rules.specs.Lines.{Slot, named_slot, slots_at, slots, Chosen, chosen_in, rows_at, chosen_at, chosen}
-use Rattle.rules.specs.Amounts.{SoundRounding}
 use Rattle.rules.specs.declared.Rounding.{Rounding}
-use Rattle.rules.proofs.ListLaws.{All, Holds, all_keep, first_holds, gather_append}
+use Rattle.rules.proofs.ListLaws.{All, Holds, first_holds, gather_append}
 use Rattle.rules.proofs.NoPriceLaws.{survivors, level_at}
 use Rattle.lines.specs.Views.{view_of, is_base, base_first}
-use Rattle.lines.specs.Ensures.{Sound}
 
 -- ---- gathered and joined
 

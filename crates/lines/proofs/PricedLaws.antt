@@ -1,6 +1,6 @@
 -- The price of a question by its picks: refusals 4, 5 and 6 as the functions find them, and what is then answered.
 use Prim.Native.Nat.{ℕ, ◌*◌, ◌≤◌, ◌<◌}
-use mathlib.Core.Path.{◌≡◌, refl, sym, ap, ◌∙◌, subst}
+use mathlib.Core.Path.{◌≡◌, refl, sym, ap, ◌∙◌}
 use mathlib.Core.Bool.{Bool, true, false}
 use mathlib.Core.List.{List, map}
 use mathlib.Core.Option
@@ -10,23 +10,20 @@ use lib.ListN.{length, get_or, length-map}
 use borrow.Author.Tests.{lt-ltb, le-ltb}
 use Rattle.rules.specs.Lists.{first}
 use Rattle.rules.specs.Book.{Record, rows, roundings}
-use Rattle.rules.specs.BookLayout.{in_bounds}
 use Rattle.rules.specs.Question.{Question, letters_of}
 use Rattle.rules.specs.Lines.{chosen, Line, amounts, total, of_base, lines_of, total_of, line_size, lines_bytes}
 use Rattle.rules.specs.Refusals.{Result, done, refused, ◌>>=◌, or_refuse, refuse_unless}
 use Rattle.rules.specs.Price.{Priced, priced, in_one_currency, in_range}
-use Rattle.rules.specs.Amounts.{SoundRounding}
 use Rattle.rules.specs.declared.Cents.{Cents}
 use Rattle.rules.specs.declared.Total.{Total}
 use Rattle.rules.specs.declared.Total.TheVariants.{InRange, OutOfRange}
-use Rattle.rules.proofs.ListLaws.{All}
 use Rattle.rules.proofs.LinesLaws.{lines_run}
 use Rattle.layout.specs.Ensures.{Says}
 use Rattle.amounts.proofs.TotalLaws.{total_is_sum}
 use Rattle.lines.specs.declared.Pick.{Pick}
 use Rattle.lines.specs.declared.Listed.{Listed}
-use Rattle.lines.specs.Views.{View, view_of, view_in, views_in, no_pick, is_base, base_first, one_currency, amounts_of, amounts_in, views_bytes}
-use Rattle.lines.specs.Ensures.{StandFor, FirstBase, Sound, Listable, ListedIs}
+use Rattle.lines.specs.Views.{View, view_of, view_in, views_in, no_pick, is_base, one_currency, amounts_of, amounts_in, views_bytes}
+use Rattle.lines.specs.Ensures.{StandFor, FirstBase, ListedIs}
 use Rattle.lines.proofs.WalkLaws.{views_count}
 use Rattle.lines.proofs.ViewLaws.{run_amounts, run_base, run_currency, run_places, run_bytes}
 use Rattle.lines.proofs.ByteLaws.{lines_length}

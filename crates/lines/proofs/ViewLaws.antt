@@ -32,23 +32,31 @@ module _ (rs : List Rounding) where
   run_amounts base total (c ∷ cs) =
       let l : Line = line_with rs base total c in
       ap (λ zs. l.amount ∷ zs)
-      (run_amounts _ _ cs ∙ ap (λ b. amounts_from b (total +ℤ l.amount) (views cs)) (grows (of_base l) base l.amount))
+      (run_amounts (base +ℤ amount_if (of_base l) l.amount) (total +ℤ l.amount) cs ∙ ap (λ b. amounts_from b (total +ℤ l.amount) (views cs)) (grows (of_base l) base l.amount))
 
   -- the currency of the first base line
   pub run_base : (base total : ℤ) (cs : List Chosen) → Option.map (λ l. l.row.currency) (first of_base (run rs base total cs)) ≡ Option.map (λ v. v.currency) (first is_base (views cs))
   run_base base total [] = refl
   run_base base total (c ∷ cs) =
-      map_pick (λ l. l.row.currency) (λ v. v.currency) (is_base (view_of rs c)) (line_with rs base total c) (view_of rs c) (first of_base (run rs _ _ cs)) (first is_base (views cs)) refl (run_base _ _ cs)
+      let l : Line = line_with rs base total c in
+      map_pick (λ l. l.row.currency) (λ v. v.currency) (is_base (view_of rs c)) l (view_of rs c) (first of_base (run rs (base +ℤ amount_if (of_base l) l.amount) (total +ℤ l.amount) cs)) (first is_base (views cs)) refl
+      (run_base (base +ℤ amount_if (of_base l) l.amount) (total +ℤ l.amount) cs)
 
   pub run_currency : (c : List ℕ) (base total : ℤ) (cs : List Chosen) → in_one_currency c (run rs base total cs) ≡ one_currency c (views cs)
   run_currency c base total [] = refl
-  run_currency c base total (x ∷ xs) = ap (λ b. fits c (view_of rs x) && b) (run_currency c _ _ xs)
+  run_currency c base total (x ∷ xs) =
+      let l : Line = line_with rs base total x in
+      ap (λ b. fits c (view_of rs x) && b) (run_currency c (base +ℤ amount_if (of_base l) l.amount) (total +ℤ l.amount) xs)
 
   pub run_places : (base total : ℤ) (cs : List Chosen) → map (λ l. l.place) (run rs base total cs) ≡ map (λ v. v.place) (views cs)
   run_places base total [] = refl
-  run_places base total (c ∷ cs) = ap (λ ps. c.place ∷ ps) (run_places _ _ cs)
+  run_places base total (c ∷ cs) =
+      let l : Line = line_with rs base total c in
+      ap (λ ps. c.place ∷ ps) (run_places (base +ℤ amount_if (of_base l) l.amount) (total +ℤ l.amount) cs)
 
   pub run_bytes : (base total : ℤ) (cs : List Chosen) → lines_bytes (run rs base total cs) ≡ views_bytes (views cs) (amounts (run rs base total cs))
   unfolding lines_bytes views_bytes
   run_bytes base total [] = refl
-  run_bytes base total (c ∷ cs) = ap (λ bs. line_bytes (line_with rs base total c) ++ bs) (run_bytes _ _ cs)
+  run_bytes base total (c ∷ cs) =
+      let l : Line = line_with rs base total c in
+      ap (λ bs. line_bytes l ++ bs) (run_bytes (base +ℤ amount_if (of_base l) l.amount) (total +ℤ l.amount) cs)

@@ -5,7 +5,7 @@ use Rattle.rules.specs.Book.{Record}
 use Rattle.rules.specs.Question.{Question, no_currency, letters_of}
 use Rattle.rules.specs.Lines.{lines_of, lines_bytes, total, most_total, total_of}
 use Rattle.rules.specs.Refusals.{done, refused}
-use Rattle.rules.specs.Price.{Priced, priced}
+use Rattle.rules.specs.Price.{priced}
 use Rattle.rules.specs.Calendar.{Outcome, OutcomeIs}
 use Rattle.rules.specs.declared.Total.{Total}
 use Rattle.rules.specs.declared.Total.TheVariants.{InRange, OutOfRange}

@@ -17,7 +17,7 @@ use rules::{Cents, Currency, LINE_SIZE, Level, Rounding, Rule, Total, Value};
 
 // A chosen row, the rounding that its record names, and its factor: all that its line needs. Place 0: no granted name brought it. The fields stand so that few
 // bytes between them are left out.
-#[derive(Drop)]
+#[derive(Clone, Copy)]
 pub struct Pick {
     pub rounding: Rounding,
     pub value: Value,

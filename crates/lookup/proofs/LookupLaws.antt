@@ -12,7 +12,6 @@ use lib.Seq.{length-take-le, get_or-set_same, get_or-set_other, get_or-take, dro
 use borrow.Author.Tests.{eq-eqb, ne_eqb, not-true}
 use Rattle.rules.specs.Lists.{is_some, cons_some, if_some}
 use Rattle.rules.specs.Layout.{whole}
-use Rattle.rules.specs.Bytes.{number}
 use Rattle.rules.specs.Book.{Record, RoundingRecord, as_rounding, roundings, rounding_for, plain}
 use Rattle.rules.specs.BookLayout.{kinded, one_record}
 use Rattle.rules.specs.Amounts.{SoundRounding}

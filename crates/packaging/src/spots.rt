@@ -13,7 +13,7 @@ use grants::{NOWHERE, place_of};
 use records::{is_article, packaging_of, starts_with};
 
 // Where a packaging record's kind byte and body stand in the book.
-#[derive(Drop)]
+#[derive(Clone, Copy)]
 pub struct Spot {
     pub at: usize,
     pub end: usize,

@@ -8,10 +8,10 @@ ghost use Rattle.packed.specs.Sums.{letters, AddableValues, ValuesAfter, UnitAft
 use records::Packing;
 
 // Three letters; three zeros: none is given.
-#[derive(Drop)]
+#[derive(Clone, Copy)]
 pub struct UnitCode(pub u8, pub u8, pub u8);
 
-#[derive(Drop)]
+#[derive(Clone, Copy)]
 pub struct Units {
     pub length: UnitCode,
     pub volume: UnitCode,

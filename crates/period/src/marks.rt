@@ -12,7 +12,7 @@ use days::Day;
 use records::{is_row, row_of};
 
 // The day on which a row begins to hold, and the first on which it no longer does. 0, which is no day, for none.
-#[derive(Drop)]
+#[derive(Clone, Copy)]
 pub struct Change {
     pub begins: u32,
     pub over: u32,

@@ -3,7 +3,7 @@ ghost use Rattle.std.specs.Prelude.{◌<◌};
 ghost use Rattle.period.specs.Positions.{Dates, Narrowing, Narrowed, PositionIn};
 
 // The day stands from `low` on and before `high`, if it is there.
-#[derive(Drop)]
+#[derive(Clone, Copy)]
 pub struct Bounds {
     pub low: usize,
     pub high: usize,

@@ -15,7 +15,7 @@ use figures::Amount;
 use rules::Currency;
 
 // Sort, level and rule.
-#[derive(Drop)]
+#[derive(Clone, Copy)]
 pub struct Kinds {
     pub sort: u8,
     pub level: u8,
@@ -24,7 +24,7 @@ pub struct Kinds {
 }
 
 // The value, and its flag as a letter.
-#[derive(Drop)]
+#[derive(Clone, Copy)]
 pub struct Priced {
     pub amount: Amount,
     pub flag: u8,
@@ -32,7 +32,7 @@ pub struct Priced {
 }
 
 // When it holds, and up to which quantity.
-#[derive(Drop)]
+#[derive(Clone, Copy)]
 pub struct Span {
     pub from: u32,
     pub to: u32,
@@ -41,7 +41,7 @@ pub struct Span {
 }
 
 // `start` is where the field of the text's name starts.
-#[derive(Drop)]
+#[derive(Clone, Copy)]
 pub struct PriceLine {
     pub article: Field,
     pub condition: Field,

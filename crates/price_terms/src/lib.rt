@@ -15,7 +15,7 @@ use layout::numbers::{four_at, two_at};
 use layout::strings::put_bytes;
 
 // The value by the unsigned number of its four bytes.
-#[derive(Drop)]
+#[derive(Clone, Copy)]
 pub struct Terms {
     pub text: u32,
     pub value: u32,

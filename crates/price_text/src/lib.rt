@@ -14,7 +14,7 @@ use price_terms::{Terms, fits_line, put_kinds, put_tail, terms_of, terms_size};
 use quotes::{name_size, put_name};
 
 // How many bytes it takes, with the line's end, and whether a line can hold it.
-#[derive(Drop)]
+#[derive(Clone, Copy)]
 pub struct Line {
     pub size: usize,
     pub fits: bool,

@@ -16,7 +16,7 @@ use layout::numbers::{is_of_three, wide};
 use rules::{Part, State};
 
 // A property read by value. Its value stays in the question, and where that ends the property ends.
-#[derive(Drop)]
+#[derive(Clone, Copy)]
 pub struct PropertyParts {
     pub width: usize,
     pub state: State,

@@ -10,11 +10,10 @@ use lib.Dec.{eqb, leb}
 use lib.ListN.{length, take, drop, get_or}
 use borrow.Author.Tests.{lt-ltb, le-ltb, lt-leb, ne_eqb, eq-eqb, eqb-true, eqb-false}
 use Rattle.rules.specs.Lists.{any, between}
-use Rattle.rules.specs.Layout.{◌such◌}
 use Rattle.rules.specs.Bytes.{number, big}
 use Rattle.rules.specs.Days.{is_day}
 use Rattle.rules.specs.Book.{sale, purchase}
-use Rattle.rules.specs.Question.{plain_factor, most_factor, factor_in, granted_in}
+use Rattle.rules.specs.Question.{most_factor, factor_in, granted_in}
 use Rattle.rules.proofs.TestLaws.{between_low, between_high, is_between}
 use Rattle.rules.proofs.GivesLaws.{gives_factor, gives_granted}
 use Rattle.layout.specs.Reads.{Reads, name_stop}

@@ -10,11 +10,11 @@ use lib.Dec.{eqb, ltb}
 use lib.ListN.{length, drop, get_or}
 use borrow.Author.Tests.{lt-ltb, le-ltb, ne_eqb}
 use Rattle.rules.specs.Lists.{between, is_some}
-use Rattle.rules.specs.Layout.{◌such◌, bytes, wholly}
+use Rattle.rules.specs.Layout.{bytes, wholly}
 use Rattle.rules.specs.Bytes.{number, head_of}
 use Rattle.rules.specs.Days.{is_day}
 use Rattle.rules.specs.Book.{sale, purchase}
-use Rattle.rules.specs.Question.{property, granted_in, versions, question_body, question_layout, question_of}
+use Rattle.rules.specs.Question.{property, granted_in, versions, question_layout, question_of}
 use Rattle.layout.specs.Reads.{Reads}
 use Rattle.layout.specs.Ensures.{Says, question_head_ok, NameEnd}
 use Rattle.layout.proofs.FromLaws.{no_question_head, question_head_reads}

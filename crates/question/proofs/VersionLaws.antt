@@ -3,7 +3,7 @@ use Prim.Native.Nat.{ℕ, zero, suc, ◌+◌, ◌*◌, ◌-◌, ◌≤◌, ◌<�
 use mathlib.Core.Path.{◌≡◌, refl, sym, ◌∙◌, ap, subst}
 use mathlib.Core.Bool.{Bool, true, false, ◌||◌}
 use mathlib.Core.List.{List, [], ◌∷◌, ◌++◌, append_assoc}
-use mathlib.Core.Option.{Option, some, none, none-ne-some, some-injective}
+use mathlib.Core.Option.{some, none-ne-some, some-injective}
 use native.Mathlib.Nat.{suc-mul, mul-le-mul_right}
 use native.Mathlib.Omega.{arith}
 use lib.Dec.{eqb}
@@ -12,7 +12,7 @@ use lib.Seq.{take_at, drop_at, drop-drop, take-append_seam, drop-append_seam}
 use borrow.Author.Tests.{eq-eqb}
 use Rattle.rules.specs.Lists.{same, between, all}
 use Rattle.rules.specs.Layout.{Layout, and_then, ◌>>=◌, give, give_if, ◌such◌, bytes, byte, times, whole, wholly}
-use Rattle.rules.specs.Bytes.{number, big, name, name_byte, one_of, head_of, capitals, bytes_of}
+use Rattle.rules.specs.Bytes.{number, name, name_byte, one_of, head_of, capitals, bytes_of}
 use Rattle.rules.specs.Days.{is_day}
 use Rattle.rules.specs.Book.{sale, purchase}
 use Rattle.rules.specs.Question.{Question, Granted, plain_factor, no_currency, asked_of, value_byte, value_for, property, factor_in, granted_in, versions, question_body, question_layout, question_of, count_at, with_factors, in_version₂}

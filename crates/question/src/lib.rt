@@ -20,7 +20,7 @@ use properties::properties_end;
 // A question, read by value. The names in it stay there: `granted` is the position of the first granted name's length byte,
 // `conditions` how many there are, and the version says whether each has a factor behind it; `properties` is that of the first property, `count` how many there are.
 // A currency of three zeros: none is asked.
-#[derive(Drop)]
+#[derive(Clone, Copy)]
 pub struct Ask {
     pub article: rules::Part,
     pub version: u8,

@@ -72,7 +72,7 @@ pub fn questions_of(s: &[u8], most: usize) -> Questions
 // ---- what they ask for
 
 // Where the asked article is named, and the sort of its rows.
-#[derive(Drop)]
+#[derive(Clone, Copy)]
 struct Name {
     start: usize,
     end: usize,

@@ -14,7 +14,7 @@ use price_record::put_row;
 use text_names::{HASHES, MOST, enter, find, hash_of};
 
 // How many names the table has behind a line, where the next record starts, and whether a name found no room in the table.
-#[derive(Drop)]
+#[derive(Clone, Copy)]
 pub struct Step {
     pub k: usize,
     pub to: usize,

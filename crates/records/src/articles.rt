@@ -9,7 +9,7 @@ ghost use Rattle.records.specs.Ensures.{ArticleIs};
 use crate::fields::{name_stop, starts_with};
 use rules::Part;
 
-#[derive(Drop)]
+#[derive(Clone, Copy)]
 pub struct ArticleParts {
     pub number: Part,
     pub scheme: Part,

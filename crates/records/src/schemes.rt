@@ -6,7 +6,7 @@ use crate::fields::name_stop;
 use rules::Part;
 
 // A character 0 is not given.
-#[derive(Drop)]
+#[derive(Clone, Copy)]
 pub struct SchemeParts {
     pub id: Part,
     pub numbersep: Part,

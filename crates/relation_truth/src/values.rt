@@ -10,7 +10,7 @@ use relation_words::tokens::Found;
 
 // `kind`: 0 no value; 3 a string, which stands from `from` to `to` in the list of properties if it is listed, else in the text; 4 a number,
 // by its sign and size.
-#[derive(Drop)]
+#[derive(Clone, Copy)]
 pub struct Value {
     pub kind: u8,
     pub listed: bool,

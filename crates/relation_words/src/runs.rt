@@ -67,7 +67,7 @@ pub fn quote_end(text: &[u8], at: usize) -> usize
 }
 
 // A token read as far as a word of the list goes on so. `ended`: to its end.
-#[derive(Drop)]
+#[derive(Clone, Copy)]
 pub struct Run {
     pub to: usize,
     pub ended: bool,
@@ -102,7 +102,7 @@ pub fn words_run(text: &[u8], at: usize, words: &[u8]) -> Run
 }
 
 // Digits as a number. `more`: a nineteenth stands at `to`.
-#[derive(Drop)]
+#[derive(Clone, Copy)]
 pub struct Digits {
     pub to: usize,
     pub size: usize,

@@ -13,7 +13,7 @@ use crate::runs::{digits_end, quote_end, token_end, word_end, words_run};
 
 // `kind`: 0 nothing that may come, and `to` is the position of the first byte that may not; 1 the word of the list with the number `which`;
 // 2 a name; 3 a string with its quotes; 4 a number with its sign and size. It stands from `from` to `to`.
-#[derive(Drop)]
+#[derive(Clone, Copy)]
 pub struct Found {
     pub kind: u8,
     pub which: usize,

@@ -42,7 +42,7 @@ fn if_here(text: &[u8], at: usize) -> Found
 }
 
 // The variable, whose place is counted from 1, and its string, read up to `to`; or refused with `number`.
-#[derive(Drop)]
+#[derive(Clone, Copy)]
 pub struct Head {
     pub number: u8,
     pub to: usize,
@@ -116,7 +116,7 @@ fn if_at(text: &[u8], at: usize) -> Join
 
 // An assignment read up to `to`, and behind it `next`, up to `after`; or refused with `number`, and the byte that may not come stands at `to`.
 // Its name is granted, or not.
-#[derive(Drop)]
+#[derive(Clone, Copy)]
 pub struct Assigned {
     pub number: u8,
     pub to: usize,

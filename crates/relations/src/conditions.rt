@@ -14,7 +14,7 @@ use relation_words::bytes::blanks;
 use relation_words::tokens::{Found, token_here};
 
 // What comes behind a single condition: 0 nothing that may, 1 AND, 2 OR, 3 what closes the chain, 4 the end. It ends at `after`.
-#[derive(Drop)]
+#[derive(Clone, Copy)]
 pub struct Join {
     pub next: usize,
     pub after: usize,
@@ -55,7 +55,7 @@ pub fn joiner(text: &[u8], at: usize, depth: u8) -> Join
 }
 
 // A chain read up to `to`, its truth, and behind it `next`, up to `after`; or refused with `number`, and the byte that may not come stands at `to`.
-#[derive(Drop)]
+#[derive(Clone, Copy)]
 pub struct Chain {
     pub number: u8,
     pub to: usize,

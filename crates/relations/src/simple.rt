@@ -15,7 +15,7 @@ use relation_truth::values::{Value, value_of};
 use relation_words::tokens::Found;
 
 // Read up to `to`, and `number` is 0; or refused with that number, and the byte that may not come stands at `to`. `truth` is that of what was read.
-#[derive(Drop)]
+#[derive(Clone, Copy)]
 pub struct Read {
     pub number: u8,
     pub to: usize,

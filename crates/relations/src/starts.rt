@@ -8,7 +8,7 @@ use relation_words::bytes::blanks;
 use relation_words::tokens::Found;
 
 // Behind the last NOT, at `at`, and behind blanks, at `from`, stands: `sort` 0 nothing, 1 a parenthesis, 2 the token `first`. `turned`: the NOTs are odd in number.
-#[derive(Drop)]
+#[derive(Clone, Copy)]
 pub struct Start {
     pub sort: u8,
     pub at: usize,

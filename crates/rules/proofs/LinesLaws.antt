@@ -78,9 +78,9 @@ unfolding lines_of base_sum total
 lines_run book q = runs (roundings book) [] (chosen (rows book) q)
 
 -- the rows of the lines are the chosen rows: refusals 4 and 5 need no amount
-pub run_rows : (rs : List Rounding) (base running : ℤ) (cs : List Chosen) → map (λ l. l.row) (run rs base running cs) ≡ map (λ c. c.row) cs
-run_rows rs base running [] = refl
-run_rows rs base running (c ∷ cs) = ap (λ xs. c.row ∷ xs) (run_rows rs _ _ cs)
+pub run_rows : (rs : List Rounding) (cs : List Chosen) (base running : ℤ) → map (λ l. l.row) (run rs base running cs) ≡ map (λ c. c.row) cs
+run_rows rs [] base running = refl
+run_rows rs (c ∷ cs) base running = ap (λ xs. c.row ∷ xs) (run_rows rs cs _ _)
 
 pub line_rows : (book : List Record) (q : Question) → map (λ l. l.row) (lines_of book q) ≡ map (λ c. c.row) (chosen (rows book) q)
-line_rows book q = ap (λ ls. map (λ l. l.row) ls) (lines_run book q) ∙ run_rows (roundings book) (pos 0) (pos 0) (chosen (rows book) q)
+line_rows book q = ap (λ ls. map (λ l. l.row) ls) (lines_run book q) ∙ run_rows (roundings book) (chosen (rows book) q) (pos 0) (pos 0)

@@ -218,13 +218,13 @@ module _ (book : List Record) (q : Question) where
 
   -- ---- the lines
 
-  run_for : (rs : List Rounding) (base running : ℤ) (cs : List Chosen) → All (λ c. RowFor book q c.place c.factor c.row) cs → All (λ l. RowFor book q l.place l.factor l.row) (run rs base running cs)
-  run_for rs base running [] hs = tt
-  run_for rs base running (c ∷ cs) hs = (hs.0, run_for rs _ _ cs hs.1)
+  run_for : (rs : List Rounding) (cs : List Chosen) (base running : ℤ) → All (λ c. RowFor book q c.place c.factor c.row) cs → All (λ l. RowFor book q l.place l.factor l.row) (run rs base running cs)
+  run_for rs [] base running hs = tt
+  run_for rs (c ∷ cs) base running hs = (hs.0, run_for rs cs _ _ hs.1)
 
   -- each line is of such a row
   pub lines_for : All (λ l. RowFor book q l.place l.factor l.row) (lines_of book q)
   unfolding chosen
   lines_for =
       subst (All (λ l. RowFor book q l.place l.factor l.row)) (sym (lines_run book q))
-      (run_for (roundings book) (pos 0) (pos 0) (chosen (rows book) q) (all_gather (λ c. RowFor book q c.place c.factor c.row) (chosen_at (rows book) q) chosen_for (slots (grants q.granted)) (slots_all q)))
+      (run_for (roundings book) (chosen (rows book) q) (pos 0) (pos 0) (all_gather (λ c. RowFor book q c.place c.factor c.row) (chosen_at (rows book) q) chosen_for (slots (grants q.granted)) (slots_all q)))

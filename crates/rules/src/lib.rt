@@ -6,24 +6,24 @@
 
 // Hundredths of a currency's unit.
 #[repr(C)]
-#[derive(Drop)]
+#[derive(Clone, Copy)]
 pub struct Cents(pub i64);
 
 // Hundredths of a percent.
-#[derive(Drop)]
+#[derive(Clone, Copy)]
 pub struct Hundredths(pub i64);
 
 // ---- what a book's records hold
 
 // A price row's value: an amount, or a share of one.
-#[derive(Drop)]
+#[derive(Clone, Copy)]
 pub enum Value {
     Fixed(Cents),
     Percent(Hundredths),
 }
 
 // The levels of a price, in the order of its lines.
-#[derive(Drop)]
+#[derive(Clone, Copy)]
 pub enum Level {
     Base,
     Surcharge,
@@ -31,7 +31,7 @@ pub enum Level {
 }
 
 // What a percentage is of: the sum of the base lines, or the running total before it.
-#[derive(Drop)]
+#[derive(Clone, Copy)]
 pub enum Rule {
     OfBase,
     OfTotal,
@@ -39,18 +39,18 @@ pub enum Rule {
 
 // Three capitals; or three zeros, where there is none.
 #[repr(C)]
-#[derive(Drop)]
+#[derive(Clone, Copy)]
 pub struct Currency(pub u8, pub u8, pub u8);
 
 // Some bytes of a record: where they start in it, and how many they are.
-#[derive(Drop)]
+#[derive(Clone, Copy)]
 pub struct Part {
     pub at: usize,
     pub size: usize,
 }
 
 // A price record, read by value. Its two names stay in the book. Its dates are numbers, since a row may have one that is no day.
-#[derive(Drop)]
+#[derive(Clone, Copy)]
 pub struct PriceRow {
     pub article: Part,
     pub condition: Part,
@@ -67,7 +67,7 @@ pub struct PriceRow {
 }
 
 // To which multiple of the step an amount goes.
-#[derive(Drop)]
+#[derive(Clone, Copy)]
 pub enum Way {
     Down,
     Up,
@@ -75,7 +75,7 @@ pub enum Way {
 }
 
 // A rounding record.
-#[derive(Drop)]
+#[derive(Clone, Copy)]
 pub struct Rounding {
     pub number: u16,
     pub way: Way,
@@ -87,7 +87,7 @@ pub struct Rounding {
 // ---- what a question's properties are
 
 // A property has a value, or it is hidden, or nobody has chosen its value yet.
-#[derive(Drop)]
+#[derive(Clone, Copy)]
 pub enum State {
     Valued,
     Hidden,
@@ -97,7 +97,7 @@ pub enum State {
 // ---- on the way to a price
 
 // An exact amount: top / bottom cents.
-#[derive(Drop)]
+#[derive(Clone, Copy)]
 pub struct Fraction {
     pub top: i64,
     pub bottom: u64,
@@ -109,7 +109,7 @@ pub const LEAST_TOTAL: i64 = -1_000_000_000;
 pub const MOST_TOTAL: i64 = 1_000_000_000;
 
 // What lines come to, if the total was in range after each of them; or that it was not.
-#[derive(Drop)]
+#[derive(Clone, Copy)]
 pub enum Total {
     InRange(Cents),
     OutOfRange,
@@ -117,7 +117,7 @@ pub enum Total {
 
 // What a day comes to: 0, the currency and what one piece costs; or the number of the refusal, with zeros.
 #[repr(C)]
-#[derive(Drop)]
+#[derive(Clone, Copy)]
 pub struct Outcome {
     pub unit: Cents,
     pub refusal: u8,
@@ -153,7 +153,7 @@ pub struct PriceAnswer {
 
 // A calendar: how much of it was written, in bytes or in records of a lent list, and the number of the refusal or 0.
 #[repr(C)]
-#[derive(Drop)]
+#[derive(Clone, Copy)]
 pub struct CalendarAnswer {
     pub length: u64,
     pub number: u8,
@@ -161,7 +161,7 @@ pub struct CalendarAnswer {
 
 // How many bytes a call wrote.
 #[repr(C)]
-#[derive(Drop)]
+#[derive(Clone, Copy)]
 pub struct Written {
     pub length: u64,
     pub number: u8,
@@ -169,7 +169,7 @@ pub struct Written {
 
 // How many bytes a call wrote, and the place beside a refusal that has one: of a line or of a byte, from 1.
 #[repr(C)]
-#[derive(Drop)]
+#[derive(Clone, Copy)]
 pub struct PlacedAnswer {
     pub length: u64,
     pub place: u64,
@@ -189,7 +189,7 @@ pub struct PackagingAnswer {
 
 // Which book has the text (1 the asked one, 2 the fallback, 0 none), and where in it.
 #[repr(C)]
-#[derive(Drop)]
+#[derive(Clone, Copy)]
 pub struct TextAnswer {
     pub place: u64,
     pub length: u64,

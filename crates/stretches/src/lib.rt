@@ -10,7 +10,7 @@ use rules::{Cents, Currency, Outcome};
 
 // Days in a row with one outcome. Its bytes are those of the record that a caller lends a list of.
 #[repr(C)]
-#[derive(Drop)]
+#[derive(Clone, Copy)]
 pub struct Stretch {
     pub first: Day,
     pub last: Day,

@@ -8,7 +8,7 @@ use days::Day;
 use rules::Outcome;
 
 // The stretch in hand after a day; `fresh` is 1 if it begins on that day, else 0.
-#[derive(Drop)]
+#[derive(Clone, Copy)]
 pub struct Turning {
     pub stretch: Stretch,
     pub fresh: usize,

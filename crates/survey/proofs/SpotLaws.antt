@@ -1,5 +1,5 @@
 -- The spots of the roundings that have gone by: while they are few, they are all noted, in their order.
-use Prim.Native.Nat.{ℕ, suc, ◌+◌, ◌-◌, ◌≤◌, ◌<◌}
+use Prim.Native.Nat.{ℕ, suc, ◌+◌, ◌≤◌, ◌<◌}
 use mathlib.Core.Path.{◌≡◌, refl, sym, ◌∙◌, ap, subst}
 use mathlib.Core.Bool.{Bool, true, false, cond, false≢true}
 use mathlib.Core.List.{List, [], ◌∷◌, ◌++◌, map, append-nil, append_assoc}
@@ -17,10 +17,9 @@ use Rattle.rules.proofs.ListLaws.{All}
 use Rattle.layout.specs.Reads.{part}
 use Rattle.layout.specs.Ensures.{Says}
 use Rattle.layout.specs.Records.{records_left, Between, StopIs}
-use Rattle.records.specs.Asks.{OfKind}
 use Rattle.records.specs.Tests.{is_rounding}
 use Rattle.records.proofs.RoundingLaws.{rounding_told}
-use Rattle.lookup.specs.Roundings.{rounding_held, rounding_there, RoundingSpot, SpotsNoted}
+use Rattle.lookup.specs.Roundings.{rounding_held, rounding_there, RoundingSpot}
 use Rattle.lookup.proofs.LookupLaws.{there_rounding}
 use Rattle.survey.specs.Window.{SpotNoted, NotedIn}
 

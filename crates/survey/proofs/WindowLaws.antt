@@ -49,12 +49,12 @@ pub data Run (w : List ℕ) (b : ℕ) : ℕ → List Record → Type 0 where
   Step : (a e : ℕ) (r : Record) (rs : List Record) → StopIs w a e → whole kinded (part w (a + 2) e) ≡ some r → Run w b e rs → Run w b a (r ∷ rs)
 
 module _ {w : List ℕ} where
-  run_append : {a b c : ℕ} {rs ss : List Record} → Run w b a rs → Run w c b ss → Run w c a (rs ++ ss)
+  run_append : {b a c : ℕ} {rs ss : List Record} → Run w b a rs → Run w c b ss → Run w c a (rs ++ ss)
   run_append {c = c} {ss = ss} (Stay a e) y = subst (λ (k : ℕ). Run w c k ss) (sym e) y
   run_append {ss = ss} (Step a e r rs s i x) y = Step a e r (rs ++ ss) s i (run_append x y)
 
-  run_le : {a b : ℕ} {rs : List Record} → Run w b a rs → a ≤ b
-  run_le (Stay a e) = omega arith
+  run_le : {b a : ℕ} {rs : List Record} → Run w b a rs → a ≤ b
+  run_le {b} (Stay a e) = omega arith
   run_le (Step a e r rs s i x) = omega (arith, s.low, run_le x)
 
   run_empty : {a b : ℕ} {rs : List Record} → Run w b a rs → a ≡ b → rs ≡ []

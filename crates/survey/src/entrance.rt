@@ -7,7 +7,7 @@ use question::{Ask, ask_of, question_ok};
 use rules::{Currency, Part};
 
 // The number of the refusal, with nothing read and nothing found; or 0.
-#[derive(Drop)]
+#[derive(Clone, Copy)]
 pub struct Entered {
     pub number: u8,
     pub ask: Ask,

@@ -21,7 +21,7 @@ use layout::heads::book_head_ok;
 use records::{is_article, is_rounding};
 
 // What a pass keeps of an article in every turn: whether its record has gone by, and the spans of its rows of the sort and of the roundings.
-#[derive(Drop)]
+#[derive(Clone, Copy)]
 pub struct Sighted {
     pub article: bool,
     pub spans: Spans,
@@ -41,7 +41,7 @@ impl Sighted {
 }
 
 // Whether the article has a record, and where its rows of the sort and the roundings stand.
-#[derive(Drop)]
+#[derive(Clone, Copy)]
 pub struct Found {
     pub article: bool,
     pub window: Window,
@@ -83,7 +83,7 @@ pub fn found_of(sighted: Sighted, noted: Noted) -> Found
 }
 
 // Whether it is a book, and what is found in one.
-#[derive(Drop)]
+#[derive(Clone, Copy)]
 pub struct Surveyed {
     pub ok: bool,
     pub found: Found,

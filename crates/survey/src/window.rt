@@ -15,14 +15,14 @@ const MOST_NOTED: usize = 16;
 pub const MANY: usize = 17;
 
 // How many roundings there are, and where each stands: the first `count` of the spots. Where there are many, no spot counts.
-#[derive(Drop)]
+#[derive(Clone, Copy)]
 pub struct Noted {
     pub count: usize,
     pub spots: [usize; MOST_NOTED],
 }
 
 // All rows of the article and sort stand from `first` to `last`, all roundings from `from` to `to`.
-#[derive(Drop)]
+#[derive(Clone, Copy)]
 pub struct Spans {
     pub first: usize,
     pub last: usize,
@@ -31,7 +31,7 @@ pub struct Spans {
 }
 
 // The same, and the roundings noted.
-#[derive(Drop)]
+#[derive(Clone, Copy)]
 pub struct Window {
     pub first: usize,
     pub last: usize,
@@ -41,7 +41,7 @@ pub struct Window {
 }
 
 // From the first record that counts to the end of the last; while there is none, both are the same.
-#[derive(Drop)]
+#[derive(Clone, Copy)]
 pub struct Span {
     pub first: usize,
     pub last: usize,

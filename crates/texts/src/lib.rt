@@ -13,7 +13,7 @@ use layout::numbers::{four_at, two_at};
 use rules::TextAnswer;
 
 // What a look for a number through some bytes says.
-#[derive(Drop)]
+#[derive(Clone, Copy)]
 pub enum Looked {
     // they are no text book
     Broken,

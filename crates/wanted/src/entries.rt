@@ -11,7 +11,7 @@ use survey::Sighted;
 use survey::window::{Span, Spans, widened};
 
 // Whether its record has gone by, and from where to where rows of it stand: those for sale, and those for purchase.
-#[derive(Drop)]
+#[derive(Clone, Copy)]
 pub struct Entry {
     pub found: bool,
     pub sale: Span,

@@ -12,7 +12,7 @@ use layout::names::same_bytes;
 use layout::numbers::wide;
 
 // Its number stands in the book from `from` to `to`. The rank is n if the article is not on the list.
-#[derive(Drop)]
+#[derive(Clone, Copy)]
 pub struct Last {
     pub from: usize,
     pub to: usize,

@@ -14,7 +14,7 @@ use rules::PlacedAnswer;
 use survey::is_book;
 
 // The place of the first price record that no line can hold, from 1, or 0 where lines can hold all; and then how many bytes they take.
-#[derive(Drop)]
+#[derive(Clone, Copy)]
 pub struct Judged {
     pub place: usize,
     pub size: usize,

@@ -1,0 +1,11 @@
+-- `choice::slots_for` meets its contract: the slots, once they have seen the records that are left, hold what all of them leave, by the laws `walk-..`.
+use Prim.Native.Nat.{◌-◌}
+use lib.ListN.{length}
+use Rattle.choice.proofs.WalkLaws.{Walking}
+use Rattle.choice.proofs.slots_for.Given as goal
+
+abbrev pub invariant-loop-at : goal.invariant-loop-at
+invariant-loop-at l = Walking l.w l.from l.article l.table l.terms l.slots l.at
+
+abbrev pub decreases-loop-at : goal.decreases-loop-at
+decreases-loop-at l = length l.w - l.at

@@ -1,0 +1,14 @@
+-- `layout::names::all_name_bytes` meets its contract: the flag and what is left are the whole answer, by the laws `flag-..`.
+use Prim.Native.Nat.{◌-◌}
+use mathlib.Core.Path.{◌≡◌}
+use mathlib.Core.Bool.{◌&&◌}
+use lib.ListN.{length, drop}
+use Rattle.rules.specs.Lists.{all}
+use Rattle.rules.specs.Bytes.{name_byte}
+use Rattle.layout.proofs.names.all_name_bytes.Given as goal
+
+abbrev pub invariant-loop-i : goal.invariant-loop-i
+invariant-loop-i l = (l.ok && all name_byte (drop l.i l.s)) ≡ all name_byte l.s
+
+abbrev pub decreases-loop-i : goal.decreases-loop-i
+decreases-loop-i l = length l.s - l.i

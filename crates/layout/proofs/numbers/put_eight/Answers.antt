@@ -1,0 +1,15 @@
+-- `layout::numbers::put_eight` meets its contract: two halves, by `puts_eight`.
+use borrow.Author.Rules.{rules}
+use Rattle.layout.proofs.StoreLaws.{puts_eight}
+use Rattle.layout.proofs.numbers.put_eight.Goals as goal
+
+ruleset laws = (rules, puts_eight)
+
+pub put_four-requires : goal.put_four-requires
+put_four-requires c = search laws
+
+pub put_four-requires-2 : goal.put_four-requires-2
+put_four-requires-2 c = search laws
+
+pub returns : goal.returns
+returns c = search laws

@@ -1,0 +1,14 @@
+-- `lines::put_pair` meets its contract: two stores, by `pair_puts`.
+use native.Mathlib.Omega.{arith}
+use lib.ListN.{length-set}
+use borrow.Author.Rules.{rules}
+use Rattle.lines.proofs.ByteLaws.{pair_puts}
+use Rattle.lines.proofs.put_pair.Goals as goal
+
+ruleset laws = (rules, pair_puts)
+
+pub bounds-out-at-2 : goal.bounds-out-at-2
+bounds-out-at-2 c = simp length-set (omega arith)
+
+pub returns : goal.returns
+returns c = search laws

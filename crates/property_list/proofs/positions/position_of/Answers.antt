@@ -1,0 +1,28 @@
+-- `property_list::positions::position_of` meets its contract: the first of the name is the first from here on, by the laws `look-..`.
+use Prim.Native.Nat.{◌-◌}
+use lib.ListN.{length}
+use borrow.Author.Rules.{rules}
+use Rattle.property_list.specs.Slots.{LooksFrom}
+use Rattle.property_list.proofs.PositionLaws.{stop_less, look_here, look_found, look_again, look_end}
+use Rattle.property_list.proofs.SlotLaws.{look_slot}
+use Rattle.property_list.proofs.positions.position_of.Goals as goal
+
+ruleset laws = (rules, stop_less, look_slot, look_here, look_found, look_again, look_end)
+
+pub loop-at-init : goal.loop-at-init
+loop-at-init c = search laws
+
+pub kind_position-kind-requires : goal.kind_position-kind-requires
+kind_position-kind-requires c = search laws
+
+pub returns-then-same_raised : goal.returns-then-same_raised
+returns-then-same_raised c = search laws
+
+pub loop-at-smaller : goal.loop-at-smaller
+loop-at-smaller c = search laws
+
+pub loop-at-preserved : goal.loop-at-preserved
+loop-at-preserved c = search laws
+
+pub returns : goal.returns
+returns c = search laws
