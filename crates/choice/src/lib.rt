@@ -46,7 +46,7 @@ pub fn slots_for(w: &[u8], from: usize, article: &[u8], table: &[u8], terms: Ter
 pub const MOST_LISTED: usize = 2048;
 
 // What the slots keep of the rows that are the same on all days of a block; n others are listed, or more than fit.
-#[derive(Drop)]
+#[derive(Clone, Copy)]
 pub struct Shared {
     pub slots: [Seen; 100],
     pub n: usize,

@@ -7,7 +7,7 @@ use native.Mathlib.Omega.{arith}
 use native.Mathlib.Nat.{suc-mul, mul-le-mul_right}
 use lib.ListN.{length, length-append}
 use Rattle.rules.specs.Lists.{between, all}
-use Rattle.rules.specs.Layout.{Layout, ◌>>=◌, ◌such◌, byte, times}
+use Rattle.rules.specs.Layout.{Layout, ◌such◌, byte, times}
 use Rattle.rules.specs.Bytes.{one_of}
 use Rattle.rules.specs.Question.{Property, value_byte, value_for, property}
 use Rattle.rules.proofs.GivesLaws.{Gives, gives_such, gives_name}

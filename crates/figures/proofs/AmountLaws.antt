@@ -12,7 +12,7 @@ use borrow.Author.Tests.{le-leb, lt-leb, leb-false, eq-eqb, ne_eqb, eqb-true}
 use Rattle.rules.specs.Lists.{all, if_some}
 use Rattle.rules.specs.Bytes.{either_side}
 use Rattle.file_rules.specs.Fields.{starts_with}
-use Rattle.file_rules.specs.Decimals.{is_digit, tens_from, tens, cents_of, cents_in, minus, value_by, value_in}
+use Rattle.file_rules.specs.Decimals.{is_digit, tens_from, tens, cents_of, cents_in, value_by, value_in}
 use Rattle.rules.proofs.ListLaws.{all_append}
 use Rattle.rules.proofs.TestLaws.{and_false}
 use Rattle.layout.proofs.PartLaws.{part_length}

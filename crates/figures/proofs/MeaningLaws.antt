@@ -1,6 +1,6 @@
 -- Numbers, dates, amounts and letters are read from the bytes between a field's quotes: where quotes in these stand twice, text and bytes are bad
 -- alike.
-use Prim.Native.Nat.{ℕ, ◌+◌, ◌-◌}
+use Prim.Native.Nat.{ℕ}
 use mathlib.Core.Path.{◌≡◌, refl, sym, ◌∙◌, ap, subst}
 use mathlib.Core.Logic.{inl, inr}
 use mathlib.Core.Bool.{Bool, true, false, ◌&&◌, ◌||◌, false≢true}

@@ -11,9 +11,8 @@ use lib.Seq.{get_or-set_same, get_or-set_other, get_or-append_seam}
 use Rattle.rules.specs.Lists.{gather, cons_some}
 use Rattle.rules.specs.Book.{Row}
 use Rattle.rules.specs.Question.{Question}
-use Rattle.rules.specs.Lines.{Chosen, chosen}
+use Rattle.rules.specs.Lines.{Chosen}
 use Rattle.layout.specs.Ensures.{Says}
-use Rattle.grants.specs.Table.{GrantsAre}
 use Rattle.grants.specs.Places.{up_from}
 use Rattle.choice.specs.Hands.{is_empty, TakenIs, RowThere, Holds}
 use Rattle.choice.specs.Slots.{placed_row, slot_chosen, slots_chosen}

@@ -4,7 +4,7 @@ use mathlib.Core.Path.{◌≡◌, refl, sym, ◌∙◌, ap, subst}
 use mathlib.Core.List.{List, [], ◌∷◌, ◌++◌, map}
 use native.Mathlib.Omega.{arith}
 use native.Mathlib.Decide.{dec_lt}
-use lib.ListN.{length, take, get_or, set, replicate, length-set, length-replicate}
+use lib.ListN.{length, take, get_or, set, length-set}
 use lib.Seq.{length-take-le, take-length, take-suc, get_or-set_same, get_or-set_other}
 use Rattle.rules.specs.Book.{Row, rows, roundings, rounding_for, letter_of, rule_number}
 use Rattle.rules.specs.Question.{Granted, Question, most_factor}
@@ -23,7 +23,7 @@ use Rattle.grants.specs.Asks.{Asks, Asked}
 use Rattle.survey.specs.Window.{Windows}
 use Rattle.survey.proofs.WindowLaws.{window_as}
 use Rattle.survey.specs.declared.window.Window.{Window}
-use Rattle.choice.specs.Hands.{RowThere, RowStands, RowRead}
+use Rattle.choice.specs.Hands.{RowStands, RowRead}
 use Rattle.choice.specs.Walk.{SlotsHold, SlotsFor}
 use Rattle.choice.specs.declared.hands.Seen.{Seen}
 use Rattle.choice.proofs.SlotLaws.{chosen_factors}

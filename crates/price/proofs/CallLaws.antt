@@ -6,7 +6,7 @@ use mathlib.Core.List.{List}
 use lib.Dec.{leb}
 use lib.ListN.{length}
 use borrow.Author.Tests.{le-leb, lt-leb}
-use Rattle.rules.specs.Book.{Record, rows}
+use Rattle.rules.specs.Book.{Record}
 use Rattle.rules.specs.Question.{Question}
 use Rattle.rules.specs.Lines.{lines_of, line_size, lines_bytes}
 use Rattle.rules.specs.Refusals.{Result, done, refused, ◌>>=◌, over, lent_after}

@@ -1,13 +1,13 @@
 -- The written lines read back.
 use Prim.Native.Nat.{ℕ, ◌%◌, ◌≤◌}
-use mathlib.Core.Path.{◌≡◌, refl, sym, ◌∙◌, ap}
-use mathlib.Core.List.{List, [], ◌∷◌, ◌++◌, map, append_assoc}
+use mathlib.Core.Path.{◌≡◌, refl, ◌∙◌, ap}
+use mathlib.Core.List.{List, [], ◌∷◌, ◌++◌, map}
 use native.Mathlib.Omega.{arith}
 use native.Mathlib.Nat.{mod-lt}
 use lib.IntN.{ℤ, nat_abs}
 use lib.ListN.{length}
-use Rattle.rules.specs.Bytes.{big, bytes_of, signed_bytes_of}
-use Rattle.rules.specs.Lines.{Line, amounts, line_bytes, lines_bytes}
+use Rattle.rules.specs.Bytes.{big, bytes_of}
+use Rattle.rules.specs.Lines.{Line, amounts, lines_bytes}
 use Rattle.rules.proofs.ListLaws.{All}
 use Rattle.layout.proofs.StoreLaws.{fits_near, bytes_back, bytes_halves, number_back}
 use Rattle.price.specs.Read.{WrittenLine, lines_in, amounts_in}

@@ -13,7 +13,7 @@ use rules::{Cents, LINE_SIZE, PriceAnswer};
 use survey::Found;
 
 // What a caller reads, and where the lines end. Where they found no room, that is a position behind the whole output.
-#[derive(Clone, Copy)]
+#[derive(Drop)]
 pub struct Answered {
     pub answer: PriceAnswer,
     pub end: usize,

@@ -1,9 +1,9 @@
 -- Whether a value is a constant: two strings are level where they are the same, and what is of another sort, or missing, is undefined.
-use Prim.Native.Nat.{ℕ, zero, suc, ◌<◌}
+use Prim.Native.Nat.{ℕ}
 use mathlib.Core.Path.{◌≡◌, refl, sym, ◌∙◌, ap}
 use mathlib.Core.Bool.{Bool, true, false, ◌&&◌, ◌||◌, cond}
 use mathlib.Core.List.{List, [], ◌∷◌, map}
-use mathlib.Core.Option.{some, none}
+use mathlib.Core.Option.{some}
 use native.Mathlib.Omega.{arith}
 use native.Mathlib.Decide.{ℕ_discrete}
 use lib.Dec.{eqb, ltb}
@@ -13,7 +13,7 @@ use Rattle.rules.specs.Bytes.{raise}
 use Rattle.layout.specs.Reads.{part}
 use Rattle.layout.specs.Ensures.{Says}
 use Rattle.relation_rules.specs.Grammar.{Equal, Text, Number}
-use Rattle.relation_rules.specs.Truth.{Order, Below, Level, Above, Undefined, unless_level, text_order, number_order, holds, truth_of, compared}
+use Rattle.relation_rules.specs.Truth.{Below, Level, Above, Undefined, unless_level, text_order, number_order, holds, truth_of, compared}
 use Rattle.relation_words.specs.Heard.{whole_of}
 use Rattle.relation_truth.specs.declared.values.Value.{Value}
 use Rattle.relation_truth.specs.Told.{order_no, OrderIs, TruthIs}

@@ -1,15 +1,15 @@
 -- Tests of a byte, and blanks passed one by one.
-use Prim.Native.Nat.{ℕ, suc, ◌+◌, ◌-◌, ◌≤◌, ◌<◌}
+use Prim.Native.Nat.{ℕ, ◌+◌, ◌-◌, ◌≤◌, ◌<◌}
 use mathlib.Core.Path.{◌≡◌, refl, sym, ◌∙◌, ap, subst}
 use mathlib.Core.Bool.{Bool, true, false, not, ◌&&◌, ◌||◌}
-use mathlib.Core.List.{List, [], ◌∷◌, ◌++◌}
+use mathlib.Core.List.{List, [], ◌∷◌}
 use native.Mathlib.Omega.{arith}
 use native.Mathlib.Numerals.{add-one}
 use lib.Dec.{eqb, leb}
-use lib.ListN.{length, drop, get_or}
+use lib.ListN.{length, get_or}
 use borrow.Author.Tests.{leb-true}
-use Rattle.rules.specs.Lists.{all, any}
-use Rattle.relation_rules.specs.Grammar.{is_blank, is_letter, is_digit, word_byte, sign_byte, minus, capital}
+use Rattle.rules.specs.Lists.{all}
+use Rattle.relation_rules.specs.Grammar.{is_blank, is_digit, sign_byte, minus, capital}
 use Rattle.rules.proofs.TestLaws.{both, not_so, so}
 use Rattle.rules.proofs.ListLaws.{all_append}
 use Rattle.layout.specs.Reads.{part}

@@ -1,17 +1,17 @@
 -- Words in small letters are the same tokens as in capitals.
-use Prim.Native.Nat.{ℕ, suc, ◌-◌, ◌≤◌, ◌<◌}
-use mathlib.Core.Path.{◌≡◌, refl, sym, ◌∙◌, ap, subst}
-use mathlib.Core.Bool.{Bool, true, false, not, ◌&&◌, ◌||◌, cond, false≢true}
+use Prim.Native.Nat.{ℕ, ◌-◌, ◌≤◌, ◌<◌}
+use mathlib.Core.Path.{◌≡◌, refl, sym, ◌∙◌, ap}
+use mathlib.Core.Bool.{Bool, true, false, ◌&&◌, ◌||◌, cond, false≢true}
 use mathlib.Core.List.{List, [], ◌∷◌, map}
-use mathlib.Core.Option.{Option, some, none}
+use mathlib.Core.Option.{some}
 use native.Mathlib.Omega.{arith}
 use lib.Dec.{eqb, leb}
-use borrow.Author.Tests.{leb-true, le-leb, lt-leb, eqb-true, ne_eqb}
+use borrow.Author.Tests.{lt-leb, ne_eqb}
 use Rattle.rules.specs.Lists.{all, any, same, between}
 use Rattle.rules.specs.Letters.{text, letter}
-use Rattle.relation_rules.specs.Grammar.{Token, Variable, Fixed, Name, capital, is_letter, is_digit, is_quote, minus, word_byte, sign_byte, Sort, Word, Figure, String, Dollar, Compare, Mark, sort_of, giving, word_token, is_empty, token_in, token_of}
-use Rattle.rules.proofs.TestLaws.{and_left, and_right, both, and_false, between_low, between_high, is_between}
-use Rattle.relation_rules.proofs.TokenLaws.{giving_true, giving_is, or_left, or_right, raise_words, View, view, word, figure, string, dollar, compare, mark}
+use Rattle.relation_rules.specs.Grammar.{Token, Variable, Fixed, capital, is_letter, is_digit, is_quote, minus, word_byte, sign_byte, Sort, Word, Figure, String, Dollar, Compare, Mark, sort_of, giving, word_token, is_empty, token_in, token_of}
+use Rattle.rules.proofs.TestLaws.{and_left, and_right, both, between_low, between_high, is_between}
+use Rattle.relation_rules.proofs.TokenLaws.{giving_true, giving_is, or_left, or_right, raise_words, View, view, figure, string}
 
 pub capital_twice : (b : ℕ) → capital (capital b) ≡ capital b
 capital_twice b = go (between 97 122 b) refl

@@ -2,25 +2,25 @@
 use Prim.Native.Nat.{ℕ, zero, suc, ◌+◌, ◌*◌, ◌-◌, ◌≤◌, ◌<◌}
 use mathlib.Core.Path.{◌≡◌, refl, sym, ◌∙◌, ap, subst}
 use mathlib.Core.Bool.{Bool, true, false, not, ◌&&◌, ◌||◌, cond, false≢true}
-use mathlib.Core.List.{List, [], ◌∷◌, ◌++◌, map}
+use mathlib.Core.List.{List, [], ◌∷◌, ◌++◌}
 use native.Mathlib.Omega.{arith}
 use native.Mathlib.Numerals.{add-one}
 use native.Mathlib.Nat.{le_refl}
-use lib.Dec.{eqb, leb}
-use lib.ListN.{length, drop, get_or}
-use borrow.Author.Tests.{leb-true, le-leb, lt-leb, eqb-true, eqb-false, ne_eqb}
-use Rattle.rules.specs.Lists.{all, any, between}
-use Rattle.relation_rules.specs.Grammar.{is_blank, is_letter, is_digit, is_quote, minus, figures, decimal, Figure, goes_on, apart}
+use lib.Dec.{leb}
+use lib.ListN.{length, get_or}
+use borrow.Author.Tests.{le-leb, lt-leb, eqb-true, ne_eqb}
+use Rattle.rules.specs.Lists.{all}
+use Rattle.relation_rules.specs.Grammar.{is_blank, is_letter, is_digit, minus, figures, decimal, Figure, goes_on}
 use Rattle.relation_rules.specs.Reader.{figure_begins}
-use Rattle.rules.proofs.TestLaws.{and_left, and_right, both, so, not_so, between_low, between_high}
+use Rattle.rules.proofs.TestLaws.{both, so, not_so, between_low, between_high}
 use Rattle.relation_rules.proofs.TokenLaws.{or_left, or_right, member}
 use Rattle.layout.specs.Reads.{part}
 use Rattle.layout.specs.Ensures.{Says, Number}
-use Rattle.relation_words.specs.Wanted.{Wanted, fits_wanted, Begun}
+use Rattle.relation_words.specs.Wanted.{Wanted, Begun}
 use Rattle.relation_words.specs.Heard.{FigureAt, DigitsRun, first_digit, start_of}
 use Rattle.relation_words.proofs.PartLaws.{part_none, part_more, part_cons, part_length}
 use Rattle.relation_words.proofs.ReadLaws.{begun_first, begun_on, apart_at, apart_end}
-use Rattle.relation_words.proofs.RunLaws.{figure_sort, goes_sort, figure_fits, all_more, one_part}
+use Rattle.relation_words.proofs.RunLaws.{figure_sort, goes_sort, figure_fits, all_more}
 
 -- ---- a figure is nothing else
 

@@ -1,21 +1,20 @@
 -- Where a token ends, and which words are reserved by their length.
 use Prim.Native.Nat.{ℕ, zero, suc, ◌+◌, ◌-◌, ◌≤◌, ◌<◌}
 use mathlib.Core.Path.{◌≡◌, refl, sym, ◌∙◌, ap, subst}
-use mathlib.Core.Bool.{Bool, true, false, not, ◌||◌, cond, false≢true}
+use mathlib.Core.Bool.{Bool, true, false, not, ◌||◌, false≢true}
 use mathlib.Core.List.{List, [], ◌∷◌, map}
 use native.Mathlib.Omega.{arith}
-use native.Mathlib.Numerals.{add-one}
 use lib.Dec.{eqb, leb, ltb}
-use lib.ListN.{length, drop, get_or, length-map}
+use lib.ListN.{length, get_or, length-map}
 use borrow.Author.Tests.{eqb-false, ne_eqb, le-leb, lt-ltb}
 use Rattle.rules.specs.Lists.{any, same, keep, cons_if}
-use Rattle.relation_rules.specs.Grammar.{capital, is_quote, is_digit, minus, reserved_words, goes_on}
+use Rattle.relation_rules.specs.Grammar.{capital, is_digit, minus, reserved_words, goes_on}
 use Rattle.rules.proofs.TestLaws.{not_so}
 use Rattle.rules.proofs.ListLaws.{same_eq}
 use Rattle.layout.specs.Reads.{part}
 use Rattle.layout.specs.Ensures.{Says}
-use Rattle.relation_words.specs.Words.{Stretch, number_of, Numbered}
-use Rattle.relation_words.specs.Heard.{ByteAt, Reaches, TokenRun, WordHeard}
+use Rattle.relation_words.specs.Words.{Stretch, Numbered}
+use Rattle.relation_words.specs.Heard.{Reaches, TokenRun, WordHeard}
 use Rattle.relation_words.proofs.PartLaws.{part_cons, part_length}
 use Rattle.relation_words.proofs.ReadLaws.{apart_at, apart_end}
 use Rattle.relation_words.proofs.HeardLaws.{number_none, number_some, same_any, word_heard}

@@ -2,30 +2,27 @@
 use Prim.Native.Nat.{ℕ, zero, suc, ◌+◌, ◌-◌, ◌≤◌, ◌<◌}
 use mathlib.Core.Path.{◌≡◌, refl, sym, ◌∙◌, ap, subst}
 use mathlib.Core.Bool.{Bool, true, false, not, ◌&&◌, ◌||◌, cond, false≢true}
-use mathlib.Core.List.{List, [], ◌∷◌, ◌++◌, map}
-use mathlib.Core.Option.{Option, some, none}
+use mathlib.Core.List.{List, [], ◌∷◌, map}
+use mathlib.Core.Option.{some}
 use native.Mathlib.Omega.{arith}
-use native.Mathlib.Numerals.{add-one}
-use lib.Dec.{eqb, leb}
-use lib.IntN.{pos, neg_ℤ}
-use lib.ListN.{length, drop, get_or, drop_of_length-le}
-use lib.Seq.{drop-cons}
-use borrow.Author.Tests.{leb-true, le-leb, lt-leb, eqb-true, eq-eqb, eqb-false, ne_eqb}
-use Rattle.rules.specs.Lists.{all, any, same, is_some}
-use Rattle.relation_rules.specs.Grammar.{Token, Fixed, Name, Quoted, Whole, capital, is_blank, is_letter, is_digit, is_quote, minus, word_byte, Word, Figure, String, reserved_words, reserved, giving, word_token, decimal, figures, some_figures, figure_token, or_else, nothing_in, after, in_quotes, quoted_token, token_in, token_of, goes_on, apart}
-use Rattle.relation_rules.specs.Reader.{State, begins, word_begins, quote_begins, figure_begins, then_take, behind}
-use Rattle.rules.proofs.TestLaws.{and_left, and_right, both, so, not_so, and_false}
-use Rattle.rules.proofs.ListLaws.{same_eq, all_append}
+use lib.Dec.{eqb}
+use lib.ListN.{length, drop, get_or}
+use borrow.Author.Tests.{eqb-true, eqb-false}
+use Rattle.rules.specs.Lists.{all, any, same}
+use Rattle.relation_rules.specs.Grammar.{Token, Fixed, Name, Quoted, Whole, capital, is_letter, is_digit, is_quote, minus, reserved_words, reserved, giving, word_token, token_in, token_of, apart}
+use Rattle.relation_rules.specs.Reader.{begins, behind}
+use Rattle.rules.proofs.TestLaws.{and_left, and_right, so, not_so}
+use Rattle.rules.proofs.ListLaws.{same_eq}
 use Rattle.layout.specs.Reads.{part}
 use Rattle.layout.specs.Ensures.{Says}
-use Rattle.relation_words.specs.Words.{Stretch, words_in, number_of, word_of, Numbered}
-use Rattle.relation_words.specs.Wanted.{Wanted, fits_wanted, plain_word, plain_words, wanted_by, Begun, StopsHere, TokenHere}
-use Rattle.relation_words.specs.Heard.{whole_of, some_word, first_digit, start_of, ByteAt, Heard, WordRun, QuoteRun, OnlyWords, WordsRun, FigureAt, DigitsRun, WordHeard, NameHeard, StringHeard, NumberHeard}
-use Rattle.relation_words.proofs.PartLaws.{part_none, part_more, part_cons, part_length}
+use Rattle.relation_words.specs.Words.{Stretch, number_of, word_of, Numbered}
+use Rattle.relation_words.specs.Wanted.{Wanted, plain_word, plain_words, StopsHere, TokenHere}
+use Rattle.relation_words.specs.Heard.{whole_of, some_word, ByteAt, Heard, WordRun, OnlyWords, WordsRun, WordHeard, NameHeard}
+use Rattle.relation_words.proofs.PartLaws.{part_cons}
 use Rattle.relation_words.proofs.CapitalLaws.{token_capital, other_capital}
-use Rattle.relation_words.proofs.ReadLaws.{stop_first, stop_inside, stop_behind, behind_none, apart_at, apart_end}
-use Rattle.relation_words.proofs.RunLaws.{letter_sort, figure_sort, quote_sort, goes_sort, only_words, one_part}
-use Rattle.relation_words.proofs.DigitLaws.{figure_letter, digit_not_minus}
+use Rattle.relation_words.proofs.ReadLaws.{stop_first, stop_behind, behind_none}
+use Rattle.relation_words.proofs.RunLaws.{letter_sort, only_words}
+use Rattle.relation_words.proofs.DigitLaws.{figure_letter}
 
 pub differ : {A : Type 0} (m n : ℕ) → eqb m n ≡ false → m ≡ n → A
 differ m n e h = absurd (eqb-false m n e h)

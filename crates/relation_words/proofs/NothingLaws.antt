@@ -1,6 +1,6 @@
 -- Where nothing was heard that may come, one answer serves all that listen.
 use Prim.Native.Nat.{ℕ}
-use mathlib.Core.Path.{◌≡◌, sym, subst}
+use mathlib.Core.Path.{sym, subst}
 use mathlib.Core.Bool.{Bool, false}
 use mathlib.Core.List.{List}
 use Rattle.relation_words.specs.Wanted.{Wanted}

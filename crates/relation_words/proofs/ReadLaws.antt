@@ -1,6 +1,6 @@
 -- How the reader goes through one token, by what is wanted there.
-use Prim.Native.Nat.{ℕ, zero, suc, ◌+◌, ◌-◌, ◌≤◌, ◌<◌}
-use mathlib.Core.Path.{◌≡◌, refl, sym, ◌∙◌, ap, subst}
+use Prim.Native.Nat.{ℕ, suc, ◌≤◌, ◌<◌}
+use mathlib.Core.Path.{◌≡◌, refl, sym, ◌∙◌, ap}
 use mathlib.Core.Bool.{Bool, true, false, not, ◌&&◌, ◌||◌, cond, false≢true}
 use mathlib.Core.List.{List, [], ◌∷◌, ◌++◌, map}
 use mathlib.Core.Option.{Option, some, none}
@@ -11,16 +11,15 @@ use lib.ListN.{length, drop, get_or, drop_of_length-le}
 use lib.Seq.{drop-cons}
 use Rattle.rules.specs.Lists.{all, any, same, is_some}
 use Rattle.rules.specs.Letters.{text}
-use Rattle.relation_rules.specs.Grammar.{Token, Variable, Fixed, Name, Quoted, Whole, capital, is_blank, is_letter, is_digit, is_quote, minus, word_byte, sign_byte, Sort, Word, Figure, String, Dollar, Compare, Mark, sort_of, giving, reserved, some_figures, figure_token, decimal, in_quotes, quoted_token, is_empty, token_in, token_of, goes_on, apart}
+use Rattle.relation_rules.specs.Grammar.{Token, Variable, Fixed, Name, Whole, capital, is_blank, is_letter, is_digit, is_quote, minus, word_byte, sign_byte, Sort, Word, Figure, String, Dollar, Compare, Mark, sort_of, giving, reserved, some_figures, figure_token, in_quotes, quoted_token, is_empty, token_in, token_of, goes_on, apart}
 use Rattle.rules.specs.PlacedRefusals.{RefusedAt}
 use Rattle.relation_rules.specs.Reader.{State, Next, next, may_be, lookup, taken_by, take, begins, word_begins, quote_begins, figure_begins, fits, viable, Between, Inside, too_deep, begin, then_take, behind, step, run}
-use Rattle.rules.proofs.TestLaws.{or_false, or_assoc, and_false, not_so}
-use Rattle.rules.proofs.ListLaws.{any_append}
-use Rattle.relation_rules.proofs.TokenLaws.{View, view, word, figure, string, dollar, compare, mark}
+use Rattle.rules.proofs.TestLaws.{not_so}
+use Rattle.relation_rules.proofs.TokenLaws.{View, view, word, figure, string}
 use Rattle.relation_rules.proofs.MoveLaws.{stops_at, stops_inside, stops_behind, stops_cut_inside}
 use Rattle.layout.specs.Reads.{part}
 use Rattle.relation_words.specs.Wanted.{Wanted, fits_wanted, variable_word, wanted_next, wanted_by, Begun, StopsHere}
-use Rattle.relation_words.proofs.PartLaws.{part_none, part_more, part_cons}
+use Rattle.relation_words.proofs.PartLaws.{part_none, part_more}
 
 -- ---- what fits is what is wanted
 

@@ -1,25 +1,24 @@
 -- How far a token reaches: words, strings, words of a list.
-use Prim.Native.Nat.{ℕ, zero, suc, ◌+◌, ◌-◌, ◌≤◌, ◌<◌}
+use Prim.Native.Nat.{ℕ, suc, ◌+◌, ◌-◌, ◌≤◌, ◌<◌}
 use mathlib.Core.Path.{◌≡◌, refl, sym, ◌∙◌, ap, subst}
 use mathlib.Core.Bool.{Bool, true, false, not, ◌&&◌, ◌||◌, cond, false≢true}
-use mathlib.Core.List.{List, [], ◌∷◌, ◌++◌, map}
-use mathlib.Core.Option.{Option, some, none}
+use mathlib.Core.List.{List, [], ◌∷◌, map}
 use native.Mathlib.Omega.{arith}
 use native.Mathlib.Numerals.{add-one}
 use lib.Dec.{eqb, leb}
-use lib.ListN.{length, drop, get_or}
+use lib.ListN.{length, get_or}
 use borrow.Author.Tests.{eqb-true, eq-eqb, ne_eqb}
-use Rattle.rules.specs.Lists.{all, any, same, is_some}
-use Rattle.rules.specs.Letters.{letter, text}
-use Rattle.relation_rules.specs.Grammar.{capital, is_blank, is_letter, is_digit, is_quote, minus, word_byte, sign_byte, figures, Sort, Word, Figure, String, Dollar, Compare, Mark, sort_of, reaches, goes_on, apart, in_quotes}
+use Rattle.rules.specs.Lists.{all, any, is_some}
+use Rattle.rules.specs.Letters.{letter}
+use Rattle.relation_rules.specs.Grammar.{capital, is_blank, is_letter, is_digit, is_quote, minus, word_byte, sign_byte, figures, Sort, Word, Figure, String, Dollar, Compare, Mark, sort_of, reaches, goes_on, in_quotes}
 use Rattle.relation_rules.specs.Reader.{begins, word_begins, quote_begins, figure_begins}
-use Rattle.rules.proofs.TestLaws.{and_left, and_right, both, so, not_so, or_false, and_false, and_true}
+use Rattle.rules.proofs.TestLaws.{both, so, not_so, or_false, and_false}
 use Rattle.rules.proofs.ListLaws.{all_append}
-use Rattle.relation_rules.proofs.TokenLaws.{or_left, or_right, member, View, view, word, figure, string, dollar, compare, mark}
+use Rattle.relation_rules.proofs.TokenLaws.{or_left, or_right, member}
 use Rattle.layout.specs.Reads.{part}
 use Rattle.layout.specs.Ensures.{Says, Number}
-use Rattle.relation_words.specs.Words.{Stretch, words_in}
-use Rattle.relation_words.specs.Wanted.{Wanted, fits_wanted, Begun, StopsHere}
+use Rattle.relation_words.specs.Words.{Stretch}
+use Rattle.relation_words.specs.Wanted.{Wanted, fits_wanted, Begun}
 use Rattle.relation_words.specs.Heard.{Reaches, WordRun, QuoteRun, OnlyWords, WordsRun, first_digit, start_of}
 use Rattle.relation_words.proofs.PartLaws.{part_none, part_more, part_cons}
 use Rattle.relation_words.proofs.ReadLaws.{begun_first, begun_on, stop_first, stop_inside, apart_at, apart_end}

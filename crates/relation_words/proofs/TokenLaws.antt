@@ -1,34 +1,32 @@
 -- Strings and numbers heard, and any token by its first byte, at a byte or behind blanks.
-use Prim.Native.Nat.{ℕ, zero, suc, ◌+◌, ◌*◌, ◌-◌, ◌≤◌, ◌<◌}
+use Prim.Native.Nat.{ℕ, suc, ◌+◌, ◌*◌, ◌-◌, ◌≤◌, ◌<◌}
 use mathlib.Core.Path.{◌≡◌, refl, sym, ◌∙◌, ap, subst}
 use mathlib.Core.Bool.{Bool, true, false, not, ◌&&◌, ◌||◌, cond, false≢true}
-use mathlib.Core.List.{List, [], ◌∷◌, ◌++◌, map}
-use mathlib.Core.Option.{Option, some, none}
+use mathlib.Core.List.{List, [], ◌∷◌, ◌++◌}
+use mathlib.Core.Option.{some, none}
 use native.Mathlib.Omega.{arith}
 use native.Mathlib.Numerals.{add-one}
 use lib.Dec.{eqb, leb}
 use lib.IntN.{pos, neg_ℤ}
 use lib.ListN.{length, drop, get_or, drop_of_length-le}
-use lib.Seq.{drop-cons}
-use borrow.Author.Tests.{leb-true, le-leb, lt-leb, eqb-true, eq-eqb, eqb-false, ne_eqb}
-use Rattle.rules.specs.Lists.{all, any, same, is_some, if_some}
+use borrow.Author.Tests.{le-leb, lt-leb, eqb-true, eqb-false}
+use Rattle.rules.specs.Lists.{all, is_some, if_some}
 use Rattle.rules.specs.Letters.{letter}
 use Rattle.relation_rules.specs.Grammar.{Token, Name, Quoted, Whole, capital, is_blank, is_letter, is_digit, is_quote, minus, Figure, String, giving, decimal, figures, some_figures, figure_token, or_else, nothing_in, after, in_quotes, quoted_token, token_in, token_of, goes_on, apart, past}
-use Rattle.rules.specs.PlacedRefusals.{RefusedAt}
-use Rattle.relation_rules.specs.Reader.{State, next, complete, begins, word_begins, quote_begins, figure_begins, then_take, behind, too_deep, Between, run}
+use Rattle.relation_rules.specs.Reader.{State, figure_begins, then_take, behind, Between, run}
 use Rattle.relation_rules.specs.Parts.{TokenAt}
-use Rattle.rules.proofs.TestLaws.{and_left, and_right, both, so, not_so, and_false, or_false}
+use Rattle.rules.proofs.TestLaws.{and_left, and_right, both, not_so, and_false}
 use Rattle.rules.proofs.ListLaws.{all_append}
 use Rattle.relation_rules.proofs.MoveLaws.{gap_read, stops_cut}
 use Rattle.layout.specs.Reads.{part}
 use Rattle.layout.specs.Ensures.{Says}
-use Rattle.relation_words.specs.Words.{Gap, words_in}
-use Rattle.relation_words.specs.Wanted.{Wanted, fits_wanted, plain_words, Begun, StopsHere, TokenHere, Stops}
+use Rattle.relation_words.specs.Words.{Gap}
+use Rattle.relation_words.specs.Wanted.{Wanted, fits_wanted, plain_words, StopsHere, TokenHere, Stops}
 use Rattle.relation_words.specs.Heard.{whole_of, first_digit, start_of, ByteAt, Heard, HeardOn, QuoteRun, FigureAt, DigitsRun, WordHeard, NameHeard, StringHeard, NumberHeard}
 use Rattle.relation_words.proofs.PartLaws.{part_none, part_more, part_cons, part_length, part_rest, past_part}
 use Rattle.relation_words.proofs.CapitalLaws.{other_capital}
-use Rattle.relation_words.proofs.ReadLaws.{stop_inside, stop_behind, apart_at, apart_end}
-use Rattle.relation_words.proofs.RunLaws.{figure_sort, quote_sort, goes_sort, all_more}
+use Rattle.relation_words.proofs.ReadLaws.{stop_inside, stop_behind, apart_end}
+use Rattle.relation_words.proofs.RunLaws.{figure_sort, quote_sort, goes_sort}
 use Rattle.relation_words.proofs.DigitLaws.{figure_letter, digit_not_minus}
 use Rattle.relation_words.proofs.HeardLaws.{heard_wrong, heard_quoted, heard_whole, plain_none, differ}
 

@@ -1,18 +1,18 @@
 -- Lists of words: where a word stops, and which word the bytes are or begin.
-use Prim.Native.Nat.{ℕ, zero, suc, ◌+◌, ◌-◌, ◌≤◌, ◌<◌}
+use Prim.Native.Nat.{ℕ, suc, ◌+◌, ◌-◌, ◌≤◌, ◌<◌}
 use mathlib.Core.Path.{◌≡◌, refl, sym, ◌∙◌, ap, subst}
-use mathlib.Core.Bool.{Bool, true, false, not, ◌&&◌, ◌||◌, cond, false≢true}
+use mathlib.Core.Bool.{Bool, true, false, not, ◌&&◌, ◌||◌, cond}
 use mathlib.Core.List.{List, [], ◌∷◌, ◌++◌, map}
 use native.Mathlib.Omega.{arith}
 use native.Mathlib.Numerals.{add-one}
-use lib.Dec.{eqb, leb, eqb-zero-suc, eqb-suc-zero, eqb-suc-suc}
+use lib.Dec.{eqb, eqb-zero-suc, eqb-suc-zero, eqb-suc-suc}
 use lib.ListN.{length, drop, get_or, drop_of_length-le, length-map}
 use lib.Seq.{drop-cons}
-use borrow.Author.Tests.{eqb-true, eq-eqb, ne_eqb}
-use Rattle.rules.specs.Lists.{all, any, same}
+use borrow.Author.Tests.{eq-eqb, ne_eqb}
+use Rattle.rules.specs.Lists.{any, same}
 use Rattle.relation_rules.specs.Grammar.{capital}
 use Rattle.relation_rules.specs.Reader.{begins}
-use Rattle.rules.proofs.TestLaws.{both, so, not_so}
+use Rattle.rules.proofs.TestLaws.{so, not_so}
 use Rattle.layout.specs.Reads.{part}
 use Rattle.layout.specs.Ensures.{Says, Number}
 use Rattle.relation_words.specs.Words.{onto_first, words_in, number_of, Stretch, WordStop, Numbered}

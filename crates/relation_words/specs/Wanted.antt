@@ -1,10 +1,10 @@
 -- What may come at a position of a relation text: some words, a name, a string, a number. And where the reader stops that wants these.
 use Rattle.std.specs.Prelude.{ℕ, suc, ◌≤◌, ◌<◌, ◌≡◌, Bool, true, false, ◌&&◌, ◌||◌, not, List, [], ◌∷◌, ◌++◌, map, length, drop, get_or}
-use Rattle.std.proofs.Math.Option.{Option, some, none}
+use Rattle.std.proofs.Math.Option.{some, none}
 use Rattle.rules.specs.Lists.{any, all, is_some}
 use Rattle.rules.specs.Letters.{text}
 use Rattle.relation_rules.specs.Grammar.{Token, capital, is_quote, is_digit, minus, token_of, apart}
-use Rattle.rules.specs.PlacedRefusals.{ResultAt, RefusedAt}
+use Rattle.rules.specs.PlacedRefusals.{RefusedAt}
 use Rattle.relation_rules.specs.Reader.{State, Next, next, begins, word_begins, quote_begins, figure_begins, complete, too_deep, Between, Inside, run}
 use Rattle.layout.specs.Reads.{part}
 

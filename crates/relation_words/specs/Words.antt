@@ -1,5 +1,5 @@
 -- Lists of words as code writes them: each word with a space behind it. Which of them a token is, or may go on to be.
-use Rattle.std.specs.Prelude.{ℕ, zero, suc, ◌≤◌, ◌<◌, ◌≡◌, Bool, true, false, cond, List, [], ◌∷◌, map, eqb, length, drop, get_or}
+use Rattle.std.specs.Prelude.{ℕ, zero, suc, ◌≤◌, ◌<◌, ◌≡◌, true, false, cond, List, [], ◌∷◌, eqb, length, drop, get_or}
 use Rattle.rules.specs.Lists.{same, all}
 use Rattle.relation_rules.specs.Grammar.{is_blank}
 use Rattle.layout.specs.Reads.{part}

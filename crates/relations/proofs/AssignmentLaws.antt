@@ -18,7 +18,7 @@ use Rattle.relation_rules.specs.Parts.{TokenAt}
 use Rattle.relation_rules.specs.Truth.{Held, plainly, granted_by}
 use Rattle.layout.specs.Reads.{part}
 use Rattle.rules.proofs.TestLaws.{and_false}
-use Rattle.relation_rules.proofs.MoveLaws.{token_moves, ends}
+use Rattle.relation_rules.proofs.MoveLaws.{token_moves}
 use Rattle.relation_words.specs.Words.{Gap, word_of}
 use Rattle.relation_words.specs.Wanted.{wanted_by}
 use Rattle.relation_words.specs.Heard.{Heard, HeardOn}

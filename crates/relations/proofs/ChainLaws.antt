@@ -6,11 +6,9 @@ use mathlib.Core.List.{List}
 use native.Mathlib.Omega.{arith}
 use lib.ListN.{length, drop}
 use Rattle.relation_rules.specs.Grammar.{deepest}
-use Rattle.relation_rules.specs.Reader.{next}
 use Rattle.relation_rules.specs.Parts.{StopsSingle, StopsAnd, StopsOr, SingleTrue, AndTrue, OrTrue}
 use Rattle.relation_rules.specs.Truth.{Held, Truth, either, together}
 use Rattle.relation_rules.proofs.MoveLaws.{true_single, true_and, true_first, true_or, stops_single, stops_and, stops_first, stops_or, stops_behind_and}
-use Rattle.layout.specs.Reads.{part}
 use Rattle.relation_words.specs.Wanted.{Wanted}
 use Rattle.relation_words.specs.Heard.{Heard}
 use Rattle.relation_truth.specs.Told.{truth_no, TruthIs}

@@ -1,7 +1,7 @@
 -- Single conditions without a NOT: cut off, in a parenthesis, or by their first token.
 use Prim.Native.Nat.{ℕ, zero, suc, ◌+◌, ◌-◌, ◌≤◌, ◌<◌}
 use mathlib.Core.Path.{◌≡◌, refl, sym, ◌∙◌, ap, subst}
-use mathlib.Core.Bool.{Bool, true, false, ◌&&◌}
+use mathlib.Core.Bool.{Bool, true, false}
 use mathlib.Core.List.{List, [], ◌∷◌, ◌++◌}
 use mathlib.Core.Option.{none}
 use mathlib.Core.Logic.{◌⊎◌, inl, inr}
@@ -12,19 +12,16 @@ use lib.ListN.{length, drop, get_or, drop_of_length-le}
 use lib.Seq.{drop-cons}
 use borrow.Author.Tests.{lt-leb, le-leb, eqb-true, eqb-false}
 use Rattle.rules.specs.Letters.{text}
-use Rattle.relation_rules.specs.Grammar.{Fixed, OrChain, FirstAnd, Or, Single, token_of, goes_on, apart, reserved, deepest, past}
+use Rattle.relation_rules.specs.Grammar.{Fixed, OrChain, FirstAnd, Or, token_of, goes_on, apart, deepest, past}
 use Rattle.relation_rules.specs.Reader.{Part, Around, AtCondition, next, complete, Between, run}
-use Rattle.relation_rules.specs.Parts.{TokenAt, behind_or, StopsSingle, SingleTrue}
+use Rattle.relation_rules.specs.Parts.{TokenAt, behind_or, StopsSingle}
 use Rattle.relation_rules.specs.Truth.{Held}
-use Rattle.rules.proofs.TestLaws.{and_left, and_right}
 use Rattle.relation_rules.proofs.MoveLaws.{stops_cut, stops_too_deep, true_group, stops_group, stops_unclosed}
 use Rattle.layout.specs.Reads.{part}
-use Rattle.relation_words.specs.Words.{Gap, word_of}
-use Rattle.relation_words.specs.Heard.{Heard}
+use Rattle.relation_words.specs.Words.{Gap}
 use Rattle.relation_words.proofs.PartLaws.{part_rest, past_part}
 use Rattle.relation_words.proofs.RunLaws.{one_part}
 use Rattle.relation_words.proofs.TokenLaws.{gap_moves, gap_token}
-use Rattle.relations.specs.Expected.{wants_condition}
 use Rattle.relations.specs.Reading.{SingleRead, SimpleRead, OrRead, ClosedAs, DepthAt}
 use Rattle.relations.proofs.JoinLaws.{never, through}
 

@@ -8,7 +8,6 @@ use native.Mathlib.Omega.{arith}
 use lib.Dec.{eqb}
 use lib.ListN.{length, drop}
 use borrow.Author.Tests.{ne_eqb}
-use Rattle.rules.specs.Letters.{text}
 use Rattle.relation_rules.specs.Grammar.{capital, Fixed, Name, Sign, Less, LessWord, AtMost, AtMostWord, Equal, EqualWord, Unequal, UnequalWord, AtLeast, AtLeastToo, AtLeastWord, Greater, GreaterWord, sign_text, Constant, Text, Number, constant_token, Operand, Property, Given, operand_token, Chain, token_of}
 use Rattle.rules.specs.PlacedRefusals.{RefusedAt}
 use Rattle.relation_rules.specs.Reader.{Part, Around, AtSpecified, AtOperand, AtSign, AtIn, AtOpen, AtListed, AtComma, next, complete, Between, run}

@@ -1,7 +1,7 @@
 -- A mark behind a constant of a list: a token of one byte, whatever stands behind it.
 use Prim.Native.Nat.{ℕ, suc, ◌+◌, ◌≤◌, ◌<◌}
 use mathlib.Core.Path.{◌≡◌, refl, sym, ◌∙◌, ap, subst}
-use mathlib.Core.Bool.{Bool, true, false, not, cond}
+use mathlib.Core.Bool.{Bool, true, false, not}
 use mathlib.Core.List.{List, [], ◌∷◌}
 use mathlib.Core.Option.{some}
 use native.Mathlib.Omega.{arith}
@@ -9,12 +9,11 @@ use native.Mathlib.Numerals.{add-one}
 use lib.Dec.{eqb}
 use lib.ListN.{length, drop, get_or}
 use borrow.Author.Tests.{eq-eqb, ne_eqb, eqb-true}
-use Rattle.rules.specs.Letters.{letter}
 use Rattle.layout.specs.Reads.{part}
-use Rattle.relation_rules.specs.Grammar.{Token, Sort, Mark, sort_of, reaches, goes_on, apart, token_of}
+use Rattle.relation_rules.specs.Grammar.{Token, Mark, sort_of, reaches, goes_on, apart, token_of}
 use Rattle.relation_words.specs.Words.{Gap, word_of}
 use Rattle.relation_words.specs.Wanted.{TokenHere}
-use Rattle.relation_words.specs.Heard.{Heard, HeardOn}
+use Rattle.relation_words.specs.Heard.{HeardOn}
 use Rattle.relation_words.proofs.RunLaws.{one_part}
 use Rattle.relation_words.proofs.HeardLaws.{heard_word}
 use Rattle.relation_words.proofs.TokenLaws.{on_token}

@@ -9,7 +9,7 @@ use lib.ListN.{length, drop, get_or}
 use borrow.Author.Tests.{eqb-true}
 use Rattle.rules.specs.Letters.{text}
 use Rattle.relation_rules.specs.Grammar.{Fixed, token_of, reserved, deepest}
-use Rattle.relation_rules.specs.Parts.{TokenAt, StopsSingle, SingleTrue}
+use Rattle.relation_rules.specs.Parts.{TokenAt, SingleTrue}
 use Rattle.relation_rules.specs.Truth.{Held, Truth, opposite}
 use Rattle.relation_rules.proofs.TruthLaws.{opposite_twice}
 use Rattle.relation_rules.proofs.MoveLaws.{true_not, stops_not}

@@ -1,5 +1,5 @@
 -- The names that a whole text derives, assignment by assignment.
-use Prim.Native.Nat.{ℕ, suc, ◌+◌, ◌-◌, ◌≤◌, ◌<◌}
+use Prim.Native.Nat.{ℕ, suc, ◌+◌, ◌≤◌, ◌<◌}
 use mathlib.Core.Path.{◌≡◌, refl, sym, ◌∙◌, ap, subst}
 use mathlib.Core.Bool.{Bool, true, false, ◌&&◌}
 use mathlib.Core.List.{List, []}
@@ -9,15 +9,13 @@ use native.Mathlib.Numerals.{add-one}
 use native.Mathlib.Nat.{zero-add}
 use lib.Dec.{ltb}
 use lib.ListN.{length, drop, drop_of_length-le}
-use Rattle.rules.specs.Letters.{text}
 use Rattle.relation_rules.specs.Grammar.{Chain, further, Assignment, deepest}
 use Rattle.rules.specs.declared.Part.{Part}
 use Rattle.rules.specs.PlacedRefusals.{ResultAt, Done, RefusedAt}
-use Rattle.relation_rules.specs.Reader.{next, Between, run, relation_of}
+use Rattle.relation_rules.specs.Reader.{Between, run, relation_of}
 use Rattle.relation_rules.specs.Parts.{behind_assignment, AtStart, Assigned}
 use Rattle.relation_rules.specs.Truth.{Held, granted_by, grantable, most_names, names_from}
 use Rattle.relation_rules.specs.Derived.{derived}
-use Rattle.rules.proofs.TestLaws.{so}
 use Rattle.relation_rules.proofs.MoveLaws.{starts, starts_again, ends, listed, listed_more, names_more, grown}
 use Rattle.relation_words.proofs.TokenLaws.{gap_moves}
 use Rattle.relations.specs.declared.names.Names.{Names}

@@ -1,8 +1,7 @@
 -- `relation_words::bytes::blanks` meets its contract: all so far are blanks, by the laws `going-..`.
 use Prim.Native.Nat.{◌-◌}
 use lib.ListN.{length}
-use borrow.Author.Rules.{rules}
-use Rattle.relation_words.proofs.ByteLaws.{Going, going_start, going_on, going_stop, going_over}
+use Rattle.relation_words.proofs.ByteLaws.{Going}
 use Rattle.relation_words.proofs.bytes.blanks.Given as goal
 
 abbrev pub invariant-loop-i : goal.invariant-loop-i

@@ -1,11 +1,6 @@
 -- `relation_words::lists::begins_one` meets its contract: no word before begins so, by the laws `try-..`.
-use Prim.Native.Nat.{◌-◌}
-use mathlib.Core.List.{map}
-use lib.ListN.{length}
-use Rattle.relation_rules.specs.Grammar.{capital}
-use Rattle.layout.specs.Reads.{part}
 use borrow.Author.Rules.{rules}
-use Rattle.relation_words.proofs.WordLaws.{Trying, stop_stretch, try_start, try_found, try_on, try_end}
+use Rattle.relation_words.proofs.WordLaws.{stop_stretch, try_start, try_found, try_on, try_end}
 use Rattle.relation_words.proofs.lists.begins_one.Goals as goal
 
 ruleset laws = (rules, stop_stretch, try_start, try_found, try_on, try_end)

@@ -4,8 +4,7 @@ use mathlib.Core.List.{map}
 use lib.ListN.{length}
 use Rattle.relation_rules.specs.Grammar.{capital}
 use Rattle.layout.specs.Reads.{part}
-use borrow.Author.Rules.{rules}
-use Rattle.relation_words.proofs.WordLaws.{Trying, stop_stretch, try_start, try_found, try_on, try_end}
+use Rattle.relation_words.proofs.WordLaws.{Trying}
 use Rattle.relation_words.proofs.lists.begins_one.Given as goal
 
 abbrev pub invariant-loop-at : goal.invariant-loop-at

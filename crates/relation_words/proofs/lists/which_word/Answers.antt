@@ -1,11 +1,6 @@
 -- `relation_words::lists::which_word` meets its contract: no word before is it, by the laws `count-..`.
-use Prim.Native.Nat.{◌-◌}
-use mathlib.Core.List.{map}
-use lib.ListN.{length}
-use Rattle.relation_rules.specs.Grammar.{capital}
-use Rattle.layout.specs.Reads.{part}
 use borrow.Author.Rules.{rules}
-use Rattle.relation_words.proofs.WordLaws.{Counting, stop_stretch, count_start, count_found, count_on, count_end}
+use Rattle.relation_words.proofs.WordLaws.{stop_stretch, count_start, count_found, count_on, count_end}
 use Rattle.relation_words.proofs.lists.which_word.Goals as goal
 
 ruleset laws = (rules, stop_stretch, count_start, count_found, count_on, count_end)

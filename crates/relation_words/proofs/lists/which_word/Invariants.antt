@@ -4,8 +4,7 @@ use mathlib.Core.List.{map}
 use lib.ListN.{length}
 use Rattle.relation_rules.specs.Grammar.{capital}
 use Rattle.layout.specs.Reads.{part}
-use borrow.Author.Rules.{rules}
-use Rattle.relation_words.proofs.WordLaws.{Counting, stop_stretch, count_start, count_found, count_on, count_end}
+use Rattle.relation_words.proofs.WordLaws.{Counting}
 use Rattle.relation_words.proofs.lists.which_word.Given as goal
 
 abbrev pub invariant-loop-at : goal.invariant-loop-at

@@ -1,8 +1,6 @@
 -- `relation_words::lists::word_stop` meets its contract: the bytes so far stand before the first of the words that are left, by the laws `spelling-..`.
-use Prim.Native.Nat.{◌-◌}
-use lib.ListN.{length}
 use borrow.Author.Rules.{rules}
-use Rattle.relation_words.proofs.WordLaws.{Spelling, spelling_start, spelling_on, spelling_stop, spelling_end}
+use Rattle.relation_words.proofs.WordLaws.{spelling_start, spelling_on, spelling_stop, spelling_end}
 use Rattle.relation_words.proofs.lists.word_stop.Goals as goal
 
 ruleset laws = (rules, spelling_start, spelling_on, spelling_stop, spelling_end)

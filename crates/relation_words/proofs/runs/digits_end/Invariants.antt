@@ -1,8 +1,7 @@
 -- `relation_words::runs::digits_end` meets its contract: the digits so far, at most eighteen, by the laws `figure-..`.
 use Prim.Native.Nat.{◌-◌}
 use lib.ListN.{length}
-use borrow.Author.Rules.{rules}
-use Rattle.relation_words.proofs.DigitLaws.{Figuring, figure_start, figure_on, figure_stop, figure_more, figure_over}
+use Rattle.relation_words.proofs.DigitLaws.{Figuring}
 use Rattle.relation_words.proofs.runs.digits_end.Given as goal
 
 abbrev pub invariant-loop-i : goal.invariant-loop-i

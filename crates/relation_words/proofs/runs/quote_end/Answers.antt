@@ -1,8 +1,6 @@
 -- `relation_words::runs::quote_end` meets its contract: no quote so far, by the laws `quote-..`.
-use Prim.Native.Nat.{◌-◌}
-use lib.ListN.{length}
 use borrow.Author.Rules.{rules}
-use Rattle.relation_words.proofs.RunLaws.{Quoting, quote_start, quote_on, quote_stop, quote_over}
+use Rattle.relation_words.proofs.RunLaws.{quote_start, quote_on, quote_stop, quote_over}
 use Rattle.relation_words.proofs.runs.quote_end.Goals as goal
 
 ruleset laws = (rules, quote_start, quote_on, quote_stop, quote_over)

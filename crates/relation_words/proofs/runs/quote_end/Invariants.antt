@@ -1,8 +1,7 @@
 -- `relation_words::runs::quote_end` meets its contract: no quote so far, by the laws `quote-..`.
 use Prim.Native.Nat.{◌-◌}
 use lib.ListN.{length}
-use borrow.Author.Rules.{rules}
-use Rattle.relation_words.proofs.RunLaws.{Quoting, quote_start, quote_on, quote_stop, quote_over}
+use Rattle.relation_words.proofs.RunLaws.{Quoting}
 use Rattle.relation_words.proofs.runs.quote_end.Given as goal
 
 abbrev pub invariant-loop-i : goal.invariant-loop-i

@@ -1,8 +1,7 @@
 -- `relation_words::runs::token_end` meets its contract: up to the first byte that the token does not reach over.
 use Prim.Native.Nat.{◌-◌}
 use lib.ListN.{length}
-use borrow.Author.Rules.{rules}
-use Rattle.relation_words.proofs.EndLaws.{TokenSoFar, token_begin, token_on, token_ended, token_over}
+use Rattle.relation_words.proofs.EndLaws.{TokenSoFar}
 use Rattle.relation_words.proofs.runs.token_end.Given as goal
 
 abbrev pub invariant-loop-i : goal.invariant-loop-i

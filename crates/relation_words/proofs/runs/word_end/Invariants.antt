@@ -1,8 +1,7 @@
 -- `relation_words::runs::word_end` meets its contract: bytes of a word so far, by the laws `word-..`.
 use Prim.Native.Nat.{◌-◌}
 use lib.ListN.{length}
-use borrow.Author.Rules.{rules}
-use Rattle.relation_words.proofs.RunLaws.{Wording, word_start, word_on, word_stop, word_over}
+use Rattle.relation_words.proofs.RunLaws.{Wording}
 use Rattle.relation_words.proofs.runs.word_end.Given as goal
 
 abbrev pub invariant-loop-i : goal.invariant-loop-i

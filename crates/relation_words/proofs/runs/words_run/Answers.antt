@@ -1,9 +1,6 @@
 -- `relation_words::runs::words_run` meets its contract: a word of the list may go on so, by the laws `run-..`.
-use Prim.Native.Nat.{◌-◌}
-use lib.ListN.{length}
-use Rattle.relation_words.specs.Words.{words_in}
 use borrow.Author.Rules.{rules}
-use Rattle.relation_words.proofs.RunLaws.{Running, one_byte, more_bytes, run_none, run_start, run_ended, run_on, run_wrong, run_over}
+use Rattle.relation_words.proofs.RunLaws.{one_byte, more_bytes, run_none, run_start, run_ended, run_on, run_wrong, run_over}
 use Rattle.relation_words.proofs.runs.words_run.Goals as goal
 
 ruleset laws = (rules, one_byte, more_bytes, run_none, run_start, run_ended, run_on, run_wrong, run_over)

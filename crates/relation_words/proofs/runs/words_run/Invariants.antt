@@ -2,8 +2,7 @@
 use Prim.Native.Nat.{◌-◌}
 use lib.ListN.{length}
 use Rattle.relation_words.specs.Words.{words_in}
-use borrow.Author.Rules.{rules}
-use Rattle.relation_words.proofs.RunLaws.{Running, one_byte, more_bytes, run_none, run_start, run_ended, run_on, run_wrong, run_over}
+use Rattle.relation_words.proofs.RunLaws.{Running}
 use Rattle.relation_words.proofs.runs.words_run.Given as goal
 
 abbrev pub invariant-loop-i : goal.invariant-loop-i

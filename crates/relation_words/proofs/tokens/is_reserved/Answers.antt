@@ -13,3 +13,12 @@ returns-then-size-eq9 c = search laws
 
 pub returns : goal.returns
 returns c = search laws
+
+pub returns-then-size-eq2 : goal.returns-then-size-eq2
+returns-then-size-eq2 c = search laws
+
+pub returns-then-size-eq3 : goal.returns-then-size-eq3
+returns-then-size-eq3 c = search laws
+
+pub returns-then-size-lt15 : goal.returns-then-size-lt15
+returns-then-size-lt15 c = search laws

@@ -1,0 +1,15 @@
+-- `quote::unused::brought` meets its contract: the flags and the lines that are left say the whole, by the laws `flag-..`.
+use borrow.Author.Rules.{rules}
+use Rattle.quote.proofs.UnusedLaws.{flag_start, flag_again, flag_end}
+use Rattle.quote.proofs.unused.brought.Goals as goal
+
+ruleset laws = (rules, flag_start, flag_again, flag_end)
+
+pub loop-i-init : goal.loop-i-init
+loop-i-init c = search laws
+
+pub loop-i-preserved : goal.loop-i-preserved
+loop-i-preserved c = search laws
+
+pub returns : goal.returns
+returns c = search laws

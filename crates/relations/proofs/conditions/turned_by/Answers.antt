@@ -1,0 +1,12 @@
+-- `relations::conditions::turned_by` meets its contract: an even number of NOTs by `turned_not`, an odd one by `turned_so`.
+use borrow.Author.Rules.{rules}
+use Rattle.relations.proofs.StartLaws.{turned_not, turned_so}
+use Rattle.relations.proofs.conditions.turned_by.Goals as goal
+
+ruleset laws = (rules, turned_not, turned_so)
+
+pub returns-then-turned : goal.returns-then-turned
+returns-then-turned c = search laws
+
+pub returns : goal.returns
+returns c = search laws

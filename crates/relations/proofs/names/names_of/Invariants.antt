@@ -1,0 +1,12 @@
+-- `relations::names::names_of` meets its contract: the assignments so far and what they derive, by the laws `names-..`.
+use Prim.Native.Nat.{◌-◌}
+use lib.ListN.{length}
+use Rattle.relation_truth.specs.Values.{held_in}
+use Rattle.relations.proofs.TextLaws.{NamesSo}
+use Rattle.relations.proofs.names.names_of.Given as goal
+
+abbrev pub invariant-loop-slots : goal.invariant-loop-slots
+invariant-loop-slots l = NamesSo (held_in l.properties) l.text l.at l.names
+
+abbrev pub decreases-loop-slots : goal.decreases-loop-slots
+decreases-loop-slots l = length l.text - l.at

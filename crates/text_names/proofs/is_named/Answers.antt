@@ -1,0 +1,15 @@
+-- `text_names::is_named` meets its contract.
+use borrow.Author.Rules.{rules}
+use Rattle.text_names.proofs.NamesLaws.{named_is, starts_within, name_there}
+use Rattle.text_names.proofs.is_named.Goals as goal
+
+ruleset laws = (rules, named_is, starts_within, name_there)
+
+pub field_at-name-requires : goal.field_at-name-requires
+field_at-name-requires c = search laws
+
+pub same_text-requires : goal.same_text-requires
+same_text-requires c = search laws
+
+pub returns : goal.returns
+returns c = search laws
