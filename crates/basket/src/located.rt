@@ -8,7 +8,7 @@ use survey::{Found, Sighted, is_book, survey};
 use wanted::{Sights, find_all};
 
 // Whether it is a book, and what is found for each question in one.
-#[derive(Clone, Copy)]
+#[derive(Drop)]
 pub struct Located {
     pub ok: bool,
     pub found: Sights,

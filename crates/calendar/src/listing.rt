@@ -14,7 +14,7 @@ use survey::Found;
 use survey::entrance::enter;
 
 // With a number other than 0 nothing is listed.
-#[derive(Clone, Copy)]
+#[derive(Drop)]
 pub struct Listing {
     pub stretches: Stretches,
     pub number: u8,

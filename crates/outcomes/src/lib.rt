@@ -25,7 +25,7 @@ const NO_OUTCOME: Outcome = Outcome {
 };
 
 // What the days of a block share, up to the date before `until`.
-#[derive(Clone, Copy)]
+#[derive(Drop)]
 pub struct Block {
     pub shared: Shared,
     pub until: usize,

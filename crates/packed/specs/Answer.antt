@@ -1,5 +1,5 @@
 -- What a caller reads of the sums: the gross weight, the signs, and the answer or 11.
-use Rattle.std.specs.Prelude.{ℕ, ◌≡◌, Bool, ◌&&◌, cond, List, [], ◌∷◌, ℤ, pos, ◌+ℤ◌, ◌*ℤ◌, get_or}
+use Rattle.std.specs.Prelude.{◌≡◌, Bool, ◌&&◌, cond, List, [], ◌∷◌, ℤ, pos, ◌+ℤ◌, ◌*ℤ◌, get_or}
 use Rattle.std.specs.Int.Signed.{non_neg}
 use Rattle.rules.specs.Lists.{all}
 use Rattle.rules.specs.Book.{Pack}

@@ -19,7 +19,7 @@ pub struct Units {
 }
 
 // `agree`: no record gave another unit than one before it.
-#[derive(Drop)]
+#[derive(Clone, Copy)]
 pub struct Sums {
     pub present: u8,
     pub values: [i64; 8],

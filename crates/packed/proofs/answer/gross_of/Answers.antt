@@ -1,0 +1,18 @@
+-- `packed::answer::gross_of` meets its contract: product and sum fit, and are the definition's, by the laws named.
+use borrow.Author.Rules.{rules}
+use Rattle.packed.proofs.AnswerLaws.{product_fits, gross_fits, gross_given, gross_none}
+use Rattle.packed.proofs.answer.gross_of.Goals as goal
+
+ruleset laws = (rules, product_fits, gross_fits, gross_none)
+
+pub overflow_mul-result : goal.overflow_mul-result
+overflow_mul-result c = search laws
+
+pub overflow_add-result : goal.overflow_add-result
+overflow_add-result c = search laws
+
+pub returns-then-present : goal.returns-then-present
+returns-then-present c = gross_given _ (search rules) (search rules)
+
+pub returns : goal.returns
+returns c = search laws

@@ -1,0 +1,18 @@
+-- `wanted::marks::mark` meets its contract: the mark so far and what is left are the whole, by the laws `marking-..`.
+use borrow.Author.Rules.{rules}
+use Rattle.wanted.proofs.MarkLaws.{marking_start, marking_again, marking_end}
+use Rattle.wanted.proofs.marks.mark.Goals as goal
+
+ruleset laws = (rules, marking_start, marking_again, marking_end)
+
+pub loop-i-init : goal.loop-i-init
+loop-i-init c = search laws
+
+pub wide-requires : goal.wide-requires
+wide-requires c = search laws
+
+pub loop-i-preserved : goal.loop-i-preserved
+loop-i-preserved c = search laws
+
+pub returns : goal.returns
+returns c = search laws
