@@ -1,5 +1,5 @@
-// The calls that a planning tool links: thin, total, each with the contract of the call behind it. Only the list of records is filled
-// here: a lent list of structs cannot be handed on.
+// The calls that a planning tool links, by `plugin_c`: thin, total, each with the contract of the call behind it. Only the list of records is
+// filled here.
 #![tactic(auto)]
 
 ghost use Rattle.std.specs.Prelude.{◌≡◌};
@@ -18,15 +18,13 @@ use relation_rules::DerivedAnswer;
 use rules::{CalendarAnswer, PackagingAnswer, PlacedAnswer, PriceAnswer, TextAnswer, Written};
 use stretches::Stretch;
 
-#[unsafe(no_mangle)]
-pub extern "C" fn rafttwine_price(book: &[u8], question: &[u8], lines: &mut [u8]) -> PriceAnswer
+pub fn rafttwine_price(book: &[u8], question: &[u8], lines: &mut [u8]) -> PriceAnswer
     ensures { PriceIs book.now question.now lines.old result lines.new }
 {
     price::call::price(book, question, lines)
 }
 
-#[unsafe(no_mangle)]
-pub extern "C" fn rafttwine_price_derived(
+pub fn rafttwine_price_derived(
     book: &[u8],
     question: &[u8],
     properties: &[u8],
@@ -38,8 +36,7 @@ pub extern "C" fn rafttwine_price_derived(
     derived_price::price_derived(book, question, properties, relation, lines)
 }
 
-#[unsafe(no_mangle)]
-pub extern "C" fn rafttwine_derive(
+pub fn rafttwine_derive(
     question: &[u8],
     properties: &[u8],
     relation: &[u8],
@@ -50,27 +47,19 @@ pub extern "C" fn rafttwine_derive(
     derive::derive(question, properties, relation, out)
 }
 
-#[unsafe(no_mangle)]
-pub extern "C" fn rafttwine_basket(book: &[u8], questions: &[u8], out: &mut [u8]) -> Written
+pub fn rafttwine_basket(book: &[u8], questions: &[u8], out: &mut [u8]) -> Written
     ensures { BasketIs book.now questions.now out.old result out.new }
 {
     basket::basket(book, questions, out)
 }
 
-#[unsafe(no_mangle)]
-pub extern "C" fn rafttwine_calendar(
-    book: &[u8],
-    question: &[u8],
-    end: u32,
-    out: &mut [u8],
-) -> CalendarAnswer
+pub fn rafttwine_calendar(book: &[u8], question: &[u8], end: u32, out: &mut [u8]) -> CalendarAnswer
     ensures { CalendarIs book.now question.now end out.old result out.new }
 {
     calendar::calendar(book, question, end, out)
 }
 
-#[unsafe(no_mangle)]
-pub extern "C" fn rafttwine_calendar_list(
+pub fn rafttwine_calendar_list(
     book: &[u8],
     question: &[u8],
     end: u32,
@@ -89,44 +78,38 @@ pub extern "C" fn rafttwine_calendar_list(
     answer
 }
 
-#[unsafe(no_mangle)]
-pub extern "C" fn rafttwine_final_number(book: &[u8], question: &[u8], out: &mut [u8]) -> Written
+pub fn rafttwine_final_number(book: &[u8], question: &[u8], out: &mut [u8]) -> Written
     ensures { NumberCall book.now question.now out.old out.new result }
 {
     final_number::final_number(book, question, out)
 }
 
-#[unsafe(no_mangle)]
-pub extern "C" fn rafttwine_packaging(book: &[u8], question: &[u8]) -> PackagingAnswer
+pub fn rafttwine_packaging(book: &[u8], question: &[u8]) -> PackagingAnswer
     ensures { result ≡ Packaging.shown (Packaging.packaging book.now question.now) }
 {
     packaging::packaging(book, question)
 }
 
-#[unsafe(no_mangle)]
-pub extern "C" fn rafttwine_text(asked: &[u8], fallback: &[u8], number: u32) -> TextAnswer
+pub fn rafttwine_text(asked: &[u8], fallback: &[u8], number: u32) -> TextAnswer
     ensures { result ≡ Text.shown (Text.text asked.now fallback.now number) }
 {
     texts::text_answer(asked, fallback, number)
 }
 
-#[unsafe(no_mangle)]
-pub extern "C" fn rafttwine_read_prices(file: &[u8], out: &mut [u8]) -> PlacedAnswer
+pub fn rafttwine_read_prices(file: &[u8], out: &mut [u8]) -> PlacedAnswer
     ensures { ReadIs file.now out.old result out.new }
 {
     reading::read_prices(file, out)
 }
 
-#[unsafe(no_mangle)]
-pub extern "C" fn rafttwine_write_prices(book: &[u8], out: &mut [u8]) -> PlacedAnswer
+pub fn rafttwine_write_prices(book: &[u8], out: &mut [u8]) -> PlacedAnswer
     ensures { WriteIs book.now out.old result out.new }
 {
     write_prices::write_prices(book, out)
 }
 
 // The library's version: major times 10,000, minor times 100, patch. A program that loads the library can hold it against its header.
-#[unsafe(no_mangle)]
-pub extern "C" fn rafttwine_version() -> u32
+pub fn rafttwine_version() -> u32
     ensures { result ≡ 20300 }
 {
     20_300

@@ -3,18 +3,17 @@ use Prim.Native.Nat.{ℕ, zero, suc, ◌+◌, ◌≤◌, ◌<◌}
 use mathlib.Core.Path.{◌≡◌, refl, sym, ◌∙◌, ap, subst}
 use mathlib.Core.List.{List, [], ◌∷◌, ◌++◌, append_assoc}
 use native.Mathlib.Omega.{arith}
-use native.Mathlib.Numerals.{add-one}
 use lib.IntN.{ℤ, pos, negsuc}
 use lib.ListN.{length, length-append, set}
 use lib.Seq.{sets}
-use Rattle.rules.specs.Letters.{text, letter}
+use Rattle.rules.specs.Letters.{text}
 use Rattle.rules.specs.Program.{digits, decimal, signed_decimal, currency_text, stretch_text}
 use Rattle.rules.specs.Question.{letters_of}
 use Rattle.rules.specs.declared.Currency.{Currency}
 use Rattle.layout.proofs.StoreLaws.{puts_of}
 use Rattle.stretches.specs.declared.Stretch.{Stretch}
 use Rattle.stretches.specs.Stretches.{as_stretch}
-use Rattle.printing.specs.Ensures.{sign_of, Prints}
+use Rattle.printing.specs.Ensures.{Prints}
 use Rattle.printing.proofs.DigitLaws.{few_digits, prints_then}
 
 -- ---- a number and a blank

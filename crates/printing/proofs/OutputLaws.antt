@@ -14,7 +14,7 @@ use Rattle.rules.specs.Letters.{text}
 use Rattle.rules.specs.Calendar.{Stretch, calendar, stretches_bytes, most_days, listing, finished}
 use Rattle.rules.specs.Bytes.{own_length}
 use Rattle.rules.specs.Program.{digits, decimal, stretch_text, end_of, asked, printed, output, most_input}
-use Rattle.rules.specs.Refusals.{Result, done, refused, ◌>>=◌, refuse_unless, over}
+use Rattle.rules.specs.Refusals.{Result, done, refused, over}
 use Rattle.layout.proofs.StoreLaws.{puts_of, puts_front}
 use Rattle.stretches.specs.declared.Stretch as Declared
 use Rattle.stretches.specs.declared.Stretches.{Stretches}

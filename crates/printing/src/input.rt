@@ -36,6 +36,7 @@ pub fn front(s: &[u8]) -> usize
 }
 
 // An end date of another length is read as 0, which is no day.
+#[tactic(auto, using(crate::proofs::InputLaws::end_read, crate::proofs::InputLaws::end_none))]
 pub fn end_of(s: &[u8]) -> u32
     ensures { result ≡ end_of s.now }
 {

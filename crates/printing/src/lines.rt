@@ -28,6 +28,7 @@ fn put_number(out: &mut [u8], at: usize, n: u64) -> usize
 }
 
 // Three letters, or three strokes for a refused day.
+#[tactic(auto, using(crate::proofs::LineLaws::word_kept, crate::proofs::LineLaws::word_struck))]
 fn word_of(refusal: u8, currency: Currency) -> Currency
     ensures { letters_of result ≡ currency_text refusal (letters_of currency) }
 {

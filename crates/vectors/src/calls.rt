@@ -5,6 +5,8 @@ use crate::fields::{bytes, number, signed, three};
 use layout::names::same_bytes;
 use relation_rules::DerivedAnswer;
 use rules::{PlacedAnswer, PriceAnswer, TextAnswer};
+use std::io;
+use std::io::Write;
 
 // The byte that stands where nothing was written.
 const FILL: u8 = 165;
@@ -16,111 +18,132 @@ fn least(n: usize, most: usize) -> usize
     if n < most { n } else { most }
 }
 
-pub fn run<'a>(call: u8, n: u32, room: usize, a: &'a [u8], b: &'a [u8]) {
+pub fn run<'a>(
+    to: &mut impl Write,
+    call: u8,
+    n: u32,
+    room: usize,
+    a: &'a [u8],
+    b: &'a [u8],
+) -> io::Result<()> {
     let lent = least(room, 2000);
     match call {
-        1 => price(a, b, lent),
-        2 => calendar(a, b, n, lent),
-        3 => final_number(a, b, lent),
-        4 => packaging(a, b),
-        6 => basket(a, b, lent),
-        7 => read_prices(a, lent),
-        8 => write_prices(a, lent),
-        _ => text(a, b, n),
+        1 => price(to, a, b, lent)?,
+        2 => calendar(to, a, b, n, lent)?,
+        3 => final_number(to, a, b, lent)?,
+        4 => packaging(to, a, b)?,
+        6 => basket(to, a, b, lent)?,
+        7 => read_prices(to, a, lent)?,
+        8 => write_prices(to, a, lent)?,
+        _ => text(to, a, b, n)?,
     }
-    io::write_all(1, b"\n");
+    to.write_all(b"\n")
 }
 
 // One that derives names: the price with them, or the question.
 pub fn derive_names(
+    to: &mut impl Write,
     call: u8,
     room: usize,
     book: &[u8],
     question: &[u8],
     properties: &[u8],
     relation: &[u8],
-) {
+) -> io::Result<()> {
     let lent = least(room, 2000);
     if call == 9 {
-        price_derived(book, question, properties, relation, lent);
+        price_derived(to, book, question, properties, relation, lent)?;
     } else {
-        derive(question, properties, relation, lent);
+        derive(to, question, properties, relation, lent)?;
     }
-    io::write_all(1, b"\n");
+    to.write_all(b"\n")
 }
 
-fn price(book: &[u8], question: &[u8], room: usize)
+fn price(to: &mut impl Write, book: &[u8], question: &[u8], room: usize) -> io::Result<()>
     requires { room ≤ 2000 }
 {
     let mut out = [FILL; 2048];
     let answer = plugin::rafttwine_price(book, question, &mut out[..room]);
-    io::write_all(1, b"price");
-    priced(answer);
-    bytes(&out, room + 8);
+    to.write_all(b"price")?;
+    priced(to, answer)?;
+    bytes(to, &out, room + 8)
 }
 
-fn priced(answer: PriceAnswer) {
-    number(answer.number as u64);
-    signed(answer.unit);
-    signed(answer.total);
-    number(answer.lines);
-    number(answer.unused as u64);
-    number(answer.unused_count as u64);
+fn priced(to: &mut impl Write, answer: PriceAnswer) -> io::Result<()> {
+    number(to, answer.number as u64)?;
+    signed(to, answer.unit)?;
+    signed(to, answer.total)?;
+    number(to, answer.lines)?;
+    number(to, answer.unused as u64)?;
+    number(to, answer.unused_count as u64)?;
     let currency = answer.currency;
-    three(currency[0], currency[1], currency[2]);
+    three(to, currency[0], currency[1], currency[2])
 }
 
-fn calendar(book: &[u8], question: &[u8], end: u32, room: usize)
+fn calendar(
+    to: &mut impl Write,
+    book: &[u8],
+    question: &[u8],
+    end: u32,
+    room: usize,
+) -> io::Result<()>
     requires { room ≤ 2000 }
 {
     let mut out = [FILL; 2048];
     let answer = plugin::rafttwine_calendar(book, question, end, &mut out[..room]);
-    io::write_all(1, b"calendar");
-    written(answer.number, answer.length);
-    bytes(&out, room + 8);
+    to.write_all(b"calendar")?;
+    written(to, answer.number, answer.length)?;
+    bytes(to, &out, room + 8)
 }
 
-fn final_number(book: &[u8], question: &[u8], room: usize)
+fn final_number(to: &mut impl Write, book: &[u8], question: &[u8], room: usize) -> io::Result<()>
     requires { room ≤ 2000 }
 {
     let mut out = [FILL; 2048];
     let answer = plugin::rafttwine_final_number(book, question, &mut out[..room]);
-    io::write_all(1, b"final_number");
-    written(answer.number, answer.length);
-    bytes(&out, room + 8);
+    to.write_all(b"final_number")?;
+    written(to, answer.number, answer.length)?;
+    bytes(to, &out, room + 8)
 }
 
-fn basket(book: &[u8], questions: &[u8], room: usize)
+fn basket(to: &mut impl Write, book: &[u8], questions: &[u8], room: usize) -> io::Result<()>
     requires { room ≤ 2000 }
 {
     let mut out = [FILL; 2048];
     let answer = plugin::rafttwine_basket(book, questions, &mut out[..room]);
-    io::write_all(1, b"basket");
-    written(answer.number, answer.length);
-    bytes(&out, room + 8);
+    to.write_all(b"basket")?;
+    written(to, answer.number, answer.length)?;
+    bytes(to, &out, room + 8)
 }
 
-fn read_prices(file: &[u8], room: usize)
+fn read_prices(to: &mut impl Write, file: &[u8], room: usize) -> io::Result<()>
     requires { room ≤ 2000 }
 {
     let mut out = [FILL; 2048];
     let answer = plugin::rafttwine_read_prices(file, &mut out[..room]);
-    io::write_all(1, b"read_prices");
-    placed(answer);
-    bytes(&out, room + 8);
+    to.write_all(b"read_prices")?;
+    placed(to, answer)?;
+    bytes(to, &out, room + 8)
 }
 
-fn write_prices(book: &[u8], room: usize)
+fn write_prices(to: &mut impl Write, book: &[u8], room: usize) -> io::Result<()>
     requires { room ≤ 2000 }
 {
     let mut out = [FILL; 2048];
     let answer = plugin::rafttwine_write_prices(book, &mut out[..room]);
-    io::write_all(1, b"write_prices");
-    placed(answer);
-    bytes(&out, room + 8);
+    to.write_all(b"write_prices")?;
+    placed(to, answer)?;
+    bytes(to, &out, room + 8)
 }
 
-fn price_derived(book: &[u8], question: &[u8], properties: &[u8], relation: &[u8], room: usize)
+fn price_derived(
+    to: &mut impl Write,
+    book: &[u8],
+    question: &[u8],
+    properties: &[u8],
+    relation: &[u8],
+    room: usize,
+) -> io::Result<()>
     requires { room ≤ 2000 }
 {
     let mut out = [FILL; 2048];
@@ -131,80 +154,87 @@ fn price_derived(book: &[u8], question: &[u8], properties: &[u8], relation: &[u8
         relation,
         &mut out[..room],
     );
-    io::write_all(1, b"price_derived");
-    derived(answer);
-    bytes(&out, room + 8);
+    to.write_all(b"price_derived")?;
+    derived(to, answer)?;
+    bytes(to, &out, room + 8)
 }
 
-fn derived(answer: DerivedAnswer) {
-    number(answer.number as u64);
-    signed(answer.unit);
-    signed(answer.total);
-    number(answer.lines);
-    number(answer.place);
-    number(answer.unused as u64);
-    number(answer.unused_count as u64);
+fn derived(to: &mut impl Write, answer: DerivedAnswer) -> io::Result<()> {
+    number(to, answer.number as u64)?;
+    signed(to, answer.unit)?;
+    signed(to, answer.total)?;
+    number(to, answer.lines)?;
+    number(to, answer.place)?;
+    number(to, answer.unused as u64)?;
+    number(to, answer.unused_count as u64)?;
     let currency = answer.currency;
-    three(currency[0], currency[1], currency[2]);
+    three(to, currency[0], currency[1], currency[2])
 }
 
-fn derive(question: &[u8], properties: &[u8], relation: &[u8], room: usize)
+fn derive(
+    to: &mut impl Write,
+    question: &[u8],
+    properties: &[u8],
+    relation: &[u8],
+    room: usize,
+) -> io::Result<()>
     requires { room ≤ 2000 }
 {
     let mut out = [FILL; 2048];
     let answer = plugin::rafttwine_derive(question, properties, relation, &mut out[..room]);
-    io::write_all(1, b"derive");
-    placed(answer);
-    bytes(&out, room + 8);
+    to.write_all(b"derive")?;
+    placed(to, answer)?;
+    bytes(to, &out, room + 8)
 }
 
 // The same as for other calls that write, and the place of what is refused.
-fn placed(answer: PlacedAnswer) {
-    written(answer.number, answer.length);
-    number(answer.place);
+fn placed(to: &mut impl Write, answer: PlacedAnswer) -> io::Result<()> {
+    written(to, answer.number, answer.length)?;
+    number(to, answer.place)
 }
 
 // The number that a call gave, and the length that it wrote.
-fn written(refusal: u8, length: u64) {
-    number(refusal as u64);
-    number(length);
+fn written(to: &mut impl Write, refusal: u8, length: u64) -> io::Result<()> {
+    number(to, refusal as u64)?;
+    number(to, length)
 }
 
-fn packaging(book: &[u8], question: &[u8]) {
+fn packaging(to: &mut impl Write, book: &[u8], question: &[u8]) -> io::Result<()> {
     let answer = plugin::rafttwine_packaging(book, question);
-    io::write_all(1, b"packaging");
-    number(answer.number as u64);
-    signed(answer.gross);
-    number(answer.present as u64);
+    to.write_all(b"packaging")?;
+    number(to, answer.number as u64)?;
+    signed(to, answer.gross)?;
+    number(to, answer.present as u64)?;
     let eight = answer.values;
-    values(eight);
+    values(to, eight)?;
     let units = answer.units;
-    three(units[0], units[1], units[2]);
-    three(units[3], units[4], units[5]);
-    three(units[6], units[7], units[8]);
+    three(to, units[0], units[1], units[2])?;
+    three(to, units[3], units[4], units[5])?;
+    three(to, units[6], units[7], units[8])
 }
 
-fn values(of: [i64; 8]) {
-    signed(of[0]);
-    signed(of[1]);
-    signed(of[2]);
-    signed(of[3]);
-    signed(of[4]);
-    signed(of[5]);
-    signed(of[6]);
-    signed(of[7]);
+fn values(to: &mut impl Write, of: [i64; 8]) -> io::Result<()> {
+    signed(to, of[0])?;
+    signed(to, of[1])?;
+    signed(to, of[2])?;
+    signed(to, of[3])?;
+    signed(to, of[4])?;
+    signed(to, of[5])?;
+    signed(to, of[6])?;
+    signed(to, of[7])
 }
 
-fn text<'a>(asked: &'a [u8], fallback: &'a [u8], n: u32) {
+fn text<'a>(to: &mut impl Write, asked: &'a [u8], fallback: &'a [u8], n: u32) -> io::Result<()> {
     let answer = plugin::rafttwine_text(asked, fallback, n);
-    io::write_all(1, b"text");
-    number(answer.number as u64);
-    number(answer.book as u64);
-    number(answer.place);
-    number(answer.length);
+    to.write_all(b"text")?;
+    number(to, answer.number as u64)?;
+    number(to, answer.book as u64)?;
+    number(to, answer.place)?;
+    number(to, answer.length)?;
     if !handed(asked, fallback, n, answer) {
-        io::write_all(1, b" elsewhere");
+        to.write_all(b" elsewhere")?;
     }
+    Ok(())
 }
 
 // Inside Rattle the text comes as a part of its book. It has to be the bytes to which the numbers point.

@@ -2,27 +2,26 @@
 ghost use Rattle.std.specs.Prelude.{◌≤◌};
 
 use printing::decimal::distance;
+use std::io;
+use std::io::Write;
 
-pub fn number(n: u64) {
-    io::write_all(1, b" ");
-    io::print_decimal(1, n);
+pub fn number(to: &mut impl Write, n: u64) -> io::Result<()> {
+    write!(to, " {n}")
 }
 
-pub fn signed(z: i64) {
+pub fn signed(to: &mut impl Write, z: i64) -> io::Result<()> {
     if z < 0 {
-        io::write_all(1, b" -");
+        to.write_all(b" -")?;
     } else {
-        io::write_all(1, b" ");
+        to.write_all(b" ")?;
     }
-    io::print_decimal(1, distance(z));
+    let far = distance(z);
+    write!(to, "{far}")
 }
 
 // A currency or a unit.
-pub fn three(a: u8, b: u8, c: u8) {
-    io::write_all(1, b" ");
-    io::print_hex(1, a as u64, 2);
-    io::print_hex(1, b as u64, 2);
-    io::print_hex(1, c as u64, 2);
+pub fn three(to: &mut impl Write, a: u8, b: u8, c: u8) -> io::Result<()> {
+    write!(to, " {a:02x}{b:02x}{c:02x}")
 }
 
 fn digit(n: u8) -> u8 {
@@ -36,7 +35,7 @@ fn digit(n: u8) -> u8 {
 }
 
 // The first n bytes.
-pub fn bytes(out: &[u8; 2048], n: usize)
+pub fn bytes(to: &mut impl Write, out: &[u8; 2048], n: usize) -> io::Result<()>
     requires { n ≤ 2048 }
 {
     let mut text = [0u8; 4096];
@@ -46,6 +45,6 @@ pub fn bytes(out: &[u8; 2048], n: usize)
         text[2 * i + 1] = digit(out[i] % 16);
         i += 1;
     }
-    io::write_all(1, b" ");
-    io::write_all(1, &text[..2 * n]);
+    to.write_all(b" ")?;
+    to.write_all(&text[..2 * n])
 }

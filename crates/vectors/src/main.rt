@@ -6,21 +6,47 @@
 mod calls;
 mod fields;
 
-ghost use Rattle.std.specs.Prelude.{◌+◌, ◌≤◌, ◌<◌, length};
+ghost use Rattle.std.specs.Prelude.{◌≡◌, ◌+◌, ◌≤◌, ◌<◌, length, IfOk};
 
 use layout::numbers::four_at;
+use std::io;
+use std::io::{Read, Write};
 
-fn main() {
-    let mut input = [0u8; 524288];
-    let n = io::read_full(0, &mut input);
-    all(&input[..n]);
+// Reads until what is lent is full or the input ends, and returns how many bytes it put in front.
+fn read_full(rt: &impl Input, input: &mut [u8]) -> io::Result<usize>
+    ensures { IfOk result (λ n. n ≤ length input.new) }
+{
+    let mut from = rt.reader();
+    let mut n = 0;
+    while n < input.len() {
+        let more = from.read(&mut input[n..])?;
+        if more == 0 {
+            break;
+        }
+        n += more;
+    }
+    Ok(n)
 }
 
-fn all(s: &[u8]) {
+// As many bytes as are read.
+fn zeros() -> [u8; 524288]
+    ensures { length result ≡ 524288 }
+{
+    [0; 524288]
+}
+
+fn main(rt: HostRuntime) -> io::Result<()> {
+    let mut input = zeros();
+    let n = read_full(&rt, &mut input)?;
+    all(&mut io::writer(&rt), &input[..n])
+}
+
+fn all(to: &mut impl Write, s: &[u8]) -> io::Result<()> {
     let mut at = 0;
     while s.len() - at >= 17 {
-        at = one(s, at);
+        at = one(to, s, at)?;
     }
+    Ok(())
 }
 
 // Where n bytes from `at` on end, or all do.
@@ -43,10 +69,10 @@ fn size_at(s: &[u8], at: usize) -> usize
 }
 
 // The vector at a position, and where it ends.
-fn one(s: &[u8], at: usize) -> usize
+fn one(to: &mut impl Write, s: &[u8], at: usize) -> io::Result<usize>
     requires { at + 17 ≤ length s.now }
-    ensures lower_bound { at < result }
-    ensures upper_bound { result ≤ length s.now }
+    ensures lower_bound { IfOk result (λ end. at < end) }
+    ensures upper_bound { IfOk result (λ end. end ≤ length s.now) }
 {
     let number = four_at(s, at + 1);
     let room = four_at(s, at + 5);
@@ -54,31 +80,40 @@ fn one(s: &[u8], at: usize) -> usize
     let b = cut(s, a, four_at(s, at + 9));
     let end = cut(s, b, four_at(s, at + 13));
     if s[at] < 9 {
-        calls::run(s[at], number as u32, room, &s[a..b], &s[b..end]);
-        return end;
+        calls::run(to, s[at], number as u32, room, &s[a..b], &s[b..end])?;
+        return Ok(end);
     }
-    more(s, s[at], room, a, b, end)
+    more(to, s, s[at], room, a, b, end)
 }
 
 // One with four parts, the first from a to b, the second up to c; and where it ends.
-fn more(s: &[u8], call: u8, room: usize, a: usize, b: usize, c: usize) -> usize
+fn more(
+    to: &mut impl Write,
+    s: &[u8],
+    call: u8,
+    room: usize,
+    a: usize,
+    b: usize,
+    c: usize,
+) -> io::Result<usize>
     requires a_le_b { a ≤ b }
     requires b_le_c { b ≤ c }
     requires c_in_bounds { c ≤ length s.now }
-    ensures lower_bound { c ≤ result }
-    ensures upper_bound { result ≤ length s.now }
+    ensures lower_bound { IfOk result (λ end. c ≤ end) }
+    ensures upper_bound { IfOk result (λ end. end ≤ length s.now) }
 {
     let from = cut(s, c, 4);
     let properties = cut(s, from, size_at(s, c));
     let then = cut(s, properties, 4);
     let relation = cut(s, then, size_at(s, properties));
     calls::derive_names(
+        to,
         call,
         room,
         &s[a..b],
         &s[b..c],
         &s[from..properties],
         &s[then..relation],
-    );
-    relation
+    )?;
+    Ok(relation)
 }

@@ -1,0 +1,8 @@
+use borrow.Author.Rules.{rules}
+use Rattle.printing.proofs.DigitLaws.{prints_one}
+use Rattle.printing.proofs.lines.put_byte.Goals as goal
+
+ruleset laws = (rules, prints_one)
+
+pub returns : goal.returns
+returns c = search laws
