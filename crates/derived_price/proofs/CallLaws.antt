@@ -1,5 +1,5 @@
 -- The price with derived names, refusal by refusal in their order, and the answer.
-use Prim.Native.Nat.{ℕ, ◌-◌, ◌≤◌}
+use Prim.Native.Nat.{ℕ, ◌≤◌}
 use mathlib.Core.Path.{◌≡◌, refl, sym, ◌∙◌, ap, subst}
 use mathlib.Core.Bool.{true}
 use mathlib.Core.List.{List}
@@ -10,7 +10,7 @@ use Rattle.rules.specs.Lists.{is_some}
 use Rattle.rules.specs.Book.{Record}
 use Rattle.rules.specs.BookLayout.{records}
 use Rattle.rules.specs.Question.{Question, question_of}
-use Rattle.rules.specs.PlacedRefusals.{ResultAt, RefusedAt, ◌>>=◌, lent_after_at}
+use Rattle.rules.specs.PlacedRefusals.{ResultAt, RefusedAt, lent_after_at}
 use Rattle.rules.specs.Price.{Answer}
 use Rattle.rules.specs.declared.PlacedAnswer.{PlacedAnswer}
 use Rattle.layout.specs.Records.{records_left}

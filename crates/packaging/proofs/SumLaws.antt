@@ -6,7 +6,7 @@ use mathlib.Core.List.{List, [], ◌∷◌, ◌++◌, append_assoc, append-nil}
 use mathlib.Core.Option.{Option, some, none, some-injective}
 use native.Mathlib.Omega.{arith}
 use native.Mathlib.Decide.{dec_lt}
-use lib.IntN.{ℤ, pos, nat_abs}
+use lib.IntN.{pos, nat_abs}
 use lib.ListN.{take, drop, get_or, replicate, get_or-replicate, get_or-eq_default}
 use borrow.Author.Tests.{ne_eqb}
 use Rattle.rules.specs.Lists.{is_some, cons_some}

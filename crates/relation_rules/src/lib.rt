@@ -4,7 +4,7 @@
 
 // A price with derived names: as a price's answer, and the place of a refusal that has one, counted from 1.
 #[repr(C)]
-#[derive(Drop)]
+#[derive(Clone, Copy)]
 pub struct DerivedAnswer {
     pub unit: i64,
     pub total: i64,

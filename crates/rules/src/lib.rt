@@ -140,7 +140,7 @@ pub const LINE_SIZE: usize = 16;
 // A price: for one piece and for all, how many lines were written, which granted names brought none (a bit for each place, the lowest
 // for place 1) and how many those are, the number of the refusal or 0, and the currency.
 #[repr(C)]
-#[derive(Drop)]
+#[derive(Clone, Copy)]
 pub struct PriceAnswer {
     pub unit: i64,
     pub total: i64,
@@ -178,7 +178,7 @@ pub struct PlacedAnswer {
 
 // Packaging data: the gross weight, the eight values, which of them are present (a bit for each), and the units of length, volume and weight.
 #[repr(C)]
-#[derive(Drop)]
+#[derive(Clone, Copy)]
 pub struct PackagingAnswer {
     pub gross: i64,
     pub values: [i64; 8],

@@ -28,7 +28,7 @@ pub const NO_STRETCH: Stretch = Stretch {
 };
 
 // The first n of the list count; behind them stand empty ones, which are no stretch of any days.
-#[derive(Drop)]
+#[derive(Clone, Copy)]
 pub struct Stretches {
     pub list: [Stretch; 1096],
     pub n: usize,

@@ -1,0 +1,14 @@
+-- `stretches::walk::stretches_of` meets its contract: the stretches closed, the one in hand and the days to come make up the whole, by
+-- the laws `by-..`.
+use Prim.Native.Nat.{◌-◌}
+use lib.ListN.{length}
+use borrow.Author.Rules.{rules}
+use Rattle.stretches.specs.Stretches.{GoingBy}
+use Rattle.stretches.proofs.WalkLaws.{by_start, by_turn, by_end}
+use Rattle.stretches.proofs.walk.stretches_of.Given as goal
+
+abbrev pub invariant-loop-i : goal.invariant-loop-i
+invariant-loop-i l = GoingBy l.dates l.marks l.outcomes l.list l.n l.i
+
+abbrev pub decreases-loop-i : goal.decreases-loop-i
+decreases-loop-i l = length l.dates - l.i
