@@ -25,9 +25,8 @@ use Rattle.layout.proofs.PileLaws.{Piling, pile_start, pile_again, pile_end}
 use Rattle.questions.specs.Questions.{no_question}
 use Rattle.wanted.specs.declared.Sights.{Sights}
 use Rattle.price.specs.declared.answered.Answered.{Answered}
-use Rattle.price.specs.Answered.{PutsIfRoom, AnsweredIs, lines_to}
-use Rattle.basket.specs.declared.answers.Answers.{Answers}
-use Rattle.basket.specs.Basket.{asked, Basketed, outcomes, all_answers, all_lines, totals_bytes, AnswerPut, Kept, AnswersAre}
+use Rattle.price.specs.Answered.{PutsIfRoom, AnsweredIs}
+use Rattle.basket.specs.Basket.{Basketed, outcomes, all_lines, totals_bytes, AnswerPut, Kept, AnswersAre}
 use Rattle.basket.proofs.AskedLaws.{outcomes_count, answers_size, nth}
 
 -- ---- an answer

@@ -2,14 +2,14 @@
 use Prim.Native.Nat.{ℕ, ◌*◌, ◌≤◌, ◌<◌}
 use mathlib.Core.Path.{◌≡◌, sym, ◌∙◌, ap, subst}
 use mathlib.Core.List.{List, map}
-use mathlib.Core.Option.{some, some-injective}
+use mathlib.Core.Option.{some-injective}
 use native.Mathlib.Omega.{arith}
 use lib.ListN.{length, get_or, length-append, length-map, get_or-map}
-use Rattle.rules.specs.Lists.{is_some, join}
-use Rattle.rules.specs.Question.{Question, question_of}
+use Rattle.rules.specs.Lists.{is_some}
+use Rattle.rules.specs.Question.{Question}
 use Rattle.rules.specs.Refusals.{Result}
 use Rattle.rules.specs.Price.{Answer, answered}
-use Rattle.rules.specs.Basket.{answer_size, answer_in, lines_in, basket_bytes}
+use Rattle.rules.specs.Basket.{answer_size, basket_bytes}
 use Rattle.rules.proofs.CurrencyLaws.{rows_in_letters}
 use Rattle.rules.proofs.BasketLaws.{basket_size}
 use Rattle.layout.specs.Reads.{part}

@@ -14,13 +14,12 @@ use Rattle.rules.specs.BookLayout.{records}
 use Rattle.rules.specs.Lines.{line_size}
 use Rattle.rules.specs.Question.{Question}
 use Rattle.rules.specs.Questions.{questions_of}
-use Rattle.rules.specs.Refusals.{Result, done, refused, ◌>>=◌, refuse_unless, over, lent_after}
+use Rattle.rules.specs.Refusals.{Result, done, refused, ◌>>=◌, refuse_unless, lent_after}
 use Rattle.rules.specs.Price.{Answer}
 use Rattle.rules.specs.Basket.{most_basket, basket_bytes, basket, shown_basket, lent_after_basket}
 use Rattle.rules.specs.declared.Written.{Written}
 use Rattle.rules.proofs.ListLaws.{absent, present}
 use Rattle.layout.specs.Ensures.{Puts, PutsTo}
-use Rattle.layout.specs.Records.{records_left}
 use Rattle.layout.proofs.StoreLaws.{puts_then, puts_front}
 use Rattle.book.proofs.WalkLaws.{book_left}
 use Rattle.questions.specs.declared.Questions.{Questions}

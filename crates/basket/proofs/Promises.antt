@@ -8,14 +8,12 @@ use Rattle.rules.specs.Lists.{join}
 use Rattle.rules.specs.Lines.{line_size, most_lines_size}
 use Rattle.rules.specs.Refusals.{Result, done, refused, number_of}
 use Rattle.rules.specs.Price.{Answer, price}
-use Rattle.rules.specs.Basket.{answer_size, answer_bytes, answer_in, lines_in, most_basket_size, basket, shown_basket, lent_after_basket}
-use Rattle.rules.specs.declared.PriceAnswer.{PriceAnswer}
+use Rattle.rules.specs.Basket.{answer_size, answer_in, lines_in, most_basket_size, basket, shown_basket, lent_after_basket}
 use Rattle.rules.specs.declared.Written.{Written}
 use Rattle.rules.proofs.BasketLaws.{BasketRefusal, basket_never}
 use Rattle.rules.proofs.Promises.{refused_basket, basket_numbers, basket_room_enough, basket_is_price, basket_answer, basket_lines}
-use Rattle.price.specs.Call.{PriceIs}
 use Rattle.basket.specs.Basket.{BasketIs}
-use Rattle.basket.specs.Read.{lines_before, StandsFor, EachPriced}
+use Rattle.basket.specs.Read.{lines_before, EachPriced}
 use Rattle.basket.proofs.ReadLaws.{any_default, answer_of, count_of, front_of}
 
 module _ {b s lent : List ℕ} {r : Written} {after : List ℕ} (is : BasketIs b s lent r after) where

@@ -1,13 +1,12 @@
 -- A price by itself: its lines stand at the front of its output, and there are as many bytes of them as it says.
 use Prim.Native.Nat.{ℕ, zero, suc, ◌*◌, ◌<◌}
 use mathlib.Core.Path.{◌≡◌, refl, sym, ◌∙◌, ap}
-use mathlib.Core.List.{List, [], ◌∷◌, ◌++◌, map}
+use mathlib.Core.List.{List, [], ◌∷◌}
 use native.Mathlib.Omega.{arith}
 use lib.ListN.{length, take, drop, get_or, length-append}
 use lib.Seq.{take_at}
-use Rattle.rules.specs.Lists.{join}
 use Rattle.rules.specs.Lines.{Line, line_size, line_bytes, lines_bytes}
-use Rattle.rules.specs.Refusals.{Result, done, refused, over, lent_after}
+use Rattle.rules.specs.Refusals.{Result, done, refused, lent_after}
 use Rattle.rules.specs.Price.{Answer, price, shown}
 use Rattle.rules.specs.Basket.{answer_bytes, answer_in, lines_in}
 use Rattle.rules.specs.declared.PriceAnswer.{PriceAnswer}

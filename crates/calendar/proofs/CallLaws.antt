@@ -1,5 +1,5 @@
 -- The call: what is listed, if it fits; else the refusals behind it, and nothing is written.
-use Prim.Native.Nat.{ℕ, ◌+◌, ◌*◌, ◌≤◌, ◌<◌}
+use Prim.Native.Nat.{ℕ, ◌*◌, ◌≤◌, ◌<◌}
 use native.Mathlib.Nat.{zero-add}
 use mathlib.Core.Path.{◌≡◌, refl, sym, ◌∙◌, ap}
 use mathlib.Core.Bool.{Bool, true, false, cond}
@@ -14,7 +14,7 @@ use Rattle.rules.specs.Calendar.{Stretch, stretches_bytes, listing, finished, ca
 use Rattle.layout.specs.Ensures.{Puts}
 use Rattle.calendar.specs.declared.listing.Listing.{Listing}
 use Rattle.calendar.specs.Calls.{CalendarIs}
-use Rattle.calendar.specs.Listing.{stretches_in, listed, ListingIs, refusal_of, RefusalIs, Writable}
+use Rattle.calendar.specs.Listing.{stretches_in, ListingIs, refusal_of, RefusalIs, Writable}
 use Rattle.calendar.proofs.ByteLaws.{bytes_length}
 
 -- ---- the definition's call in two parts

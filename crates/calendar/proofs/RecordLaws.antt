@@ -9,7 +9,7 @@ use lib.ListN.{length, take, drop, get_or, set, length-set, length-map}
 use lib.Seq.{length-take-le, take-suc, drop-cons, set_at, append_snoc}
 use borrow.Author.Tests.{eqb-true, eqb-false}
 use Rattle.rules.specs.Refusals.{done, refused, lent_after}
-use Rattle.rules.specs.Calendar.{Stretch, calendar_list, shown_records, lent_after_list, most_days, listing}
+use Rattle.rules.specs.Calendar.{calendar_list, shown_records, lent_after_list, most_days, listing}
 use Rattle.rules.specs.declared.CalendarAnswer.{CalendarAnswer}
 use Rattle.stretches.specs.declared.Stretch as Declared
 use Rattle.stretches.specs.Stretches.{as_stretch, record_of, no_stretch}

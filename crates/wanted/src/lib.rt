@@ -21,7 +21,7 @@ use survey::Sighted;
 use survey::window::{Noted, Span, note_spot};
 
 // What was kept of the article of each name on the list, and what was noted of the roundings, once for all of them.
-#[derive(Drop)]
+#[derive(Clone, Copy)]
 pub struct Sights {
     pub all: [Sighted; 500],
     pub noted: Noted,

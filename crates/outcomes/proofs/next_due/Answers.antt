@@ -1,7 +1,6 @@
 -- `outcomes::next_due` meets its contract: none that has gone by is marked, by the laws `seek-..`.
-use Prim.Native.Nat.{◌-◌}
 use borrow.Author.Rules.{rules}
-use Rattle.outcomes.proofs.OutcomeLaws.{Seeking, seek_start, seek_turn, seek_end}
+use Rattle.outcomes.proofs.OutcomeLaws.{seek_start, seek_turn, seek_end}
 use Rattle.outcomes.proofs.next_due.Goals as goal
 
 ruleset laws = (rules, seek_start, seek_turn, seek_end)

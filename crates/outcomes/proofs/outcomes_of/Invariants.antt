@@ -1,9 +1,7 @@
 -- `outcomes::outcomes_of` meets its contract: the days that have gone by and are due have their outcomes, by the laws `price-..`.
 use Prim.Native.Nat.{◌-◌}
 use lib.ListN.{length}
-use borrow.Author.Rules.{rules}
 use Rattle.outcomes.specs.Outcomes.{Pricing}
-use Rattle.outcomes.proofs.OutcomeLaws.{at_shared, price_start, price_block, price_few, price_turn, price_end}
 use Rattle.outcomes.proofs.outcomes_of.Given as goal
 
 abbrev pub invariant-loop-i : goal.invariant-loop-i

@@ -2,9 +2,7 @@
 -- the laws `by-..`.
 use Prim.Native.Nat.{◌-◌}
 use lib.ListN.{length}
-use borrow.Author.Rules.{rules}
 use Rattle.stretches.specs.Stretches.{GoingBy}
-use Rattle.stretches.proofs.WalkLaws.{by_start, by_turn, by_end}
 use Rattle.stretches.proofs.walk.stretches_of.Given as goal
 
 abbrev pub invariant-loop-i : goal.invariant-loop-i
