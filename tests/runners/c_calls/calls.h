@@ -5,8 +5,7 @@
 
 #include "rafttwine.h"
 
-/* The programs are also compiled for x86-64 on machines with an Arm processor, which have no headers of a C library for x86-64: what
- * they call of it is declared here. */
+/* The programs are also compiled by the kit's compiler, which has no headers of a C library: what they call of it is declared here. */
 int chdir(const char *path);
 int close(int file);
 int memcmp(const void *one, const void *other, size_t length);
