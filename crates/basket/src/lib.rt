@@ -2,8 +2,8 @@
 #![tactic(auto)]
 
 mod answers;
-mod lines;
 mod located;
+mod question_lines;
 
 ghost use Rattle.std.specs.Prelude.{◌≡◌};
 ghost use Rattle.rules.specs.Refusals.{refused};
@@ -11,8 +11,8 @@ ghost use Rattle.rules.specs.Basket.{shown_basket};
 ghost use Rattle.basket.specs.Basket.{Basketed, BasketIs};
 
 use crate::answers::{ANSWER_SIZE, answers_to};
-use crate::lines::put_lines;
 use crate::located::locate;
+use crate::question_lines::put_lines;
 use layout::strings::put_bytes;
 use questions::questions_of;
 use rules::{LINE_SIZE, Written};

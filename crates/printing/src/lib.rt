@@ -3,5 +3,5 @@
 
 pub mod decimal;
 mod input;
-mod lines;
 pub mod output;
+mod stretch_line;

@@ -8,7 +8,7 @@ ghost use Rattle.printing.specs.Output.{lines_text, listed_text, Few, Printable,
 
 use crate::decimal::put_digits;
 use crate::input::{end_of, front};
-use crate::lines::{put_byte, put_stretch};
+use crate::stretch_line::{put_byte, put_stretch};
 use calendar::listing::{Listing, listing_of, refused};
 use stretches::Stretches;
 

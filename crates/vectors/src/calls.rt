@@ -1,7 +1,7 @@
 // One vector through its call. What a call may write is lent filled, and is printed whole afterwards, with some bytes behind it.
 ghost use Rattle.std.specs.Prelude.{◌≤◌};
 
-use crate::fields::{bytes, number, signed, three};
+use crate::line_fields::{bytes, number, signed, three};
 use layout::names::same_bytes;
 use relation_rules::DerivedAnswer;
 use rules::{PlacedAnswer, PriceAnswer, TextAnswer};

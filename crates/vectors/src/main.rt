@@ -4,7 +4,7 @@
 #![tactic(auto)]
 
 mod calls;
-mod fields;
+mod line_fields;
 
 ghost use Rattle.std.specs.Prelude.{◌≡◌, ◌+◌, ◌≤◌, ◌<◌, length, IfOk};
 

@@ -1,11 +1,11 @@
--- `printing::lines::put_stretch` meets its contract: the parts one behind the other, with room for each (`room`), are the line (`line_prints`).
+-- `printing::stretch_line::put_stretch` meets its contract: the parts one behind the other, with room for each (`room`), are the line (`line_prints`).
 use native.Mathlib.Omega.{arith}
 use borrow.Author.Rules.{rules}
 use mir.Syntax.{w64}
 use mir.Val.{SFits}
 use mir.ValLaws.{to_z-of_z}
 use Rattle.printing.proofs.LineLaws.{room₁, room₂, room₃, room₄, room₅, line_prints}
-use Rattle.printing.proofs.lines.put_stretch.Goals as goal
+use Rattle.printing.proofs.stretch_line.put_stretch.Goals as goal
 
 pub put_number-b-requires : goal.put_number-b-requires
 put_number-b-requires c =

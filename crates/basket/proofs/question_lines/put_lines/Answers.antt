@@ -1,7 +1,7 @@
--- `basket::lines::put_lines` meets its contract: what was kept by `kept_put`, else by `put_all_lines`.
+-- `basket::question_lines::put_lines` meets its contract: what was kept by `kept_put`, else by `put_all_lines`.
 use borrow.Author.Rules.{rules}
 use Rattle.basket.proofs.LineLaws.{kept_room, kept_put}
-use Rattle.basket.proofs.lines.put_lines.Goals as goal
+use Rattle.basket.proofs.question_lines.put_lines.Goals as goal
 
 ruleset laws = (rules, kept_room, kept_put)
 

@@ -1,7 +1,7 @@
--- `basket::lines::put_all_lines` meets its contract: the lines of question after question, by the laws `lines-..`.
+-- `basket::question_lines::put_all_lines` meets its contract: the lines of question after question, by the laws `lines-..`.
 use Prim.Native.Nat.{◌-◌}
 use Rattle.basket.proofs.LineLaws.{Listing}
-use Rattle.basket.proofs.lines.put_all_lines.Given as goal
+use Rattle.basket.proofs.question_lines.put_all_lines.Given as goal
 
 abbrev pub invariant-loop-j : goal.invariant-loop-j
 invariant-loop-j l =

@@ -1,6 +1,6 @@
 use borrow.Author.Rules.{rules}
 use Rattle.printing.proofs.LineLaws.{blank_room, number_blank}
-use Rattle.printing.proofs.lines.put_number.Goals as goal
+use Rattle.printing.proofs.stretch_line.put_number.Goals as goal
 
 ruleset laws = (rules, blank_room, number_blank)
 

@@ -1,8 +1,8 @@
--- `basket::lines::put_all_lines` meets its contract: the lines of question after question, by the laws `lines-..`.
+-- `basket::question_lines::put_all_lines` meets its contract: the lines of question after question, by the laws `lines-..`.
 use borrow.Author.Rules.{rules}
 use Rattle.basket.proofs.AskedLaws.{part_low, part_fits, ready_at}
 use Rattle.basket.proofs.LineLaws.{lines_start, lines_again, lines_end}
-use Rattle.basket.proofs.lines.put_all_lines.Goals as goal
+use Rattle.basket.proofs.question_lines.put_all_lines.Goals as goal
 
 ruleset laws = (rules, part_low, part_fits, ready_at, lines_start, lines_again, lines_end)
 

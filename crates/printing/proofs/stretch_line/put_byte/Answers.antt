@@ -1,6 +1,6 @@
 use borrow.Author.Rules.{rules}
 use Rattle.printing.proofs.DigitLaws.{prints_one}
-use Rattle.printing.proofs.lines.put_byte.Goals as goal
+use Rattle.printing.proofs.stretch_line.put_byte.Goals as goal
 
 ruleset laws = (rules, prints_one)
 

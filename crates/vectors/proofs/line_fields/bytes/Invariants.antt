@@ -1,6 +1,6 @@
--- `vectors::fields::bytes` is safe and ends: the text has two digits for each byte read.
+-- `vectors::line_fields::bytes` is safe and ends: the text has two digits for each byte read.
 use Rattle.std.proofs.Common.{length, ◌≡◌, ◌-◌, ◌≤◌}
-use Rattle.vectors.proofs.fields.bytes.Given as goal
+use Rattle.vectors.proofs.line_fields.bytes.Given as goal
 
 abbrev pub invariant-loop-i : goal.invariant-loop-i
 invariant-loop-i g l = (l.i ≤ l.n) × (length l.text ≡ 4096)

@@ -1,9 +1,9 @@
--- `printing::lines::put_word` meets its contract: four bytes, by `word_prints`.
+-- `printing::stretch_line::put_word` meets its contract: four bytes, by `word_prints`.
 use native.Mathlib.Omega.{arith}
 use lib.ListN.{length-set}
 use borrow.Author.Rules.{rules}
 use Rattle.printing.proofs.LineLaws.{word_prints}
-use Rattle.printing.proofs.lines.put_word.Goals as goal
+use Rattle.printing.proofs.stretch_line.put_word.Goals as goal
 
 ruleset laws = (rules, word_prints)
 
