@@ -1,6 +1,6 @@
 -- A field that a semicolon follows is the same field, whatever stands behind its line.
 use Prim.Native.Nat.{ℕ, ◌<◌}
-use mathlib.Core.Path.{◌≡◌, refl, sym, ◌∙◌, ap, subst}
+use mathlib.Core.Path.{◌≡◌, refl, sym, ◌∙◌, ap}
 use mathlib.Core.Bool.{Bool, true, false, ◌||◌}
 use mathlib.Core.List.{List, [], ◌∷◌, ◌++◌}
 use mathlib.Core.Option.{Option, some, none, some-injective, none-ne-some}
@@ -9,7 +9,7 @@ use lib.Dec.{eqb}
 use lib.ListN.{length}
 use borrow.Author.Tests.{eqb-true}
 use Rattle.rules.specs.Layout.{and_then, give_if, front}
-use Rattle.file_rules.specs.Fields.{semicolon, quote, space, starts_with, onto, cut, inside, past_spaces, spaced, field_by, field, next_field}
+use Rattle.file_rules.specs.Fields.{semicolon, quote, space, onto, cut, inside, past_spaces, spaced, field_by, field, next_field}
 use Rattle.file_rules.proofs.FieldLaws.{cut_at, cut_on, inside_other, inside_two, inside_last, past_on, past_at}
 
 abbrev Read : Type 0

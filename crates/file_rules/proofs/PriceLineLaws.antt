@@ -10,7 +10,7 @@ use lib.IntN.{ℤ, pos, negsuc, nat_abs}
 use lib.ListN.{length}
 use borrow.Author.Tests.{eqb-true, leb-true, ltb-true}
 use Rattle.rules.specs.Lists.{all, any, between}
-use Rattle.rules.specs.Letters.{letter, text}
+use Rattle.rules.specs.Letters.{letter}
 use Rattle.rules.specs.Layout.{Layout, and_then, ◌>>=◌, give_if, ◌such◌, must, back, wholly}
 use Rattle.rules.specs.Bytes.{name_byte, capitals, either_side}
 use Rattle.rules.specs.Book.{Row, sale, purchase, base, surcharge, discount}

@@ -1,5 +1,5 @@
 -- `floor z d` is the one whole number q with q·d ≤ z < q·d + d, and how code comes to it.
-use Prim.Native.Nat.{ℕ, zero, suc, ◌+◌, ◌*◌, ◌/◌, ◌<◌, ◌≤◌}
+use Prim.Native.Nat.{ℕ, suc, ◌+◌, ◌/◌, ◌<◌, ◌≤◌}
 use mathlib.Core.Path.{◌≡◌, refl}
 use native.Mathlib.Nat.{div-le_self, div-mul-le_self, lt-div-mul-add, suc-mul, mul-zero, zero-mul, add-mul, le_of_suc-le-suc, lt_of_mul-lt-mul_right}
 use native.Mathlib.Omega.{arith}

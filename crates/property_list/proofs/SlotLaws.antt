@@ -1,9 +1,9 @@
 -- The slots of a list of properties: the slot of a name, and the loop that fills them.
 use Prim.Native.Nat.{ℕ, zero, suc, ◌+◌, ◌-◌, ◌*◌, ◌%◌, ◌≤◌, ◌<◌}
 use mathlib.Core.Path.{◌≡◌, refl, sym, ◌∙◌, ap, subst}
-use mathlib.Core.Bool.{Bool, true, false, cond}
+use mathlib.Core.Bool.{Bool, true, false}
 use mathlib.Core.List.{List, [], ◌∷◌, map}
-use mathlib.Core.Option.{some, some-injective}
+use mathlib.Core.Option.{some-injective}
 use native.Mathlib.Omega.{arith}
 use native.Mathlib.Decide.{dec_lt, ℕ_discrete}
 use lib.ListN.{length, get_or, set, replicate, length-set, length-replicate, get_or-replicate}
@@ -13,8 +13,8 @@ use Rattle.rules.specs.Lists.{same, is_some}
 use Rattle.rules.specs.Bytes.{raise}
 use Rattle.rules.proofs.ListLaws.{same_eq}
 use Rattle.layout.specs.Reads.{part}
-use Rattle.layout.specs.Ensures.{Says, Number}
-use Rattle.layout.proofs.CountedLaws.{pass_here, pass_again, pass_end}
+use Rattle.layout.specs.Ensures.{Number}
+use Rattle.layout.proofs.CountedLaws.{pass_here, pass_again}
 use Rattle.relation_rules.specs.Truth.{properties_of, value_in}
 use Rattle.property_list.specs.Listed.{value_stop, HeldStands, held_from, KindIs}
 use Rattle.property_list.specs.Slots.{slot_in, slot_of, least_of, HeldPass, LooksFrom, SlotsOf}

@@ -3,8 +3,8 @@ use Prim.Native.Nat.{ℕ, zero, suc}
 use Prim.Native.String as Str
 use mathlib.Core.Path.{◌≡◌, refl}
 use mathlib.Core.List.{List, [], ◌∷◌, ◌++◌, map}
-use mathlib.Core.Option.{Option, some, none}
-use lib.IntN.{pos, negsuc}
+use mathlib.Core.Option.{some, none}
+use lib.IntN.{pos}
 use lib.ListN.{replicate}
 use Rattle.rules.specs.Letters.{text}
 use Rattle.relation_rules.specs.Grammar as Relations

@@ -1,17 +1,17 @@
 -- Depth: a text is read alike under every limit that it keeps, and every tree keeps some limit.
-use Prim.Native.Nat.{ℕ, zero, suc, ◌+◌, ◌-◌, ◌≤◌, ◌<◌}
+use Prim.Native.Nat.{ℕ, suc, ◌+◌, ◌-◌, ◌≤◌}
 use mathlib.Core.Path.{◌≡◌, refl, sym, ◌∙◌, ap, subst}
-use mathlib.Core.Bool.{Bool, true, false, ◌&&◌, ◌||◌, not, cond, false≢true}
-use mathlib.Core.List.{List, [], ◌∷◌, ◌++◌, map}
-use mathlib.Core.Option.{Option, some, none, none-ne-some, some-injective}
+use mathlib.Core.Bool.{Bool, true, false, ◌&&◌, false≢true}
+use mathlib.Core.List.{List, [], ◌∷◌, ◌++◌}
+use mathlib.Core.Option.{Option, some, none}
 use native.Mathlib.Omega.{arith}
 use lib.Dec.{eqb, leb}
 use borrow.Author.Tests.{leb-true, le-leb}
 use Rattle.rules.specs.Lists.{if_some}
 use Rattle.rules.specs.Letters.{letter}
 use Rattle.relation_rules.specs.Grammar.{Chain, One, More, Assignment, OrChain, FirstAnd, Or, AndChain, FirstSingle, And, Single, Comparison, Specified, Among, Not, Group, or_within, and_within, single_within, condition_within, within, goes_on, is_blank}
-use Rattle.rules.specs.PlacedRefusals.{ResultAt, Done, RefusedAt}
-use Rattle.relation_rules.specs.Reader.{State, next, viable, Spot, Between, Inside, Step, Go, Stop, Deep, too_deep, beginning, begin, behind, begin_in, going, step, final, or_cut, onward, run}
+use Rattle.rules.specs.PlacedRefusals.{RefusedAt}
+use Rattle.relation_rules.specs.Reader.{State, next, viable, Spot, Between, Inside, Step, Go, Stop, Deep, too_deep, beginning, begin, behind, begin_in, going, step, onward, run}
 use Rattle.rules.proofs.TestLaws.{and_left, and_right, both}
 use Rattle.relation_rules.proofs.SoundLaws.{number_of}
 

@@ -1,15 +1,14 @@
 -- The price call with derived names: it is the price of the same question with these names granted.
 use Prim.Native.Nat.{ℕ}
-use mathlib.Core.Path.{◌≡◌, refl, ◌∙◌}
-use mathlib.Core.Bool.{Bool, true, false}
+use mathlib.Core.Path.{◌≡◌, refl}
 use mathlib.Core.List.{List}
-use mathlib.Core.Option.{Option, some, none}
+use mathlib.Core.Option.{some, none}
 use Rattle.rules.specs.Book.{Record}
 use Rattle.rules.specs.BookLayout.{records}
-use Rattle.rules.specs.Question.{Question, question_of}
+use Rattle.rules.specs.Question.{question_of}
 use Rattle.rules.specs.Refusals.{Result, done, refused}
 use Rattle.rules.specs.Refusals as Refusals
-use Rattle.rules.specs.PlacedRefusals.{ResultAt, Done, RefusedAt, ◌>>=◌}
+use Rattle.rules.specs.PlacedRefusals.{Done, RefusedAt, ◌>>=◌}
 use Rattle.rules.specs.Price.{Answer, price, answered, in_room}
 use Rattle.relation_rules.specs.Derived.{unplaced, granting, Derivation, derivation, price_derived}
 

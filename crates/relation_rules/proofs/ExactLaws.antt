@@ -1,11 +1,11 @@
 -- The places of refusals 14 and 15 are settled: what is promised of them holds of no other place, and of no text that is read.
-use Prim.Native.Nat.{ℕ, zero, suc, ◌+◌}
+use Prim.Native.Nat.{ℕ, ◌+◌}
 use mathlib.Core.Path.{◌≡◌, refl, sym, ◌∙◌, ap, subst}
 use mathlib.Core.Bool.{Bool, true, false, false≢true}
 use mathlib.Core.List.{List, [], ◌∷◌, ◌++◌}
 use lib.ListN.{length}
 use Rattle.rules.specs.Letters.{letter}
-use Rattle.relation_rules.specs.Grammar.{Chain, Assignment, Reads, ReadsAs, deepest}
+use Rattle.relation_rules.specs.Grammar.{Chain, Assignment, Reads, ReadsAs}
 use Rattle.rules.specs.PlacedRefusals.{ResultAt, Done, RefusedAt}
 use Rattle.relation_rules.specs.Reader.{relation_of}
 use Rattle.relation_rules.specs.Faults.{NoText, WrongAt, DeepAt, Number, fourteen, fifteen}

@@ -1,24 +1,24 @@
 -- What is promised of relation texts: one reading, exactly the grammar, and the places of refusals 14 and 15.
-use Prim.Native.Nat.{ℕ, zero, suc, ◌+◌, ◌-◌, ◌≤◌, ◌<◌}
+use Prim.Native.Nat.{ℕ, suc, ◌+◌, ◌≤◌}
 use mathlib.Core.Path.{◌≡◌, refl, sym, ◌∙◌, ap, subst}
-use mathlib.Core.Bool.{Bool, true, false, ◌&&◌, ◌||◌, not, false≢true}
+use mathlib.Core.Bool.{Bool, true, false, ◌&&◌, false≢true}
 use mathlib.Core.List.{List, [], ◌∷◌, ◌++◌}
 use mathlib.Core.Option.{Option, some, none, none-ne-some}
 use native.Mathlib.Omega.{arith}
 use lib.Dec.{eqb, leb}
 use lib.ListN.{length}
-use borrow.Author.Tests.{leb-true, le-leb, eqb-true}
+use borrow.Author.Tests.{leb-true, eqb-true}
 use Rattle.rules.specs.Lists.{if_some}
 use Rattle.rules.specs.Letters.{letter}
-use Rattle.relation_rules.specs.Grammar.{Chain, Assignment, past, goes_on, is_blank, Reads, ReadsAs, deepest, within}
-use Rattle.rules.specs.PlacedRefusals.{ResultAt, Done, RefusedAt}
+use Rattle.relation_rules.specs.Grammar.{Chain, Assignment, past, goes_on, is_blank, Reads, ReadsAs, deepest}
+use Rattle.rules.specs.PlacedRefusals.{Done, RefusedAt}
 use Rattle.relation_rules.specs.Faults.{NoText, WrongAt, DeepAt, Number, fourteen, fifteen}
-use Rattle.relation_rules.specs.Reader.{State, Start, AtVariable, AtBecomes, AtValue, AtCondition, AtSpecified, AtOperand, AtSign, AtIn, AtOpen, AtListed, AtComma, AtSingle, next, viable, Spot, Between, Inside, Step, Go, Stop, Deep, too_deep, beginning, begin, behind, begin_in, going, step, final, or_cut, onward, run, relation_of}
+use Rattle.relation_rules.specs.Reader.{State, Start, AtVariable, AtBecomes, AtValue, AtCondition, AtSpecified, AtOperand, AtSign, AtIn, AtOpen, AtListed, AtComma, AtSingle, next, viable, Spot, Between, Inside, Step, Go, Stop, Deep, too_deep, beginning, begin, behind, begin_in, going, step, or_cut, onward, run, relation_of}
 use Rattle.rules.proofs.TestLaws.{and_left, and_right}
-use Rattle.relation_rules.proofs.SoundLaws.{refused_fine, fine_injective, number_of, read_spelled, read_within}
+use Rattle.relation_rules.proofs.SoundLaws.{refused_fine, fine_injective, read_spelled, read_within}
 use Rattle.relation_rules.proofs.ReadLaws.{read, within_read}
 use Rattle.relation_rules.proofs.DepthLaws.{within_more, depth_of, deep_enough, refused_more}
-use Rattle.relation_rules.proofs.PlaceLaws.{Good, Completes, completes, Halt, cut, wrong, deep, Stuck, stuck}
+use Rattle.relation_rules.proofs.PlaceLaws.{Good, completes, Halt, cut, wrong, deep, stuck}
 
 -- ---- one reading
 

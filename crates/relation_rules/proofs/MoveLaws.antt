@@ -1,20 +1,20 @@
 -- What code that reads relation texts cites: how the reader moves over blanks, tokens, conditions and assignments, and where it stops.
 -- Code keeps no tree. A contract says that there is one: from the place where the code began to the place that it reached, the reader moves over that tree.
-use Prim.Native.Nat.{ℕ, zero, suc, ◌+◌, ◌-◌, ◌≤◌, ◌<◌}
+use Prim.Native.Nat.{ℕ, suc, ◌+◌}
 use mathlib.Core.Path.{◌≡◌, refl, sym, ◌∙◌, ap, subst}
-use mathlib.Core.Bool.{Bool, true, false, ◌&&◌, ◌||◌, not, false≢true}
+use mathlib.Core.Bool.{Bool, true, false, ◌&&◌, ◌||◌, not}
 use mathlib.Core.List.{List, [], ◌∷◌, ◌++◌, map}
-use mathlib.Core.Option.{Option, some, none, none-ne-some, some-injective}
+use mathlib.Core.Option.{Option, some, none}
 use native.Mathlib.Omega.{arith}
 use lib.Dec.{leb, ltb}
 use lib.ListN.{length}
 use Rattle.rules.specs.Lists.{all, any}
 use Rattle.rules.specs.Letters.{text, letter}
-use Rattle.relation_rules.specs.Grammar.{capital, Token, Variable, Fixed, Name, Quoted, Whole, Chain, One, More, further, Sign, Less, LessWord, AtMost, AtMostWord, Equal, EqualWord, Unequal, UnequalWord, AtLeast, AtLeastToo, AtLeastWord, Greater, GreaterWord, sign_text, Constant, Text, Number, constant_token, Operand, Property, Given, operand_token, OrChain, FirstAnd, Or, AndChain, FirstSingle, And, Single, Comparison, Specified, Among, Not, Group, Assignment, token_of, goes_on, apart, past, is_blank}
+use Rattle.relation_rules.specs.Grammar.{capital, Token, Variable, Fixed, Name, Quoted, Chain, One, More, further, Sign, Less, LessWord, AtMost, AtMostWord, Equal, EqualWord, Unequal, UnequalWord, AtLeast, AtLeastToo, AtLeastWord, Greater, GreaterWord, sign_text, Constant, Text, Number, constant_token, Operand, Property, Given, operand_token, OrChain, FirstAnd, Or, AndChain, FirstSingle, And, Single, Comparison, Specified, Among, Not, Group, Assignment, goes_on, past, is_blank}
 use Rattle.rules.specs.PlacedRefusals.{ResultAt, Done, RefusedAt}
-use Rattle.relation_rules.specs.Reader.{Part, fresh, Around, State, Start, AtVariable, AtBecomes, AtValue, AtCondition, AtSpecified, AtOperand, AtSign, AtIn, AtOpen, AtListed, AtComma, AtSingle, ended, assigned, or_of, closing, fixed_only, begins, fits, next, complete, take, viable, Spot, Between, Inside, too_deep, begin, behind, step, final, or_cut, run}
+use Rattle.relation_rules.specs.Reader.{Part, fresh, Around, State, Start, AtVariable, AtBecomes, AtValue, AtCondition, AtSpecified, AtOperand, AtSign, AtIn, AtOpen, AtListed, AtComma, AtSingle, ended, assigned, or_of, closing, fixed_only, begins, fits, next, complete, take, viable, Between, Inside, too_deep, begin, behind, step, final, or_cut, run}
 use Rattle.relation_rules.specs.Parts.{TokenAt, behind_or, behind_assignment, OverSingle, OverAnd, OverOr, OverValues, StopsSingle, StopsAnd, StopsOr, SingleTrue, AndTrue, OrTrue, AtStart, Assigned}
-use Rattle.relation_rules.specs.Truth.{Truth, either, together, opposite, truth_of, has_value, value_in, comparison, among, or_truth, and_truth, single_truth, Held, granted_by, grantable, most_names, with_name, names_from, list_of}
+use Rattle.relation_rules.specs.Truth.{Truth, either, together, opposite, truth_of, has_value, value_in, comparison, or_truth, Held, granted_by, grantable, most_names, with_name, names_from, list_of}
 use Rattle.rules.proofs.TestLaws.{and_left, and_right, or_false}
 use Rattle.relation_rules.proofs.ReaderLaws.{admits}
 use Rattle.relation_rules.proofs.SoundLaws.{refused_fine}

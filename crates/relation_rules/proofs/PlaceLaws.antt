@@ -1,23 +1,17 @@
 -- The place of a refusal: what stands before it is the beginning of a text of the grammar, and with the byte at it, it is not.
-use Prim.Native.Nat.{ℕ, zero, suc, ◌+◌, ◌-◌, ◌≤◌, ◌<◌}
+use Prim.Native.Nat.{ℕ, suc, ◌≤◌}
 use mathlib.Core.Path.{◌≡◌, refl, sym, ◌∙◌, ap, subst}
-use mathlib.Core.Bool.{Bool, true, false, ◌&&◌, ◌||◌, not, cond, false≢true}
-use mathlib.Core.List.{List, [], ◌∷◌, ◌++◌, map}
-use mathlib.Core.Option.{Option, some, none, none-ne-some, some-injective}
-use native.Mathlib.Omega.{arith}
-use lib.Dec.{eqb, leb}
-use lib.ListN.{length}
-use Rattle.rules.specs.Lists.{same, all, any, between, is_some, if_some}
-use Rattle.rules.specs.Letters.{text, letter}
-use Rattle.relation_rules.specs.Grammar.{Token, Chain, Assignment, OrChain, AndChain, token_of, goes_on, apart, past, is_blank, ReadsAs, Reads, deepest, within, in_quotes, reserved}
-use Rattle.rules.specs.PlacedRefusals.{ResultAt, Done, RefusedAt}
-use Rattle.relation_rules.specs.Reader.{Part, Around, State, Start, AtVariable, AtBecomes, AtValue, AtCondition, AtSpecified, AtOperand, AtSign, AtIn, AtOpen, AtListed, AtComma, AtSingle, next, complete, take, viable, Spot, Between, Inside, Step, Go, Stop, Deep, too_deep, beginning, begin, then_take, behind, begin_in, going, step, complete_in, final, or_cut, onward, run, relation_of}
-use native.Mathlib.Nat.{le_trans}
-use borrow.Author.Tests.{leb-true, le-leb}
-use Rattle.relation_rules.proofs.TokenEnds.{Ended, viable_ended, ends_at_blank}
+use mathlib.Core.Bool.{Bool, true, false, not, false≢true}
+use mathlib.Core.List.{List, [], ◌∷◌, ◌++◌}
+use mathlib.Core.Option.{Option, some, none}
+use Rattle.rules.specs.Letters.{text}
+use Rattle.relation_rules.specs.Grammar.{Chain, Assignment, OrChain, AndChain, token_of, goes_on, past, is_blank, in_quotes, reserved}
+use Rattle.rules.specs.PlacedRefusals.{Done, RefusedAt}
+use Rattle.relation_rules.specs.Reader.{Part, State, Start, AtVariable, AtBecomes, AtValue, AtCondition, AtSpecified, AtOperand, AtSign, AtIn, AtOpen, AtListed, AtComma, AtSingle, next, complete, take, viable, Spot, Between, Inside, Step, Go, Stop, Deep, too_deep, beginning, begin, behind, begin_in, going, step, final, or_cut, onward, run}
+use Rattle.relation_rules.proofs.TokenEnds.{viable_ended, ends_at_blank}
 use Rattle.relation_rules.proofs.SoundLaws.{refused_fine, number_of, place_of}
 use Rattle.relation_rules.proofs.DepthLaws.{step_more}
-use Rattle.relation_rules.proofs.ReadLaws.{within_read, blank_read, token_read_on, token_ended, is_behind}
+use Rattle.relation_rules.proofs.ReadLaws.{blank_read, token_read_on, token_ended, is_behind}
 
 -- ---- steps and refusals apart
 

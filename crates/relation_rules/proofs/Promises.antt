@@ -12,7 +12,7 @@ use Rattle.rules.specs.BookLayout.{records}
 use Rattle.rules.specs.Question.{question_of}
 use Rattle.rules.specs.PlacedRefusals.{Done, RefusedAt}
 use Rattle.rules.specs.Price.{price}
-use Rattle.relation_rules.specs.Grammar.{Chain, Constant, Assignment, OrChain, Single, Specified, Among, Sign, Operand, Property, Reads, ReadsAs}
+use Rattle.relation_rules.specs.Grammar.{Chain, Constant, Assignment, OrChain, Specified, Among, Sign, Operand, Property, Reads, ReadsAs}
 use Rattle.relation_rules.specs.Reader.{relation_of}
 use Rattle.relation_rules.specs.Faults.{WrongAt, DeepAt, Number}
 use Rattle.relation_rules.specs.Truth.{Held, True, False, Undefined, either, together, opposite, comparison, value_in, or_truth, single_truth, granted_by, names_from}

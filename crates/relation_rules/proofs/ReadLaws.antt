@@ -1,12 +1,12 @@
 -- Every text of the grammar is read as its tree: blank by blank and token by token.
-use Prim.Native.Nat.{ℕ, zero, suc, ◌+◌, ◌-◌, ◌≤◌, ◌<◌}
-use mathlib.Core.Path.{◌≡◌, refl, sym, ◌∙◌, ap, subst}
-use mathlib.Core.Bool.{Bool, true, false, ◌&&◌, ◌||◌, not, false≢true}
-use mathlib.Core.List.{List, [], ◌∷◌, ◌++◌, map}
-use mathlib.Core.Option.{Option, some, none, none-ne-some, some-injective}
-use Rattle.relation_rules.specs.Grammar.{Token, Chain, Assignment, text_tokens, token_of, goes_on, apart, past, Spelled, end, blank, token, is_blank, ReadsAs, Reads, deepest, within}
-use Rattle.rules.specs.PlacedRefusals.{ResultAt, Done, RefusedAt}
-use Rattle.relation_rules.specs.Reader.{State, Start, complete, take, viable, Spot, Between, Inside, Step, Go, Stop, Deep, too_deep, beginning, begin, then_take, behind, begin_in, going, step, complete_in, final, or_cut, onward, run, relation_of}
+use Prim.Native.Nat.{ℕ, suc}
+use mathlib.Core.Path.{◌≡◌, sym, ◌∙◌, ap}
+use mathlib.Core.Bool.{true, false}
+use mathlib.Core.List.{List, [], ◌∷◌, ◌++◌}
+use mathlib.Core.Option.{some, none, none-ne-some}
+use Rattle.relation_rules.specs.Grammar.{Token, Chain, Assignment, token_of, goes_on, apart, past, Spelled, end, blank, token, is_blank, ReadsAs, Reads, deepest, within}
+use Rattle.rules.specs.PlacedRefusals.{Done}
+use Rattle.relation_rules.specs.Reader.{State, Start, complete, take, viable, Between, Inside, too_deep, begin, then_take, behind, step, final, or_cut, run, relation_of}
 use Rattle.rules.proofs.TestLaws.{not_so}
 use Rattle.relation_rules.proofs.ReaderLaws.{Accepts, stop, go, accepted, admits}
 use Rattle.relation_rules.proofs.SoundLaws.{append_one, fine_injective}

@@ -1,16 +1,16 @@
 -- The written grammar and its reader, token by token: what a state has read is what it stands for, and every tree is read.
 use Prim.Native.Nat.{ℕ, zero, suc, ◌+◌, ◌-◌, ◌≤◌, ◌<◌}
 use mathlib.Core.Path.{◌≡◌, refl, sym, ◌∙◌, ap, subst}
-use mathlib.Core.Bool.{Bool, true, false, ◌&&◌, ◌||◌, not, false≢true}
-use mathlib.Core.List.{List, [], ◌∷◌, ◌++◌, map}
+use mathlib.Core.Bool.{Bool, true, false, ◌&&◌, not, false≢true}
+use mathlib.Core.List.{List, [], ◌∷◌}
 use mathlib.Core.Option.{Option, some, none, none-ne-some, some-injective}
-use lib.Dec.{eqb, leb}
+use lib.Dec.{leb}
 use lib.IntN.{ℤ}
 use lib.ListN.{length}
 use Rattle.rules.specs.Lists.{same, if_some}
 use Rattle.rules.specs.Letters.{text}
 use Rattle.relation_rules.specs.Grammar.{Token, Variable, Fixed, Name, Quoted, Whole, Chain, One, More, further, Sign, Less, LessWord, AtMost, AtMostWord, Equal, EqualWord, Unequal, UnequalWord, AtLeast, AtLeastToo, AtLeastWord, Greater, GreaterWord, sign_text, Constant, Text, Number, Operand, Property, Given, OrChain, FirstAnd, Or, AndChain, FirstSingle, And, Single, Comparison, Specified, Among, Not, Group, Assignment, constants, operand_token, constant_token, or_tokens, and_tokens, single_tokens, assignment_tokens, condition_tokens, text_tokens, or_within, and_within, single_within, within, condition_within}
-use Rattle.relation_rules.specs.Reader.{Part, fresh, Around, State, Start, AtVariable, AtBecomes, AtValue, AtCondition, AtSpecified, AtOperand, AtSign, AtIn, AtOpen, AtListed, AtComma, AtSingle, negated, and_of, or_of, ended, assigned, Next, next, closing, at_end, complete, may_be, lookup, taken_by, take}
+use Rattle.relation_rules.specs.Reader.{Part, fresh, Around, State, Start, AtVariable, AtBecomes, AtValue, AtCondition, AtSpecified, AtOperand, AtSign, AtIn, AtOpen, AtListed, AtComma, AtSingle, negated, and_of, or_of, ended, assigned, Next, next, closing, at_end, complete, may_be, lookup, take}
 use native.Mathlib.Omega.{arith}
 use borrow.Author.Tests.{leb-true, le-leb}
 use native.Mathlib.Nat.{lt_of_not-le}

@@ -1,12 +1,12 @@
 -- What the reader of relation texts reads is spelled by the text: byte by byte, from any spot.
-use Prim.Native.Nat.{ℕ, zero, suc, ◌+◌, ◌-◌, ◌≤◌, ◌<◌}
+use Prim.Native.Nat.{ℕ, suc}
 use mathlib.Core.Path.{◌≡◌, refl, sym, ◌∙◌, ap, subst}
-use mathlib.Core.Bool.{Bool, true, false, ◌&&◌, ◌||◌, not, false≢true}
-use mathlib.Core.List.{List, [], ◌∷◌, ◌++◌, map}
-use mathlib.Core.Option.{Option, some, none, none-ne-some, some-injective}
-use Rattle.relation_rules.specs.Grammar.{Token, Chain, Assignment, text_tokens, token_of, goes_on, apart, past, Spelled, end, blank, token, is_blank, ReadsAs, within}
+use mathlib.Core.Bool.{Bool, true, false, not, false≢true}
+use mathlib.Core.List.{List, [], ◌∷◌, ◌++◌}
+use mathlib.Core.Option.{Option, some, none, none-ne-some}
+use Rattle.relation_rules.specs.Grammar.{Token, Chain, Assignment, token_of, goes_on, apart, past, Spelled, end, blank, token, is_blank, ReadsAs, within}
 use Rattle.rules.specs.PlacedRefusals.{ResultAt, Done, RefusedAt}
-use Rattle.relation_rules.specs.Reader.{State, Start, complete, take, viable, Spot, Between, Inside, Step, Go, Stop, Deep, too_deep, beginning, begin, then_take, behind, begin_in, going, step, complete_in, final, or_cut, onward, run}
+use Rattle.relation_rules.specs.Reader.{State, Start, take, viable, Spot, Between, Inside, too_deep, beginning, begin, then_take, behind, begin_in, going, step, complete_in, final, or_cut, onward, run}
 use Rattle.relation_rules.proofs.ReaderLaws.{tokens_of, Accepts, stop, go, admits, accepts_tokens, accepted_within}
 use Rattle.relation_rules.proofs.TokenLaws.{admitted_of}
 

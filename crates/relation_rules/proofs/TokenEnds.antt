@@ -1,5 +1,5 @@
 -- The beginning of a token that may come can be ended to such a token; and no token reaches over a blank.
-use Prim.Native.Nat.{ℕ, zero, suc, ◌+◌, ◌-◌, ◌≤◌, ◌<◌}
+use Prim.Native.Nat.{ℕ, ◌-◌, ◌≤◌}
 use mathlib.Core.Path.{◌≡◌, refl, sym, ◌∙◌, ap, subst}
 use mathlib.Core.Bool.{Bool, true, false, ◌&&◌, ◌||◌, not, cond, false≢true}
 use mathlib.Core.List.{List, [], ◌∷◌, ◌++◌, map}
@@ -8,14 +8,14 @@ use native.Mathlib.Omega.{arith}
 use lib.Dec.{eqb, leb}
 use lib.ListN.{length}
 use lib.IntN.{ℤ, neg_ℤ, pos}
-use borrow.Author.Tests.{leb-true, le-leb, eqb-true, eq-eqb}
-use Rattle.rules.specs.Lists.{same, all, any, between, is_some, if_some}
+use borrow.Author.Tests.{leb-true, le-leb, eqb-true}
+use Rattle.rules.specs.Lists.{same, all, any, between, is_some}
 use Rattle.rules.specs.Letters.{text, letter}
-use Rattle.relation_rules.specs.Grammar.{capital, Token, Variable, Fixed, Name, Quoted, Whole, Sort, Word, Figure, String, Dollar, Compare, Mark, sort_of, is_blank, is_letter, is_digit, word_byte, is_quote, minus, sign_byte, giving, or_else, nothing_in, after, word_token, reserved, reserved_words, decimal, figures, some_figures, figure_token, in_quotes, quoted_token, is_empty, token_in, token_of, reaches, goes_on, sign_text, Operand, Property, Given, OrChain, Chain, Assignment}
-use Rattle.relation_rules.specs.Reader.{State, Part, Around, Start, AtVariable, AtBecomes, AtValue, AtCondition, AtSpecified, AtOperand, AtSign, AtIn, AtOpen, AtListed, AtComma, AtSingle, Next, next, or_of, closing, may_be, lookup, taken_by, take, begins, word_begins, quote_begins, figure_begins, fits, viable, too_deep}
-use Rattle.rules.proofs.TestLaws.{and_left, and_right, both, and_true}
+use Rattle.relation_rules.specs.Grammar.{capital, Token, Variable, Fixed, Name, Quoted, Whole, Sort, Word, Figure, String, Dollar, Compare, Mark, sort_of, is_letter, is_digit, word_byte, is_quote, minus, sign_byte, giving, or_else, nothing_in, after, word_token, reserved, reserved_words, decimal, figures, some_figures, figure_token, in_quotes, quoted_token, is_empty, token_in, token_of, reaches, goes_on, Operand, Property, Given, OrChain, Chain, Assignment}
+use Rattle.relation_rules.specs.Reader.{State, Part, Around, Start, AtVariable, AtBecomes, AtValue, AtCondition, AtSpecified, AtOperand, AtSign, AtIn, AtOpen, AtListed, AtComma, AtSingle, next, or_of, closing, may_be, lookup, take, begins, word_begins, quote_begins, figure_begins, viable}
+use Rattle.rules.proofs.TestLaws.{and_left, and_right, both}
 use Rattle.rules.proofs.ListLaws.{All, all_append, same_eq, same_refl}
-use Rattle.relation_rules.proofs.TokenLaws.{giving_true, giving_is, or_left, or_right, member, map_append, append_nil, View, word, figure, string, dollar, compare, mark, view, plain, quoted_is, raise_words}
+use Rattle.relation_rules.proofs.TokenLaws.{giving_true, giving_is, or_left, or_right, map_append, append_nil, plain, quoted_is, raise_words}
 
 -- ---- no token reaches over a blank
 

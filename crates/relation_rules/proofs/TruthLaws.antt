@@ -1,20 +1,19 @@
 -- Truth of three values, by the table of 003, appendix A; what grants a name, and what is derived.
-use Prim.Native.Nat.{ℕ, zero, suc, ◌+◌, ◌≤◌, ◌<◌}
+use Prim.Native.Nat.{ℕ, suc, ◌+◌, ◌≤◌, ◌<◌}
 use mathlib.Core.Path.{◌≡◌, refl, sym, ◌∙◌, ap, subst}
-use mathlib.Core.Bool.{Bool, true, false, ◌&&◌, ◌||◌, not, false≢true}
-use mathlib.Core.List.{List, [], ◌∷◌, ◌++◌, map}
-use mathlib.Core.Option.{Option, some, none, none-ne-some, some-injective}
+use mathlib.Core.Bool.{Bool, true, false, ◌&&◌, ◌||◌, false≢true}
+use mathlib.Core.List.{List, [], ◌∷◌, map}
+use mathlib.Core.Option.{some, none}
 use native.Mathlib.Omega.{arith}
-use lib.Dec.{eqb, leb, ltb}
+use lib.Dec.{ltb}
 use lib.ListN.{length}
 use borrow.Author.Tests.{ltb-true}
 use Rattle.rules.specs.Lists.{keep, cons_if, all, between}
 use Rattle.rules.specs.Bytes.{name_byte}
-use Rattle.relation_rules.specs.Grammar.{Chain, One, More, Sign, Equal, Unequal, AtMost, Greater, AtLeast, Less, Constant, Text, Number, Operand, Property, Given, OrChain, FirstAnd, Or, AndChain, FirstSingle, And, Single, Comparison, Specified, Among, Not, Group, Assignment}
+use Rattle.relation_rules.specs.Grammar.{Chain, One, More, Sign, Equal, Constant, Operand, Property, Given, OrChain, FirstAnd, Or, FirstSingle, And, Single, Comparison, Specified, Among, Not, Group, Assignment}
 use Rattle.rules.specs.PlacedRefusals.{ResultAt, Done, RefusedAt}
-use Rattle.relation_rules.specs.Truth.{Held, value_in, Truth, True, False, Undefined, either, together, opposite, truth_of, plainly, Order, holds, text_order, is_property, operand_value, compared, comparison, among, has_value, or_truth, and_truth, single_truth, granted_by, grantable, most_names, with_name, names_from}
+use Rattle.relation_rules.specs.Truth.{Held, value_in, Truth, True, False, Undefined, either, together, opposite, truth_of, plainly, operand_value, compared, comparison, among, has_value, or_truth, single_truth, granted_by, grantable, most_names, with_name, names_from}
 use Rattle.rules.proofs.TestLaws.{and_left, and_right, both}
-use Rattle.rules.proofs.ListLaws.{All}
 use Rattle.relation_rules.proofs.SoundLaws.{refused_fine}
 
 -- ---- the table

@@ -14,7 +14,7 @@
 --     string      ' { any byte but ' } '
 --
 -- Words and names may be written in small letters. Each token reaches as far as bytes of its sort go. Blanks are space, tab and both line ends.
-use Rattle.std.specs.Prelude.{ℕ, zero, suc, ◌+◌, ◌*◌, ◌-◌, ◌≡◌, Bool, true, false, ◌&&◌, ◌||◌, not, cond, List, [], ◌∷◌, ◌++◌, map, eqb, leb, ℤ, pos, neg_ℤ, length}
+use Rattle.std.specs.Prelude.{ℕ, suc, ◌+◌, ◌*◌, ◌-◌, ◌≡◌, Bool, true, false, ◌&&◌, ◌||◌, not, cond, List, [], ◌∷◌, ◌++◌, map, eqb, leb, ℤ, pos, neg_ℤ, length}
 use Rattle.std.proofs.Math.Option.{Option, some, none}
 use Rattle.rules.specs.Lists.{same, between, all, any}
 use Rattle.rules.specs.Letters.{text, letter}

@@ -1,6 +1,6 @@
 -- "Derive conditions in the plugin", for code that keeps no tree: what it has read, from one place of the text to another.
 -- Such code says that there is a tree, that the reader moves over it from the one place to the other, and what its truth is.
-use Rattle.std.specs.Prelude.{ℕ, ◌≡◌, Bool, true, List, [], ◌∷◌, ◌++◌, length}
+use Rattle.std.specs.Prelude.{ℕ, ◌≡◌, true, List, [], ◌++◌, length}
 use Rattle.std.proofs.Math.Option.{Option, some, none}
 use Rattle.rules.specs.Lists.{all}
 use Rattle.relation_rules.specs.Grammar.{Token, Chain, Constant, OrChain, FirstAnd, Or, AndChain, Single, Assignment, token_of, apart, past, is_blank}

@@ -1,6 +1,6 @@
 -- "Derive conditions in the plugin": reading a relation text byte by byte. What has been read is kept as a place in the tree; each place says what may come next,
 -- as the written grammar has it. The first byte that cannot come is the place of refusal 14, a parenthesis too deep that of refusal 15.
-use Rattle.std.specs.Prelude.{ℕ, zero, suc, ◌+◌, Bool, true, false, ◌&&◌, ◌||◌, not, List, [], ◌∷◌, ◌++◌, map, eqb, leb, ℤ, length}
+use Rattle.std.specs.Prelude.{ℕ, zero, suc, Bool, true, false, ◌&&◌, ◌||◌, not, List, [], ◌∷◌, ◌++◌, map, eqb, leb, ℤ, length}
 use Rattle.std.proofs.Math.Option.{Option, some, none}
 use Rattle.rules.specs.Lists.{same, all, any, is_some, if_some}
 use Rattle.rules.specs.Letters.{text, letter}
@@ -136,8 +136,8 @@ next (AtSingle w os a) =
 
 -- the tree, where the text may end
 abbrev pub at_end : Option (Chain Assignment) → ℕ → List ℕ → List Part → OrChain → Option (Chain Assignment)
-at_end done place value [] o = some (assigned done place value (some o))
-at_end done place value (p ∷ ps) o = none
+at_end so_far place value [] o = some (assigned so_far place value (some o))
+at_end so_far place value (p ∷ ps) o = none
 
 unfoldable pub complete : State → Option (Chain Assignment)
 complete (Start d) = none

@@ -1,8 +1,8 @@
 -- "Derive conditions in the plugin": the properties beside the question, when a condition is true (003, appendix A), and the names that a relation derives.
-use Rattle.std.specs.Prelude.{ℕ, zero, suc, Bool, true, false, ◌&&◌, ◌||◌, not, cond, List, [], ◌∷◌, ◌++◌, map, eqb, leb, ltb, ℤ, pos, negsuc, length}
+use Rattle.std.specs.Prelude.{ℕ, zero, suc, Bool, true, false, ◌&&◌, ◌||◌, not, cond, List, [], ◌∷◌, map, eqb, ltb, ℤ, pos, negsuc, length}
 use Rattle.std.proofs.Math.Option.{Option, some, none}
 use Rattle.rules.specs.Lists.{same, between, all, first, if_some}
-use Rattle.rules.specs.Layout.{Layout, ◌>>=◌, give, ◌such◌, bytes, byte, times, whole}
+use Rattle.rules.specs.Layout.{Layout, ◌>>=◌, give, ◌such◌, byte, times, whole}
 use Rattle.rules.specs.Bytes.{signed, name, name_byte, one_of, raise}
 use Rattle.relation_rules.specs.Grammar.{Chain, One, More, Sign, Less, LessWord, AtMost, AtMostWord, Equal, EqualWord, Unequal, UnequalWord, AtLeast, AtLeastToo, AtLeastWord, Greater, GreaterWord, Constant, Text, Number, Operand, Property, Given, OrChain, FirstAnd, Or, AndChain, FirstSingle, And, Single, Comparison, Specified, Among, Not, Group, Assignment}
 use Rattle.rules.specs.PlacedRefusals.{ResultAt, Done, RefusedAt}

@@ -2,7 +2,7 @@
 -- Two books that are alike there price alike.
 use Prim.Native.Nat.{ℕ}
 use mathlib.Core.Path.{◌≡◌, refl, sym, ◌∙◌, ap, subst}
-use mathlib.Core.Bool.{Bool, ◌&&◌, not, and_assoc}
+use mathlib.Core.Bool.{◌&&◌, not, and_assoc}
 use mathlib.Core.List.{List, [], ◌∷◌, ◌++◌}
 use mathlib.Core.Option.{Option, some, none, map}
 use lib.Dec.{eqb}
@@ -14,7 +14,7 @@ use Rattle.rules.specs.Amounts.{rounded}
 use Rattle.rules.specs.Lines.{Slot, slots, Chosen, chosen_in, rows_at, chosen_at, chosen, Line, exact_after, line_after, lines_after, lines_of}
 use Rattle.rules.specs.Price.{priced}
 use Rattle.rules.specs.Calendar.{outcome_of, outcome}
-use Rattle.rules.specs.Changes.{dated, moving_rows, days_of_change, changes, is_change}
+use Rattle.rules.specs.Changes.{dated, moving_rows, days_of_change, changes}
 use Rattle.rules.specs.declared.Rounding.{Rounding}
 use Rattle.rules.proofs.ListLaws.{All, Holds, all_keep, first_holds, keep_keep}
 use Rattle.rules.proofs.NoPriceLaws.{survivors}

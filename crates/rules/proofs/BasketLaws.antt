@@ -4,7 +4,7 @@ use mathlib.Core.Path.{◌≡◌, refl, sym, ◌∙◌, ap, subst}
 use mathlib.Core.Bool.{Bool, true, false, cond, false≢true}
 use mathlib.Core.List.{List, [], ◌∷◌, ◌++◌, map, append_assoc}
 use mathlib.Core.Logic.{◌⊎◌, inl, inr}
-use mathlib.Core.Option.{some, none}
+use mathlib.Core.Option.{some}
 use native.Mathlib.Omega.{arith}
 use lib.Dec.{leb}
 use lib.ListN.{length, take, drop, get_or, length-append, length-map, get_or-map}
@@ -16,7 +16,7 @@ use Rattle.rules.specs.Book.{Record}
 use Rattle.rules.specs.BookLayout.{records}
 use Rattle.rules.specs.Question.{Question, question_of}
 use Rattle.rules.specs.Questions.{questions_of}
-use Rattle.rules.specs.Lines.{lines_of, lines_bytes, most_lines_size}
+use Rattle.rules.specs.Lines.{lines_bytes, most_lines_size}
 use Rattle.rules.specs.Refusals.{Result, done, refused, ◌>>=◌, or_refuse, refuse_unless, number_of, lent_after}
 use Rattle.rules.specs.Price.{Answer, answered, written, in_room, price, shown}
 use Rattle.rules.specs.Basket.{answer_size, answer_bytes, answer_in, lines_in, basket_bytes, most_basket, most_basket_size, basket, lent_after_basket}

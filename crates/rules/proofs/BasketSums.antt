@@ -1,7 +1,6 @@
 -- "Price the whole basket at once": baskets whose bytes were worked by hand.
 use Prim.Native.Nat.{ℕ, ◌-◌, ◌+◌}
 use mathlib.Core.List.{List, [], ◌∷◌, ◌++◌, map}
-use lib.IntN.{ℤ, pos}
 use lib.ListN.{length, set, replicate}
 use Rattle.rules.specs.Lists.{join}
 use Rattle.rules.specs.Letters.{text, letter}

@@ -1,13 +1,13 @@
 -- A row of an accepted book has a currency of three letters, and so has every price.
 use Prim.Native.Nat.{ℕ, zero, suc}
-use mathlib.Core.Path.{◌≡◌, refl, sym, ◌∙◌, ap, subst}
+use mathlib.Core.Path.{◌≡◌, sym, ◌∙◌, ap, subst}
 use mathlib.Core.Bool.{◌&&◌, ◌||◌, not}
 use mathlib.Core.List.{List, [], ◌∷◌, ◌++◌}
-use mathlib.Core.Option.{Option, some, none, none-ne-some}
+use mathlib.Core.Option.{some, none-ne-some}
 use lib.Dec.{eqb, leb}
 use lib.ListN.{length}
-use Rattle.rules.specs.Lists.{same, between, all, first}
-use Rattle.rules.specs.Layout.{Layout, ◌>>=◌, give_if, ◌such◌, must, bytes, byte, times, framed, whole, repeated}
+use Rattle.rules.specs.Lists.{same, between, first}
+use Rattle.rules.specs.Layout.{Layout, ◌>>=◌, give_if, ◌such◌, must, bytes, byte, times}
 use Rattle.rules.specs.Bytes.{number, signed, name, name_byte, one_of, head, capitals, either_side}
 use Rattle.rules.specs.Book.{Record, ArticleRecord, PriceRecord, RoundingRecord, PackagingRecord, SchemeRecord}
 use Rattle.rules.specs.Book.{article_of, sale, purchase, base, surcharge, discount}
@@ -15,14 +15,14 @@ use Rattle.rules.specs.BookLayout.{value_of, in_bounds, has, zero_unless_present
 use Rattle.rules.specs.BookLayout.{broken, article_body, price_body, rounding_body, packaging_body, scheme_body, body, kinded}
 use Rattle.rules.specs.BookLayout.{one_record, most_bytes, records}
 use Rattle.rules.specs.Question.{Question}
-use Rattle.rules.specs.Lines.{Line, of_base, lines_of, amounts, total_of}
-use Rattle.rules.specs.Refusals.{Result, done, refused, or_refuse, refuse_unless}
+use Rattle.rules.specs.Lines.{of_base, lines_of, amounts, total_of}
+use Rattle.rules.specs.Refusals.{done, or_refuse, refuse_unless}
 use Rattle.rules.specs.Price.{Priced, Answer, in_one_currency, in_range, priced, answer_of, answered}
 use Rattle.rules.proofs.ListLaws.{All, Holds, first_holds}
 use Rattle.rules.proofs.RefusalLaws.{then_done, or_done, done_is}
 use Rattle.rules.proofs.GivesLaws.{Gives, gives_field, gives_any, gives_value, gives_tested, gives_bytes}
 use Rattle.rules.proofs.GivesLaws.{gives_framed, gives_repeated, whole_gives}
-use Rattle.rules.proofs.RowLaws.{RowFor, among_has, all_imply, lines_for}
+use Rattle.rules.proofs.RowLaws.{among_has, all_imply, lines_for}
 
 -- a row's currency has three bytes; of other records nothing is said
 abbrev pub InLetters : Record → Type 0

@@ -11,7 +11,7 @@ use lib.Signed.{◌<ℤ◌}
 use Rattle.integers.specs.Floor.{floor}
 use Rattle.integers.proofs.Signed.{parts, le_of, lt_of, lt_in}
 use Rattle.integers.proofs.FloorLaws.{floor_unique}
-use Rattle.rules.specs.Amounts.{nearest_of, nearest, steps_by, plus, multiple_by, rounded}
+use Rattle.rules.specs.Amounts.{nearest, steps_by, plus, multiple_by, rounded}
 use Rattle.rules.specs.declared.Way.TheVariants.{Commercial}
 use Rattle.rules.specs.declared.Rounding.{Rounding}
 use Rattle.rules.specs.declared.Fraction.{Fraction}

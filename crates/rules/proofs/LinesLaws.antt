@@ -8,7 +8,7 @@ use Rattle.rules.specs.Lists.{keep, cons_if}
 use Rattle.rules.specs.Book.{Record, roundings, rounding_for, rows}
 use Rattle.rules.specs.Question.{Question}
 use Rattle.rules.specs.Amounts.{rounded, factored, exact}
-use Rattle.rules.specs.Lines.{Line, Chosen, sum, amounts, total, base_sum, of_base, line_after, lines_after, lines_of, chosen}
+use Rattle.rules.specs.Lines.{Line, Chosen, total, base_sum, of_base, line_after, lines_after, lines_of, chosen}
 use Rattle.rules.specs.declared.Rounding.{Rounding}
 use Rattle.rules.proofs.ListLaws.{keep_append}
 

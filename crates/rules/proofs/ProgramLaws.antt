@@ -4,10 +4,10 @@ use mathlib.Core.Path.{◌≡◌, refl, sym, ◌∙◌, ap}
 use mathlib.Core.Logic.{◌⊎◌, inl, inr}
 use mathlib.Core.Bool.{Bool, true, false}
 use mathlib.Core.List.{List, [], ◌∷◌}
-use mathlib.Core.Option.{Option, some, none}
+use mathlib.Core.Option.{some, none}
 use native.Mathlib.Omega.{arith}
-use lib.Dec.{eqb, leb}
-use lib.ListN.{length, take, length-take}
+use lib.Dec.{leb}
+use lib.ListN.{length, length-take}
 use lib.Seq.{take_all}
 use borrow.Author.Tests.{ne_eqb, le-leb, lt-leb}
 use Rattle.rules.specs.Letters.{text}
@@ -17,9 +17,9 @@ use Rattle.rules.specs.Days.{is_day}
 use Rattle.rules.specs.Book.{Record}
 use Rattle.rules.specs.BookLayout.{one_record, most_bytes, records}
 use Rattle.rules.specs.Question.{Question, versions, question_body, question_of}
-use Rattle.rules.specs.Refusals.{Result, done, refused, ◌>>=◌, refuse_unless}
-use Rattle.rules.specs.Calendar.{Stretch, within, listing, finished, calendar_in, calendar, most_days, stretches_bytes}
-use Rattle.rules.specs.Program.{digits, printed, most_input, front, behind, book_in, question_in, end_in, end_of, asked, output}
+use Rattle.rules.specs.Refusals.{refused, ◌>>=◌, refuse_unless}
+use Rattle.rules.specs.Calendar.{within, listing, finished, calendar_in, calendar, most_days}
+use Rattle.rules.specs.Program.{digits, printed, most_input, front, book_in, question_in, end_in, end_of, asked, output}
 use Rattle.rules.proofs.PeriodLaws.{no_period}
 
 -- a part that is cut: its length is, or it is shorter than that says

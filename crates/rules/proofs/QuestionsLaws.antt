@@ -11,7 +11,7 @@ use lib.ListN.{length, take, drop, get_or, length-append, take-append-drop}
 use lib.Seq.{take-append-le, take-append_seam, drop-append_seam}
 use borrow.Author.Tests.{leb-true, le-leb, eqb-true}
 use Rattle.rules.specs.Lists.{join}
-use Rattle.rules.specs.Layout.{and_then, ◌>>=◌, give, give_if, bytes, back, wholly, to_end, repeated, ◌such◌}
+use Rattle.rules.specs.Layout.{and_then, give, give_if, bytes, back, to_end, repeated, ◌such◌}
 use Rattle.rules.specs.Bytes.{big, number, one_of, head_of, own_length}
 use Rattle.rules.specs.Question.{Question, versions, question_body, question_layout, question_of}
 use Rattle.rules.specs.Questions.{one_question, questions_layout, questions_of}

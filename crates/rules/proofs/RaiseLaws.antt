@@ -10,7 +10,7 @@ use lib.ListN.{length}
 use borrow.Author.Tests.{eqb-true, lt-leb, ltb-true}
 use Rattle.rules.specs.Lists.{all, between, cons_if, same}
 use Rattle.rules.specs.Letters.{letter}
-use Rattle.rules.specs.Bytes.{name_byte, small_letter, raise}
+use Rattle.rules.specs.Bytes.{name_byte, raise}
 use Rattle.rules.specs.Question.{Granted, Grant, grants}
 use Rattle.rules.proofs.TestLaws.{and_left, and_right, and_false, both}
 

@@ -15,8 +15,8 @@ use Rattle.rules.specs.Bytes.{raise}
 use Rattle.rules.specs.Days.{is_day}
 use Rattle.rules.specs.Book.{Record, ArticleRecord, PriceRecord, RoundingRecord, PackagingRecord, SchemeRecord, Row, base, surcharge, discount, rows, roundings}
 use Rattle.rules.specs.Question.{Granted, Question, Grant, placed, firsts, grants, plain_factor}
-use Rattle.rules.specs.Choice.{component, percent_base, holds_on, is_in, reaches, better, step₁, step₂, step₃, step₄, step₅, surviving, choose}
-use Rattle.rules.specs.Lines.{Slot, named_slot, slots_at, slots, Chosen, chosen_in, rows_at, chosen_at, chosen, Line, lines_of}
+use Rattle.rules.specs.Choice.{component, holds_on, is_in, reaches, better, step₁, step₂, step₃, step₄, step₅, surviving, choose}
+use Rattle.rules.specs.Lines.{Slot, named_slot, slots_at, slots, Chosen, chosen_in, rows_at, chosen_at, chosen, lines_of}
 use Rattle.rules.specs.declared.Rounding.{Rounding}
 use Rattle.rules.proofs.TestLaws.{and_left, and_right, between_low, between_high}
 use Rattle.rules.proofs.ListLaws.{All, Holds, all_keep, kept, same_eq, first_holds}

@@ -5,7 +5,7 @@ use Rattle.rules.specs.Bytes.{bytes_of, signed_bytes_of}
 use Rattle.rules.specs.BookLayout.{records}
 use Rattle.rules.specs.Lines.{most_lines_size}
 use Rattle.rules.specs.Questions.{questions_of}
-use Rattle.rules.specs.Refusals.{Result, done, refused, ◌>>=◌, or_refuse, refuse_unless, number_of, or_zero, lent_after}
+use Rattle.rules.specs.Refusals.{Result, done, ◌>>=◌, or_refuse, refuse_unless, number_of, or_zero, lent_after}
 use Rattle.rules.specs.Price.{Answer, answered, written, shown}
 use Rattle.rules.specs.declared.PriceAnswer.{PriceAnswer}
 use Rattle.rules.specs.declared.Written.{Written}

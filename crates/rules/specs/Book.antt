@@ -4,7 +4,7 @@
 use Rattle.std.specs.Prelude.{ℕ, ◌&&◌, List, eqb, ℤ, pos}
 use Rattle.std.proofs.Math.Option.{Option, some, none}
 use Rattle.rules.specs.Lists.{same, keep, first, gather, if_some}
-use Rattle.rules.specs.Letters.{text, letter}
+use Rattle.rules.specs.Letters.{letter}
 use Rattle.rules.specs.declared.Level.{Level}
 use Rattle.rules.specs.declared.Level.TheVariants.{Base, Surcharge, Discount}
 use Rattle.rules.specs.declared.Rule.{Rule}

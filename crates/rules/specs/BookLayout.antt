@@ -1,5 +1,5 @@
 -- "The price book": which bytes are a book, kind by kind.
-use Rattle.std.specs.Prelude.{ℕ, zero, suc, ◌+◌, ◌/◌, ◌%◌, ◌^◌, Bool, ◌&&◌, ◌||◌, not, List, [], ◌∷◌, ◌++◌, eqb, leb, length, get_or, ℤ, pos}
+use Rattle.std.specs.Prelude.{ℕ, zero, suc, ◌/◌, ◌%◌, ◌^◌, Bool, ◌&&◌, ◌||◌, not, List, [], ◌∷◌, ◌++◌, eqb, leb, length, get_or, ℤ, pos}
 use Rattle.std.proofs.Math.Option.{Option, none}
 use Rattle.rules.specs.Lists.{same, between, any, all}
 use Rattle.rules.specs.Letters.{text, letter}

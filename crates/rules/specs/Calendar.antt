@@ -1,5 +1,5 @@
 -- "Calendar": the outcome of each day of a period, and the longest stretches of days with one outcome.
-use Rattle.std.specs.Prelude.{ℕ, ◌+◌, ◌≡◌, Bool, true, false, ◌&&◌, cond, List, [], ◌∷◌, ◌++◌, map, eqb, leb, length, ℤ, pos, negsuc}
+use Rattle.std.specs.Prelude.{ℕ, ◌≡◌, Bool, true, false, ◌&&◌, cond, List, [], ◌∷◌, ◌++◌, map, eqb, leb, length, ℤ, pos, negsuc}
 use Rattle.std.proofs.Math.Option.{Option, none}
 use Rattle.rules.specs.Lists.{same, join}
 use Rattle.rules.specs.Bytes.{bytes_of, signed_bytes_of}

@@ -1,7 +1,7 @@
 -- "From rows to a total": which components bring a line, in which order, and the amount of each line.
 use Rattle.std.specs.Prelude.{ℕ, ◌*◌, Bool, cond, List, [], ◌∷◌, ◌++◌, map, eqb, ℤ, pos, ◌+ℤ◌}
 use Rattle.std.proofs.Math.Option
-use Rattle.std.proofs.Math.Option.{Option, none}
+use Rattle.std.proofs.Math.Option.{Option}
 use Rattle.rules.specs.Lists.{keep, gather, join, all}
 use Rattle.rules.specs.Bytes.{bytes_of, signed_bytes_of, either_side}
 use Rattle.rules.specs.Book.{Record, Row, base, surcharge, discount, rows, roundings, rounding_for}

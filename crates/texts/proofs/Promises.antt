@@ -4,7 +4,6 @@ use mathlib.Core.Path.{◌≡◌, refl, sym, ◌∙◌, subst, transport}
 use mathlib.Core.List.{List}
 use mathlib.Core.Logic.{◌⊎◌, inl, inr}
 use native.Mathlib.Omega.{arith}
-use lib.ListN.{length}
 use denote.Ref.{Bor}
 use Rattle.rules.specs.Refusals.{Result, done, refused}
 use Rattle.rules.specs.Text.{Found, InAsked, InFallback, text, part, shown}

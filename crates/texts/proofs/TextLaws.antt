@@ -1,5 +1,5 @@
 -- The text call: which answer two looks make, and where the text that is found stands.
-use Prim.Native.Nat.{ℕ, ◌+◌, ◌-◌, ◌≤◌}
+use Prim.Native.Nat.{ℕ, ◌+◌, ◌≤◌}
 use mathlib.Core.Path.{◌≡◌, refl, sym, ◌∙◌, ap, transport}
 use mathlib.Core.List.{List}
 use mathlib.Core.Option.{Option, some, none}

@@ -1,5 +1,5 @@
 -- At a number from 0 up by `floor_pos`, and below 0, where -1 - n is divided, by `floor_neg`.
-use Rattle.std.proofs.Common.{ℕ, ◌/◌, ◌<◌, w64, ℤ, pos, negsuc, ◌-ℤ◌, ◌≤ℤ◌, ◌<ℤ◌, rules, arith}
+use Rattle.std.proofs.Common.{ℕ, ◌/◌, ◌<◌, w64, ℤ, pos, negsuc, ◌-ℤ◌, ◌≤ℤ◌, ◌<ℤ◌, arith}
 use native.Mathlib.Nat.{div-le_self}
 use lib.IntN.{nat_abs}
 use mir.Val.{SFits}

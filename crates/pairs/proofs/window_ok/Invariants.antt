@@ -1,7 +1,6 @@
 -- `pairs::window_ok` meets its contract: what was passed is tested, by the laws `window-..`, and the two counters go with the place.
 use Prim.Native.Nat.{◌-◌}
-use borrow.Author.Rules.{rules}
-use Rattle.pairs.proofs.PairLaws.{Testing, window_start, window_again, window_end}
+use Rattle.pairs.proofs.PairLaws.{Testing}
 use Rattle.pairs.proofs.window_ok.Given as goal
 
 abbrev pub invariant-loop-i : goal.invariant-loop-i

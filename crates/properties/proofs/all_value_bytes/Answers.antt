@@ -1,11 +1,4 @@
 -- `properties::all_value_bytes` meets its contract: the flag and what is left are the whole answer, by the laws `flag-..`.
-use Prim.Native.Nat.{◌-◌}
-use mathlib.Core.Path.{◌≡◌}
-use mathlib.Core.Bool.{◌&&◌}
-use lib.ListN.{length, drop}
-use Rattle.rules.specs.Lists.{all}
-use Rattle.rules.specs.Bytes.{name_byte}
-use Rattle.rules.specs.Question.{value_byte}
 use borrow.Author.Rules.{rules}
 use Rattle.layout.proofs.ReadingLaws.{flag_start, flag_again, flag_end}
 use Rattle.properties.proofs.all_value_bytes.Goals as goal

@@ -6,8 +6,6 @@ use lib.ListN.{length, drop}
 use Rattle.rules.specs.Lists.{all}
 use Rattle.rules.specs.Bytes.{name_byte}
 use Rattle.rules.specs.Question.{value_byte}
-use borrow.Author.Rules.{rules}
-use Rattle.layout.proofs.ReadingLaws.{flag_start, flag_again, flag_end}
 use Rattle.properties.proofs.all_value_bytes.Given as goal
 
 abbrev pub invariant-loop-i : goal.invariant-loop-i

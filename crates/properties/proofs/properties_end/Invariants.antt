@@ -2,8 +2,6 @@
 use Rattle.rules.specs.Question.{property}
 use Rattle.layout.specs.Counted.{Left}
 use Rattle.properties.specs.Properties.{property_at, property_stop}
-use borrow.Author.Rules.{rules}
-use Rattle.layout.proofs.CountedLaws.{count_cut, count_many, count_start, count_end, count_broken, count_again}
 use Rattle.properties.proofs.properties_end.Given as goal
 
 abbrev pub invariant-loop-n : goal.invariant-loop-n

@@ -1,6 +1,6 @@
 -- `property_list::properties_ok` meets its contract: the properties that are left decide about the list, by the laws `list-..`.
 use borrow.Author.Rules.{rules}
-use Rattle.property_list.proofs.ListLaws.{Left, list_empty, list_many, list_start, list_broken, list_again, list_end}
+use Rattle.property_list.proofs.ListLaws.{list_empty, list_many, list_start, list_broken, list_again, list_end}
 use Rattle.property_list.proofs.properties_ok.Goals as goal
 
 ruleset laws = (rules, list_empty, list_many, list_start, list_broken, list_again, list_end)

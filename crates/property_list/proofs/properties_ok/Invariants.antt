@@ -1,6 +1,5 @@
 -- `property_list::properties_ok` meets its contract: the properties that are left decide about the list, by the laws `list-..`.
-use borrow.Author.Rules.{rules}
-use Rattle.property_list.proofs.ListLaws.{Left, list_empty, list_many, list_start, list_broken, list_again, list_end}
+use Rattle.property_list.proofs.ListLaws.{Left}
 use Rattle.property_list.proofs.properties_ok.Given as goal
 
 abbrev pub invariant-loop-n : goal.invariant-loop-n

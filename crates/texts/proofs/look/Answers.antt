@@ -1,8 +1,6 @@
 -- `texts::look` meets its contract: what was found, and what a look from here on would say, is the whole answer.
-use Prim.Native.Nat.{◌-◌}
-use lib.ListN.{length}
 use borrow.Author.Rules.{rules}
-use Rattle.texts.proofs.LookLaws.{Looking, look_headless, look_start, look_end, look_broken, look_inside, look_less, look_again}
+use Rattle.texts.proofs.LookLaws.{look_headless, look_start, look_end, look_broken, look_inside, look_less, look_again}
 use Rattle.texts.proofs.look.Goals as goal
 
 ruleset laws = (rules, look_headless, look_start, look_end, look_broken, look_inside, look_less, look_again)

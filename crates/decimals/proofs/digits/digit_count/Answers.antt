@@ -1,7 +1,5 @@
 -- `decimals::digits::digit_count` meets its contract: as many digits as were passed, and one more.
-use Prim.Native.Nat.{◌-◌}
 use borrow.Author.Rules.{rules}
-use Rattle.decimals.specs.Texts.{Counting}
 use Rattle.decimals.proofs.DigitLaws.{count_start, count_on, count_end}
 use Rattle.decimals.proofs.digits.digit_count.Goals as goal
 

@@ -1,6 +1,6 @@
 -- `decimals::digits::put_digits` meets its contract: the digits behind are stored, and those in front are those of what is left.
 use borrow.Author.Rules.{rules}
-use Rattle.decimals.proofs.DigitLaws.{Filling, fill_start, fill_inside, fill_two, fill_done, fill_last}
+use Rattle.decimals.proofs.DigitLaws.{fill_start, fill_inside, fill_two, fill_done, fill_last}
 use Rattle.decimals.proofs.digits.put_digits.Goals as goal
 
 ruleset laws = (rules, fill_start, fill_inside, fill_two, fill_done, fill_last)

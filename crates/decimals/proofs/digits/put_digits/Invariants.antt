@@ -1,6 +1,5 @@
 -- `decimals::digits::put_digits` meets its contract: the digits behind are stored, and those in front are those of what is left.
-use borrow.Author.Rules.{rules}
-use Rattle.decimals.proofs.DigitLaws.{Filling, fill_start, fill_inside, fill_two, fill_done, fill_last}
+use Rattle.decimals.proofs.DigitLaws.{Filling}
 use Rattle.decimals.proofs.digits.put_digits.Given as goal
 
 abbrev pub invariant-loop-i : goal.invariant-loop-i

@@ -1,7 +1,6 @@
 -- `fields::content::put_inner` meets its contract: what was copied, in front of what is read from here, is the text.
 use Prim.Native.Nat.{◌-◌}
-use borrow.Author.Rules.{rules}
-use Rattle.fields.proofs.ContentLaws.{Copying, copy_start, copy_inside, copy_on, copy_end}
+use Rattle.fields.proofs.ContentLaws.{Copying}
 use Rattle.fields.proofs.content.put_inner.Given as goal
 
 abbrev pub invariant-loop-n : goal.invariant-loop-n

@@ -1,7 +1,6 @@
 -- `fields::content::same_from` meets its contract: what is left of both texts decides.
 use Prim.Native.Nat.{◌-◌}
-use borrow.Author.Rules.{rules}
-use Rattle.fields.proofs.SameLaws.{Comparing, same_start, same_one, same_two, same_on, same_end}
+use Rattle.fields.proofs.SameLaws.{Comparing}
 use Rattle.fields.proofs.content.same_from.Given as goal
 
 abbrev pub invariant-loop-n : goal.invariant-loop-n

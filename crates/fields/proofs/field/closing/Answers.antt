@@ -1,8 +1,6 @@
 -- `fields::field::closing` meets its contract: up to each place the field is what was read, in front of what is read from there.
-use Prim.Native.Nat.{◌-◌}
-use lib.ListN.{length}
 use borrow.Author.Rules.{rules}
-use Rattle.fields.proofs.QuoteLaws.{Inside, inside_start, inside_on, inside_pair, closes_last, closes_here, never_closes}
+use Rattle.fields.proofs.QuoteLaws.{inside_start, inside_on, inside_pair, closes_last, closes_here, never_closes}
 use Rattle.fields.proofs.field.closing.Goals as goal
 
 ruleset laws = (rules, inside_start, inside_on, inside_pair, closes_last, closes_here, never_closes)

@@ -1,8 +1,7 @@
 -- `fields::field::cut_at` meets its contract: up to each place stands what was passed.
 use Prim.Native.Nat.{◌-◌}
 use lib.ListN.{length}
-use borrow.Author.Rules.{rules}
-use Rattle.fields.proofs.FieldLaws.{CutTo, cut_start, cut_again, cut_here, cut_last}
+use Rattle.fields.proofs.FieldLaws.{CutTo}
 use Rattle.fields.proofs.field.cut_at.Given as goal
 
 abbrev pub invariant-loop-i : goal.invariant-loop-i

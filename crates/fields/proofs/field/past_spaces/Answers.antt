@@ -1,8 +1,6 @@
 -- `fields::field::past_spaces` meets its contract: up to each place there were spaces alone.
-use Prim.Native.Nat.{◌-◌}
-use lib.ListN.{length}
 use borrow.Author.Rules.{rules}
-use Rattle.fields.proofs.FieldLaws.{SpacesTo, spaces_start, spaces_on, spaces_here, spaces_last}
+use Rattle.fields.proofs.FieldLaws.{spaces_start, spaces_on, spaces_here, spaces_last}
 use Rattle.fields.proofs.field.past_spaces.Goals as goal
 
 ruleset laws = (rules, spaces_start, spaces_on, spaces_here, spaces_last)

@@ -1,8 +1,7 @@
 -- `fields::field::past_spaces` meets its contract: up to each place there were spaces alone.
 use Prim.Native.Nat.{◌-◌}
 use lib.ListN.{length}
-use borrow.Author.Rules.{rules}
-use Rattle.fields.proofs.FieldLaws.{SpacesTo, spaces_start, spaces_on, spaces_here, spaces_last}
+use Rattle.fields.proofs.FieldLaws.{SpacesTo}
 use Rattle.fields.proofs.field.past_spaces.Given as goal
 
 abbrev pub invariant-loop-i : goal.invariant-loop-i

@@ -1,8 +1,7 @@
 -- `fields::lines::is_blank` meets its contract: what is left decides.
 use Prim.Native.Nat.{◌-◌}
 use lib.ListN.{length}
-use borrow.Author.Rules.{rules}
-use Rattle.fields.proofs.LineLaws.{BlankTo, blank_start, blank_on, blank_not, blank_end}
+use Rattle.fields.proofs.LineLaws.{BlankTo}
 use Rattle.fields.proofs.lines.is_blank.Given as goal
 
 abbrev pub invariant-loop-i : goal.invariant-loop-i

@@ -1,10 +1,4 @@
 -- `property_list::names::same_raised` meets its contract: they are alike so far, by the laws `raised-..`.
-use Prim.Native.Nat.{◌-◌}
-use mathlib.Core.Bool.{true}
-use mathlib.Core.List.{map}
-use lib.ListN.{length}
-use Rattle.rules.specs.Bytes.{raise}
-use Rattle.layout.proofs.NameLaws.{Comparing}
 use borrow.Author.Rules.{rules}
 use Rattle.property_list.proofs.NameLaws.{raised_not, raised_start, raised_again, raised_apart, raised_end}
 use Rattle.property_list.proofs.names.same_raised.Goals as goal

@@ -5,8 +5,6 @@ use mathlib.Core.List.{map}
 use lib.ListN.{length}
 use Rattle.rules.specs.Bytes.{raise}
 use Rattle.layout.proofs.NameLaws.{Comparing}
-use borrow.Author.Rules.{rules}
-use Rattle.property_list.proofs.NameLaws.{raised_not, raised_start, raised_again, raised_apart, raised_end}
 use Rattle.property_list.proofs.names.same_raised.Given as goal
 
 abbrev pub invariant-loop-i : goal.invariant-loop-i

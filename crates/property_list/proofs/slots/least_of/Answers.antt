@@ -1,5 +1,4 @@
 -- `property_list::slots::least_of` meets its contract.
-use borrow.Author.Rules.{rules}
 use borrow.Author.Tests.{lt-ltb, le-ltb}
 use Rattle.property_list.proofs.slots.least_of.Goals as goal
 

@@ -1,9 +1,7 @@
 -- `property_list::slots::slots_of` meets its contract: property after property, by the laws `fill-..`.
-use Prim.Native.Nat.{◌-◌}
-use lib.ListN.{length}
 use borrow.Author.Rules.{rules}
 use Rattle.property_list.proofs.PositionLaws.{stop_less}
-use Rattle.property_list.proofs.SlotLaws.{Filling, fill_start, fill_here, fill_again, fill_end}
+use Rattle.property_list.proofs.SlotLaws.{fill_start, fill_here, fill_again, fill_end}
 use Rattle.property_list.proofs.slots.slots_of.Goals as goal
 
 ruleset laws = (rules, stop_less, fill_start, fill_here, fill_again, fill_end)
