@@ -179,9 +179,9 @@ other₄ P h =
     skip (times 6 (signed 4 such either_side 10_000_000)) _ λ physical.
     skip (times 2 (signed 4 such either_side 10_000)) _ λ counts.
     skip (must (zero_unless_present present (physical ++ counts))) _ λ _.
-    skip (unit_for (has 0 present || (has 1 present || has 2 present)) length_units) _ λ lengthUnit.
-    skip (unit_for (has 3 present) volume_units) _ λ volumeUnit.
-    skip (unit_for (has 4 present || has 5 present) weight_units) _ λ weightUnit.
+    skip (unit_for (has 0 present || (has 1 present || has 2 present)) length_units) _ λ length_unit.
+    skip (unit_for (has 3 present) volume_units) _ λ volume_unit.
+    skip (unit_for (has 4 present || has 5 present) weight_units) _ λ weight_unit.
     skip (must (not (same article star && eqb (length condition) 0))) _ λ _.
     gives_value (PackagingRecord _) (h _)
 

@@ -154,9 +154,9 @@ module _ {s : List ℕ} {at a : ℕ} (p : NameEnd 1 40 s at a) (h : 1 ≤ a) {b 
         sized_then _ _ sized_byte λ x. sized_then _ _ (sized_times (signed 4 such either_side 10_000_000) (sized_such (signed 4) (either_side 10_000_000) (sized_signed 4)) 6) λ physical.
         sized_then _ _ (sized_times (signed 4 such either_side 10_000) (sized_such (signed 4) (either_side 10_000) (sized_signed 4)) 2) λ counts.
         sized_then _ _ (sized_if (zero_unless_present x (physical ++ counts)) tt) λ u.
-        sized_then _ _ (sized_such (bytes 3) (unit_ok (has 0 x || (has 1 x || has 2 x)) length_units) (sized_bytes 3)) λ lengthUnit.
-        sized_then _ _ (sized_such (bytes 3) (unit_ok (has 3 x) volume_units) (sized_bytes 3)) λ volumeUnit.
-        sized_then _ _ (sized_such (bytes 3) (unit_ok (has 4 x || has 5 x) weight_units) (sized_bytes 3)) λ weightUnit.
+        sized_then _ _ (sized_such (bytes 3) (unit_ok (has 0 x || (has 1 x || has 2 x)) length_units) (sized_bytes 3)) λ length_unit.
+        sized_then _ _ (sized_such (bytes 3) (unit_ok (has 3 x) volume_units) (sized_bytes 3)) λ volume_unit.
+        sized_then _ _ (sized_such (bytes 3) (unit_ok (has 4 x || has 5 x) weight_units) (sized_bytes 3)) λ weight_unit.
         sized_then _ _ (sized_if (not (same (part s (at + 1) a) star && eqb (length (part s (a + 1) b)) 0)) tt) λ v. sized_give) s b n)));
   }
 

@@ -40,7 +40,7 @@ module _ {line : List ℕ} where
       → LetterIs (49 ∷ 50 ∷ []) (text_of line r) c
       → Kinded line s l r (record { sort = a.byte; level = b.byte; rule = c.byte; good = (s.good && a.good) && ((l.good && b.good) && (r.good && c.good)) })
   kinds_are {a = a} {b} {c} p q t =
-      record { is_sort = a.good; is_level_lem = b.good; is_rule = c.good; sort = p.is; level = q.is; rule = t.is; good = refl }
+      record { is_sort = a.good; is_a_level = b.good; is_rule = c.good; sort = p.is; level = q.is; rule = t.is; good = refl }
 
   pub span_is : {f g h : Field} {a b c : Figure} → DateIs (text_of line f) a → DateIs (text_of line g) b → QuantityIs (text_of line h) c
       → Spanned line f g h (record { from = a.value; to = b.value; upto = c.value; good = (f.good && a.good) && ((g.good && b.good) && (h.good && c.good)) })

@@ -215,7 +215,7 @@ module _ {line : List ℕ} {fs : List Field} (p : FieldsAre line fs) where
         (((nth fs 0).good && is_name 1 40 (text_of line (nth fs 0))) &&
         (((nth fs 1).good && is_name 0 20 (text_of line (nth fs 1))) &&
         (((nth fs 2).good && kinds.is_sort) &&
-        (((nth fs 3).good && kinds.is_level_lem) &&
+        (((nth fs 3).good && kinds.is_a_level) &&
         (((nth fs 4).good && kinds.is_rule) &&
         (((nth fs 5).good && all name_byte (text_of line (nth fs 5))) &&
         (((nth fs 6).good && v.amount.good) &&
@@ -231,7 +231,7 @@ module _ {line : List ℕ} {fs : List Field} (p : FieldsAre line fs) where
         then_reads _ _ (such_reads field (is_name 1 40) p.first.reads)
         (then_reads _ _ (such_reads next_field (is_name 0 20) (p.each 0 (omega arith)).reads)
         (then_reads _ _ (meaning_reads next_field (letter_in (83 ∷ 80 ∷ [])) kinds.is_sort k.sort (p.each 1 (omega arith)).reads kinds.sort)
-        (then_reads _ _ (meaning_reads next_field (letter_in (66 ∷ 88 ∷ 68 ∷ [])) kinds.is_level_lem k.level (p.each 2 (omega arith)).reads
+        (then_reads _ _ (meaning_reads next_field (letter_in (66 ∷ 88 ∷ 68 ∷ [])) kinds.is_a_level k.level (p.each 2 (omega arith)).reads
         kinds.level)
         (then_reads _ _ (meaning_reads next_field (letter_in (49 ∷ 50 ∷ [])) kinds.is_rule k.rule (p.each 3 (omega arith)).reads kinds.rule)
         (then_reads _ _ (such_reads next_field (all name_byte) (p.each 4 (omega arith)).reads)
@@ -248,7 +248,7 @@ module _ {line : List ℕ} {fs : List Field} (p : FieldsAre line fs) where
     line_is = record {
       is = whole_end price_line line_reads (text 12 (omega arith)).next_fits ∙ ap (λ (b : Bool). only b (row_on line read)) (regroup
           ((nth fs 0).good && is_name 1 40 (text_of line (nth fs 0))) ((nth fs 1).good && is_name 0 20 (text_of line (nth fs 1)))
-          ((nth fs 2).good && kinds.is_sort) ((nth fs 3).good && kinds.is_level_lem) ((nth fs 4).good && kinds.is_rule)
+          ((nth fs 2).good && kinds.is_sort) ((nth fs 3).good && kinds.is_a_level) ((nth fs 4).good && kinds.is_rule)
           ((nth fs 5).good && all name_byte (text_of line (nth fs 5)))
           ((nth fs 6).good && v.amount.good) ((nth fs 7).good && value.is_flag) (in_bounds (Worth v.flag v.amount))
           ((nth fs 8).good && c.good)

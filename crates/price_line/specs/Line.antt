@@ -49,12 +49,12 @@ names_fit line a c =
 
 pub record Kinded (line : List ℕ) (s l r : Field) (k : Kinds) : Type 0 where
   pub is_sort : Bool
-  pub is_level_lem : Bool
+  pub is_a_level : Bool
   pub is_rule : Bool
   pub sort : letter_in (83 ∷ 80 ∷ []) (text_of line s) ≡ only is_sort k.sort
-  pub level : letter_in (66 ∷ 88 ∷ 68 ∷ []) (text_of line l) ≡ only is_level_lem k.level
+  pub level : letter_in (66 ∷ 88 ∷ 68 ∷ []) (text_of line l) ≡ only is_a_level k.level
   pub rule : letter_in (49 ∷ 50 ∷ []) (text_of line r) ≡ only is_rule k.rule
-  pub good : ((s.good && is_sort) && ((l.good && is_level_lem) && (r.good && is_rule))) ≡ k.good
+  pub good : ((s.good && is_sort) && ((l.good && is_a_level) && (r.good && is_rule))) ≡ k.good
 
 -- the value that an amount and its flag stand for
 abbrev pub Worth : ℕ → Amount → Value

@@ -85,7 +85,7 @@ fn flag_digit(flag: u8) -> u8
 // Sort, level, rule, and the text's number.
 pub fn put_kinds(out: &mut [u8], at: usize, t: &[u8], p: usize, text: u32) -> usize
     requires p_in_bounds { p + 29 ≤ length t.now }
-    requires p_bound { get_or t.now (p + 2) 0 < 10 }
+    requires rule_bound { get_or t.now (p + 2) 0 < 10 }
     requires room_for { RoomFor out.old at (kind_text t.now p text) }
     ensures { PutsTo out.old at (kind_text t.now p text) out.new result }
 {

@@ -87,9 +87,9 @@ gives_packaging =
     gives_field (times 6 (signed 4 such either_side 10_000_000)) _ (gives_values 10_000_000 6 (omega arith)) λ physical h.
     gives_field (times 2 (signed 4 such either_side 10_000)) _ (gives_values 10_000 2 (omega arith)) λ counts k.
     gives_field _ _ (gives_if (λ (u : Unit {0}). zero_unless_present present (physical ++ counts)) tt) λ u z.
-    gives_field (unit_for (has 0 present || (has 1 present || has 2 present)) length_units) _ (gives_unit (has 0 present || (has 1 present || has 2 present)) length_units) λ lengthUnit l₁.
-    gives_field (unit_for (has 3 present) volume_units) _ (gives_unit (has 3 present) volume_units) λ volumeUnit l₂.
-    gives_field (unit_for (has 4 present || has 5 present) weight_units) _ (gives_unit (has 4 present || has 5 present) weight_units) λ weightUnit l₃.
+    gives_field (unit_for (has 0 present || (has 1 present || has 2 present)) length_units) _ (gives_unit (has 0 present || (has 1 present || has 2 present)) length_units) λ length_unit l₁.
+    gives_field (unit_for (has 3 present) volume_units) _ (gives_unit (has 3 present) volume_units) λ volume_unit l₂.
+    gives_field (unit_for (has 4 present || has 5 present) weight_units) _ (gives_unit (has 4 present || has 5 present) weight_units) λ weight_unit l₃.
     gives_field _ _ (gives_if (λ (u : Unit {0}). not (same article star && eqb (length condition) 0)) tt) λ u _.
     gives_value _ (record {
       values_in = h counts (subst ValuesIn (append-nil counts) (k [] nothing_in));

@@ -79,9 +79,9 @@ of_packaging =
     passed (times 6 (signed 4 such either_side 10_000_000)) _ λ physical.
     passed (times 2 (signed 4 such either_side 10_000)) _ λ counts.
     passed (must (zero_unless_present present (physical ++ counts))) _ λ _.
-    passed (unit_for (has 0 present || (has 1 present || has 2 present)) length_units) _ λ lengthUnit.
-    passed (unit_for (has 3 present) volume_units) _ λ volumeUnit.
-    passed (unit_for (has 4 present || has 5 present) weight_units) _ λ weightUnit.
+    passed (unit_for (has 0 present || (has 1 present || has 2 present)) length_units) _ λ length_unit.
+    passed (unit_for (has 3 present) volume_units) _ λ volume_unit.
+    passed (unit_for (has 4 present || has 5 present) weight_units) _ λ weight_unit.
     passed (must (not (same article star && eqb (length condition) 0))) _ λ _.
     gives_value _ tt
 

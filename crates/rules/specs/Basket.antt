@@ -46,9 +46,9 @@ most_basket_size = most_basket * (answer_size + most_lines_size)
 
 -- each question has an outcome of its own, 3 to 6 among them; room is asked for once, for all that is written
 unfoldable pub basket : List ℕ → List ℕ → ℕ → Result (List (Result Answer))
-basket book_bytes questionsBytes room = do
+basket book_bytes questions_bytes room = do
   book ← or_refuse 1 (records book_bytes)
-  qs ← or_refuse 2 (questions_of most_basket questionsBytes)
+  qs ← or_refuse 2 (questions_of most_basket questions_bytes)
   let rs = map (answered book) qs
   _ ← refuse_unless 7 (leb (length (basket_bytes rs)) room)
   done rs
@@ -62,4 +62,4 @@ lent_after_basket r lent = lent_after basket_bytes r lent
 
 -- all that the call does: what is read of it, and what is then in the lent output
 abbrev pub basket_call : List ℕ → List ℕ → List ℕ → Written × List ℕ
-basket_call book_bytes questionsBytes lent = let r = basket book_bytes questionsBytes (length lent) in (shown_basket r, lent_after_basket r lent)
+basket_call book_bytes questions_bytes lent = let r = basket book_bytes questions_bytes (length lent) in (shown_basket r, lent_after_basket r lent)

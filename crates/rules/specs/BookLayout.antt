@@ -129,16 +129,16 @@ packaging_body = do
   counts ← times 2 (signed 4 such either_side 10_000)
   let values = physical ++ counts
   _ ← must (zero_unless_present present values)
-  lengthUnit ← unit_for (has 0 present || (has 1 present || has 2 present)) length_units
-  volumeUnit ← unit_for (has 3 present) volume_units
-  weightUnit ← unit_for (has 4 present || has 5 present) weight_units
+  length_unit ← unit_for (has 0 present || (has 1 present || has 2 present)) length_units
+  volume_unit ← unit_for (has 3 present) volume_units
+  weight_unit ← unit_for (has 4 present || has 5 present) weight_units
   _ ← must (not (same article star && eqb (length condition) 0))
   give (PackagingRecord (record {
     article = article;
     condition = condition;
     present = present;
     values = values;
-    units = lengthUnit ∷ volumeUnit ∷ weightUnit ∷ [];
+    units = length_unit ∷ volume_unit ∷ weight_unit ∷ [];
   }))
 
 -- ---- kind 5: a scheme

@@ -45,7 +45,7 @@ fn judge(b: &[u8]) -> Judged
 
 fn write_lines(b: &[u8], out: &mut [u8]) -> usize
     requires b_value { is_some (records b.now) ≡ true }
-    requires b_in_bounds { length (file_of b.now) ≤ length out.old }
+    requires file_fits { length (file_of b.now) ≤ length out.old }
     ensures { PutsTo out.old 0 (file_of b.now) out.new result }
 {
     let mut to = 0;

@@ -1,4 +1,4 @@
--- `calendar::calendar` meets its contract: refused, or written, by the laws `calendar-..`.
+-- `calendar::calendar` meets its contract: refused, or written, by the laws `calendar_..`.
 use borrow.Author.Rules.{rules}
 use Rattle.calendar.proofs.CallLaws.{calendar_refused, calendar_writable, calendar_done}
 use Rattle.calendar.proofs.calendar.Goals as goal

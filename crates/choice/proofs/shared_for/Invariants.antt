@@ -1,4 +1,4 @@
--- `choice::shared_for` meets its contract: the slots and the list, once they have seen the records that are left, hold what all of them leave, by the laws `block-..`.
+-- `choice::shared_for` meets its contract: the slots and the list, once they have seen the records that are left, hold what all of them leave, by the laws `block_..`.
 use Prim.Native.Nat.{◌-◌}
 use lib.ListN.{length}
 use Rattle.choice.proofs.SharedLaws.{Blocking}

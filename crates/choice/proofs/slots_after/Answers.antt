@@ -1,4 +1,4 @@
--- `choice::slots_after` meets its contract: what the listed rows that are left make of the slots is what all make of the first, by the laws `add-..`.
+-- `choice::slots_after` meets its contract: what the listed rows that are left make of the slots is what all make of the first, by the laws `add_..`.
 use borrow.Author.Rules.{rules}
 use Rattle.records.proofs.TestLaws.{accepted}
 use Rattle.choice.proofs.SharedLaws.{add_start, add_here, add_turn, add_end}

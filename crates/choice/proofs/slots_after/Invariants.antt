@@ -1,4 +1,4 @@
--- `choice::slots_after` meets its contract: what the listed rows that are left make of the slots is what all make of the first, by the laws `add-..`.
+-- `choice::slots_after` meets its contract: what the listed rows that are left make of the slots is what all make of the first, by the laws `add_..`.
 use Prim.Native.Nat.{◌-◌}
 use Rattle.choice.proofs.SharedLaws.{Adding}
 use Rattle.choice.proofs.slots_after.Given as goal

@@ -1,4 +1,4 @@
--- `choice::slots_for` meets its contract: the slots, once they have seen the records that are left, hold what all of them leave, by the laws `walk-..`.
+-- `choice::slots_for` meets its contract: the slots, once they have seen the records that are left, hold what all of them leave, by the laws `walk_..`.
 use borrow.Author.Rules.{rules}
 use Rattle.records.proofs.TestLaws.{accepted}
 use Rattle.choice.proofs.WalkLaws.{walk_start, walk_here, walk_turn, walk_end}

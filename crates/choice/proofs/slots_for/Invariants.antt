@@ -1,4 +1,4 @@
--- `choice::slots_for` meets its contract: the slots, once they have seen the records that are left, hold what all of them leave, by the laws `walk-..`.
+-- `choice::slots_for` meets its contract: the slots, once they have seen the records that are left, hold what all of them leave, by the laws `walk_..`.
 use Prim.Native.Nat.{◌-◌}
 use lib.ListN.{length}
 use Rattle.choice.proofs.WalkLaws.{Walking}

@@ -1,4 +1,4 @@
--- `final_number::final_number` meets its contract: a law `call-..` for each refusal; `number_in` does the rest.
+-- `final_number::final_number` meets its contract: a law `call_..` for each refusal; `number_in` does the rest.
 use borrow.Author.Rules.{rules}
 use Rattle.final_number.proofs.CallLaws.{some_is, call_1, call_2}
 use Rattle.final_number.proofs.final_number.Goals as goal

@@ -1,4 +1,4 @@
--- `final_number::number_in` meets its contract: a law `call-..` for each way out.
+-- `final_number::number_in` meets its contract: a law `call_..` for each way out.
 use borrow.Author.Rules.{rules}
 use Rattle.final_number.proofs.CallLaws.{article_stands, scheme_part, front_size, front_fits, call_3, call_7, call_done}
 use Rattle.final_number.proofs.number_in.Goals as goal

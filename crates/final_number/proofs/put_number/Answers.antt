@@ -1,4 +1,4 @@
--- `final_number::put_number` meets its contract: by the laws `number-..`.
+-- `final_number::put_number` meets its contract: by the laws `number_..`.
 use borrow.Author.Rules.{rules}
 use Rattle.final_number.proofs.NumberLaws.{number_base, number_kind, number_room, number_by_lem}
 use Rattle.final_number.proofs.put_number.Goals as goal

@@ -1,4 +1,4 @@
--- `final_number::scheme_for` meets its contract: by the laws `article_kind` and `scheme-..`.
+-- `final_number::scheme_for` meets its contract: by the laws `article_kind` and `scheme_..`.
 use borrow.Author.Rules.{rules}
 use Rattle.final_number.proofs.CallLaws.{article_kind, scheme_inside, scheme_none, scheme_there}
 use Rattle.final_number.proofs.scheme_for.Goals as goal

@@ -1,4 +1,4 @@
--- `grants::enter` meets its contract: what is looked up and put is the raised name, by the laws `entered-..` and `entry-..`.
+-- `grants::enter` meets its contract: what is looked up and put is the raised name, by the laws `entered_..` and `entry_..`.
 use lib.ListN.{length}
 use borrow.Author.Rules.{rules}
 use Rattle.grants.proofs.TableLaws.{entered_again, entered_new, factor_room, entry_room, entry_stays}

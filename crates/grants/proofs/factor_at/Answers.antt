@@ -1,4 +1,4 @@
--- `grants::factor_at` meets its contract: without a condition it is 1,000, else the number in the entry, by the laws `factor-..`.
+-- `grants::factor_at` meets its contract: without a condition it is 1,000, else the number in the entry, by the laws `factor_..`.
 use borrow.Author.Rules.{rules}
 use Rattle.grants.proofs.PlaceLaws.{factor_none, factor_there, factor_inside}
 use Rattle.grants.proofs.factor_at.Goals as goal

@@ -1,4 +1,4 @@
--- `grants::grants_of` meets its contract: the names that have come in and those that are left make up the whole, by the laws `fill-..`.
+-- `grants::grants_of` meets its contract: the names that have come in and those that are left make up the whole, by the laws `fill_..`.
 use borrow.Author.Rules.{rules}
 use Rattle.grants.proofs.FillLaws.{fill_start, fill_here, fill_long, fill_short, fill_again, fill_end}
 use Rattle.grants.proofs.grants_of.Goals as goal

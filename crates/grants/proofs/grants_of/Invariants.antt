@@ -1,4 +1,4 @@
--- `grants::grants_of` meets its contract: the names that have come in and those that are left make up the whole, by the laws `fill-..`.
+-- `grants::grants_of` meets its contract: the names that have come in and those that are left make up the whole, by the laws `fill_..`.
 use Prim.Native.Nat.{◌-◌}
 use Rattle.grants.proofs.FillLaws.{Filling}
 use Rattle.grants.proofs.grants_of.Given as goal

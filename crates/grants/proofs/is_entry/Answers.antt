@@ -1,4 +1,4 @@
--- `grants::is_entry` meets its contract: the lengths differ, or the bytes decide, by the laws `entry-..`.
+-- `grants::is_entry` meets its contract: the lengths differ, or the bytes decide, by the laws `entry_..`.
 use borrow.Author.Rules.{rules}
 use Rattle.grants.proofs.EntryLaws.{entry_other, entry_same}
 use Rattle.grants.proofs.is_entry.Goals as goal

@@ -1,4 +1,4 @@
--- `grants::look` meets its contract: the entries that are left hold the place, by the laws `look-..`.
+-- `grants::look` meets its contract: the entries that are left hold the place, by the laws `look_..`.
 use borrow.Author.Rules.{rules}
 use Rattle.grants.proofs.EntryLaws.{look_start, look_found, look_again, look_end}
 use Rattle.grants.proofs.look.Goals as goal

@@ -1,4 +1,4 @@
--- `grants::look` meets its contract: the entries that are left hold the place, by the laws `look-..`.
+-- `grants::look` meets its contract: the entries that are left hold the place, by the laws `look_..`.
 use Prim.Native.Nat.{◌-◌}
 use Rattle.grants.proofs.EntryLaws.{Looking}
 use Rattle.grants.proofs.look.Given as goal

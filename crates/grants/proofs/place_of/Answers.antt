@@ -1,4 +1,4 @@
--- `grants::place_of` meets its contract: no condition, one too long to be granted, or what is looked up, by the laws `place-..`.
+-- `grants::place_of` meets its contract: no condition, one too long to be granted, or what is looked up, by the laws `place_..`.
 use borrow.Author.Rules.{rules}
 use Rattle.grants.proofs.PlaceLaws.{place_none, place_long, place_looked}
 use Rattle.grants.proofs.place_of.Goals as goal

@@ -1,4 +1,4 @@
--- `outcomes::next_due` meets its contract: none that has gone by is marked, by the laws `seek-..`.
+-- `outcomes::next_due` meets its contract: none that has gone by is marked, by the laws `seek_..`.
 use borrow.Author.Rules.{rules}
 use Rattle.outcomes.proofs.OutcomeLaws.{seek_start, seek_turn, seek_end}
 use Rattle.outcomes.proofs.next_due.Goals as goal

@@ -1,4 +1,4 @@
--- `outcomes::next_due` meets its contract: none that has gone by is marked, by the laws `seek-..`.
+-- `outcomes::next_due` meets its contract: none that has gone by is marked, by the laws `seek_..`.
 use Prim.Native.Nat.{◌-◌}
 use Rattle.outcomes.proofs.OutcomeLaws.{Seeking}
 use Rattle.outcomes.proofs.next_due.Given as goal

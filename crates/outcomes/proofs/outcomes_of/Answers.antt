@@ -1,4 +1,4 @@
--- `outcomes::outcomes_of` meets its contract: the days that have gone by and are due have their outcomes, by the laws `price-..`.
+-- `outcomes::outcomes_of` meets its contract: the days that have gone by and are due have their outcomes, by the laws `price_..`.
 use borrow.Author.Rules.{rules}
 use Rattle.outcomes.proofs.OutcomeLaws.{at_shared, price_start, price_block, price_few, price_turn, price_end}
 use Rattle.outcomes.proofs.outcomes_of.Goals as goal

@@ -1,4 +1,4 @@
--- `outcomes::outcomes_of` meets its contract: the days that have gone by and are due have their outcomes, by the laws `price-..`.
+-- `outcomes::outcomes_of` meets its contract: the days that have gone by and are due have their outcomes, by the laws `price_..`.
 use Prim.Native.Nat.{◌-◌}
 use lib.ListN.{length}
 use Rattle.outcomes.specs.Outcomes.{Pricing}

@@ -1,4 +1,4 @@
--- `pairs::window_ok` meets its contract: what was passed is tested, by the laws `window-..`, and the two counters go with the place.
+-- `pairs::window_ok` meets its contract: what was passed is tested, by the laws `window_..`, and the two counters go with the place.
 use borrow.Author.Rules.{rules}
 use Rattle.pairs.proofs.PairLaws.{window_start, window_again, window_end}
 use Rattle.pairs.proofs.window_ok.Goals as goal

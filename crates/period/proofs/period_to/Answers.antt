@@ -1,4 +1,4 @@
--- `period::period_to` meets its contract: day after day, by the laws `count-..`.
+-- `period::period_to` meets its contract: day after day, by the laws `count_..`.
 use borrow.Author.Rules.{rules}
 use Rattle.period.proofs.PeriodLaws.{no_end, end_before, count_start, count_turn, count_over, count_met}
 use Rattle.period.proofs.period_to.Goals as goal

@@ -1,4 +1,4 @@
--- `period::period_to` meets its contract: day after day, by the laws `count-..`.
+-- `period::period_to` meets its contract: day after day, by the laws `count_..`.
 use Prim.Native.Nat.{◌-◌}
 use Rattle.period.specs.Ensures.{Counting}
 use Rattle.period.proofs.period_to.Given as goal

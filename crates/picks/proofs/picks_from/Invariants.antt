@@ -1,4 +1,4 @@
--- `picks::picks_from` meets its contract: the rows that stand in the slots are picked one by one, by the laws `picks-..`; a row's rounding is at the
+-- `picks::picks_from` meets its contract: the rows that stand in the slots are picked one by one, by the laws `picks_..`; a row's rounding is at the
 -- spot that was found for its number, by `found_at`, and its factor is that of its place.
 use Prim.Native.Nat.{◌-◌}
 use Rattle.picks.specs.Picks.{PicksSoFar}

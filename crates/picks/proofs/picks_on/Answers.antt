@@ -1,4 +1,4 @@
--- `picks::picks_on` meets its contract: the slots of the day are filled as a walk over the window fills them, by the laws `within-..`.
+-- `picks::picks_on` meets its contract: the slots of the day are filled as a walk over the window fills them, by the laws `within_..`.
 use borrow.Author.Rules.{rules}
 use Rattle.grants.proofs.AskLaws.{asked_tabled}
 use Rattle.picks.proofs.PickLaws.{within_long, within_between, within_filled, within_picks}

@@ -1,4 +1,4 @@
--- `picks::picks_within` meets its contract: a walk over the window fills the slots as one over the book, by the laws `within-..`.
+-- `picks::picks_within` meets its contract: a walk over the window fills the slots as one over the book, by the laws `within_..`.
 use borrow.Author.Rules.{rules}
 use Rattle.grants.proofs.AskLaws.{asked_tabled}
 use Rattle.picks.proofs.PickLaws.{within_long, within_between, within_filled, within_picks}

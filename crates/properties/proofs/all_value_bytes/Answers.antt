@@ -1,4 +1,4 @@
--- `properties::all_value_bytes` meets its contract: the flag and what is left are the whole answer, by the laws `flag-..`.
+-- `properties::all_value_bytes` meets its contract: the flag and what is left are the whole answer, by the laws `flag_..`.
 use borrow.Author.Rules.{rules}
 use Rattle.layout.proofs.ReadingLaws.{flag_start, flag_again, flag_end}
 use Rattle.properties.proofs.all_value_bytes.Goals as goal

@@ -1,4 +1,4 @@
--- `properties::all_value_bytes` meets its contract: the flag and what is left are the whole answer, by the laws `flag-..`.
+-- `properties::all_value_bytes` meets its contract: the flag and what is left are the whole answer, by the laws `flag_..`.
 use Prim.Native.Nat.{◌-◌}
 use mathlib.Core.Path.{◌≡◌}
 use mathlib.Core.Bool.{◌&&◌}

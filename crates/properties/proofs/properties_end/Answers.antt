@@ -1,4 +1,4 @@
--- `properties::properties_end` meets its contract: the properties that are left decide about all of them, by the laws `count-..`.
+-- `properties::properties_end` meets its contract: the properties that are left decide about all of them, by the laws `count_..`.
 use borrow.Author.Rules.{rules}
 use Rattle.layout.proofs.CountedLaws.{count_cut, count_many, count_start, count_end, count_broken, count_again}
 use Rattle.properties.proofs.properties_end.Goals as goal

@@ -1,4 +1,4 @@
--- `properties::properties_end` meets its contract: the properties that are left decide about all of them, by the laws `count-..`.
+-- `properties::properties_end` meets its contract: the properties that are left decide about all of them, by the laws `count_..`.
 use Rattle.rules.specs.Question.{property}
 use Rattle.layout.specs.Counted.{Left}
 use Rattle.properties.specs.Properties.{property_at, property_stop}

@@ -1,4 +1,4 @@
--- `property_list::properties_ok` meets its contract: the properties that are left decide about the list, by the laws `list-..`.
+-- `property_list::properties_ok` meets its contract: the properties that are left decide about the list, by the laws `list_..`.
 use borrow.Author.Rules.{rules}
 use Rattle.property_list.proofs.ListLaws.{list_empty, list_many, list_start, list_broken, list_again, list_end}
 use Rattle.property_list.proofs.properties_ok.Goals as goal

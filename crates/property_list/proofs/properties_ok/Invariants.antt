@@ -1,4 +1,4 @@
--- `property_list::properties_ok` meets its contract: the properties that are left decide about the list, by the laws `list-..`.
+-- `property_list::properties_ok` meets its contract: the properties that are left decide about the list, by the laws `list_..`.
 use Rattle.property_list.proofs.ListLaws.{Left}
 use Rattle.property_list.proofs.properties_ok.Given as goal
 

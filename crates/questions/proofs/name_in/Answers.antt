@@ -1,4 +1,4 @@
--- `questions::name_in` meets its contract: a part of the question is a part of all bytes, by the laws `name-..`.
+-- `questions::name_in` meets its contract: a part of the question is a part of all bytes, by the laws `name_..`.
 use borrow.Author.Rules.{rules}
 use Rattle.questions.proofs.NameLaws.{name_inside, name_is}
 use Rattle.questions.proofs.name_in.Goals as goal

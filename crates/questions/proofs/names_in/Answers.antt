@@ -1,4 +1,4 @@
--- `questions::names_in` meets its contract: question after question, by the laws `naming-..`.
+-- `questions::names_in` meets its contract: question after question, by the laws `naming_..`.
 use borrow.Author.Rules.{rules}
 use Rattle.questions.proofs.NameLaws.{naming_start, naming_here, naming_again, naming_end}
 use Rattle.questions.proofs.names_in.Goals as goal

@@ -1,4 +1,4 @@
--- `questions::names_in` meets its contract: question after question, by the laws `naming-..`.
+-- `questions::names_in` meets its contract: question after question, by the laws `naming_..`.
 use Prim.Native.Nat.{◌-◌}
 use Rattle.questions.proofs.NameLaws.{Naming}
 use Rattle.questions.proofs.names_in.Given as goal

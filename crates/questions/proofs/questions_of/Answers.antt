@@ -1,4 +1,4 @@
--- `questions::questions_of` meets its contract: question after question, by the laws `reading-..`.
+-- `questions::questions_of` meets its contract: question after question, by the laws `reading_..`.
 use borrow.Author.Rules.{rules}
 use Rattle.questions.proofs.ReadLaws.{reading_start, reading_here, reading_many, reading_broken, reading_less}
 use Rattle.questions.proofs.ReadLaws.{reading_again, reading_end}

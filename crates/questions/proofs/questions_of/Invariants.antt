@@ -1,4 +1,4 @@
--- `questions::questions_of` meets its contract: question after question, by the laws `reading-..`.
+-- `questions::questions_of` meets its contract: question after question, by the laws `reading_..`.
 use Prim.Native.Nat.{◌-◌}
 use lib.ListN.{length}
 use Rattle.questions.proofs.ReadLaws.{Reading}

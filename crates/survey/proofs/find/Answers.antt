@@ -1,4 +1,4 @@
--- `survey::find` meets its contract: what was found of the records gone by, by the laws `find-..`.
+-- `survey::find` meets its contract: what was found of the records gone by, by the laws `find_..`.
 use borrow.Author.Rules.{rules}
 use Rattle.records.proofs.TestLaws.{accepted}
 use Rattle.survey.proofs.SurveyLaws.{find_start, find_here, find_long, find_turn, find_end}

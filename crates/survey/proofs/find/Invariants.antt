@@ -1,4 +1,4 @@
--- `survey::find` meets its contract: what was found of the records gone by, by the laws `find-..`.
+-- `survey::find` meets its contract: what was found of the records gone by, by the laws `find_..`.
 use Prim.Native.Nat.{◌-◌}
 use lib.ListN.{length}
 use Rattle.survey.proofs.SurveyLaws.{Passed}

@@ -1,4 +1,4 @@
--- `survey::pass` meets its contract: what was found of the records gone by, by the laws `survey-..`.
+-- `survey::pass` meets its contract: what was found of the records gone by, by the laws `survey_..`.
 use borrow.Author.Rules.{rules}
 use Rattle.survey.proofs.SurveyLaws.{survey_header, survey_start, survey_here, survey_long, survey_bad, survey_low, survey_less, survey_accepted, survey_turn, survey_end}
 use Rattle.survey.proofs.pass.Goals as goal

@@ -1,4 +1,4 @@
--- `survey::pass` meets its contract: what was found of the records gone by, by the laws `survey-..`.
+-- `survey::pass` meets its contract: what was found of the records gone by, by the laws `survey_..`.
 use Prim.Native.Nat.{◌-◌}
 use lib.ListN.{length}
 use Rattle.survey.proofs.SurveyLaws.{Surveying}

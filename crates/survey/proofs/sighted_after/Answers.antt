@@ -1,4 +1,4 @@
--- `survey::sighted_after` meets its contract: each kind by its law `noted-..`.
+-- `survey::sighted_after` meets its contract: each kind by its law `noted_..`.
 use borrow.Author.Rules.{rules}
 use Rattle.records.proofs.FieldLaws.{accepted_long, of_kind}
 use Rattle.survey.proofs.SurveyLaws.{noted_row, noted_rounding, noted_other}

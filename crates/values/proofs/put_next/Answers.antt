@@ -1,4 +1,4 @@
--- `values::put_next` meets its contract: by the laws `next-..`.
+-- `values::put_next` meets its contract: by the laws `next_..`.
 use borrow.Author.Rules.{rules}
 use Rattle.values.proofs.ValueLaws.{next_none, next_room, next_some}
 use Rattle.values.proofs.put_next.Goals as goal

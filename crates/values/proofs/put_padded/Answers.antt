@@ -1,4 +1,4 @@
--- `values::put_padded` meets its contract: by the laws `padded-..`.
+-- `values::put_padded` meets its contract: by the laws `padded_..`.
 use borrow.Author.Rules.{rules}
 use Rattle.values.proofs.ValueLaws.{padded_filled, padded_trimmed}
 use Rattle.values.proofs.put_padded.Goals as goal

@@ -1,4 +1,4 @@
--- `values::put_separator` meets its contract: by the laws `separator-..`.
+-- `values::put_separator` meets its contract: by the laws `separator_..`.
 use borrow.Author.Rules.{rules}
 use Rattle.values.proofs.ValueLaws.{number_room, value_room, separator_blank, separator_number, separator_value}
 use Rattle.values.proofs.put_separator.Goals as goal

@@ -1,4 +1,4 @@
--- `values::put_values` meets its contract: what is left to write, written where the loop stands, makes up the whole, by the laws `put-..`.
+-- `values::put_values` meets its contract: what is left to write, written where the loop stands, makes up the whole, by the laws `put_..`.
 use borrow.Author.Rules.{rules}
 use Rattle.values.proofs.PutLaws.{put_start, put_here, put_room, put_again, put_end}
 use Rattle.values.proofs.put_values.Goals as goal

@@ -1,4 +1,4 @@
--- `values::put_values` meets its contract: what is left to write, written where the loop stands, makes up the whole, by the laws `put-..`.
+-- `values::put_values` meets its contract: what is left to write, written where the loop stands, makes up the whole, by the laws `put_..`.
 use Rattle.records.specs.Ensures.{scheme_in}
 use Rattle.values.proofs.PutLaws.{Putting}
 use Rattle.values.proofs.put_values.Given as goal

@@ -1,4 +1,4 @@
--- `wanted::tell` meets its contract: name after name, by the laws `telling-..`.
+-- `wanted::tell` meets its contract: name after name, by the laws `telling_..`.
 use borrow.Author.Rules.{rules}
 use Rattle.wanted.proofs.WalkLaws.{telling_rank, telling_fits, telling_start, telling_again, telling_end}
 use Rattle.wanted.proofs.tell.Goals as goal

@@ -1,4 +1,4 @@
--- `wanted::tell` meets its contract: name after name, by the laws `telling-..`.
+-- `wanted::tell` meets its contract: name after name, by the laws `telling_..`.
 use Prim.Native.Nat.{◌-◌}
 use Rattle.wanted.proofs.WalkLaws.{Telling}
 use Rattle.wanted.proofs.tell.Given as goal

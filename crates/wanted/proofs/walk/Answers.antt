@@ -1,4 +1,4 @@
--- `wanted::walk` meets its contract: the entry of each article holds what was seen of it so far, by the laws `walking-..`.
+-- `wanted::walk` meets its contract: the entry of each article holds what was seen of it so far, by the laws `walking_..`.
 use borrow.Author.Rules.{rules}
 use Rattle.wanted.proofs.WalkLaws.{walking_start, walking_end, walking_here, walking_record}
 use Rattle.wanted.proofs.WalkLaws.{walking_name, walking_accepted, walking_long, walking_less, walking_turn}

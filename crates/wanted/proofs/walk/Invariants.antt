@@ -1,4 +1,4 @@
--- `wanted::walk` meets its contract: the entry of each article holds what was seen of it so far, by the laws `walking-..`.
+-- `wanted::walk` meets its contract: the entry of each article holds what was seen of it so far, by the laws `walking_..`.
 use Prim.Native.Nat.{◌-◌}
 use lib.ListN.{length}
 use Rattle.wanted.proofs.WalkLaws.{Walking}

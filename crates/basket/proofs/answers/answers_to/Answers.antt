@@ -1,4 +1,4 @@
--- `basket::answers::answers_to` meets its contract: answer behind answer, by the laws `answers-..`.
+-- `basket::answers::answers_to` meets its contract: answer behind answer, by the laws `answers_..`.
 use borrow.Author.Rules.{rules}
 use Rattle.basket.proofs.AskedLaws.{part_low, part_fits, ready_at}
 use Rattle.basket.proofs.AnswerLaws.{answers_start, answers_room, answers_again, answers_end}

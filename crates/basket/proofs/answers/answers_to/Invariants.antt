@@ -1,4 +1,4 @@
--- `basket::answers::answers_to` meets its contract: answer behind answer, by the laws `answers-..`.
+-- `basket::answers::answers_to` meets its contract: answer behind answer, by the laws `answers_..`.
 use Prim.Native.Nat.{◌-◌}
 use Rattle.basket.proofs.AnswerLaws.{Answering}
 use Rattle.basket.proofs.answers.answers_to.Given as goal

@@ -1,4 +1,4 @@
--- `basket::question_lines::put_all_lines` meets its contract: the lines of question after question, by the laws `lines-..`.
+-- `basket::question_lines::put_all_lines` meets its contract: the lines of question after question, by the laws `lines_..`.
 use borrow.Author.Rules.{rules}
 use Rattle.basket.proofs.AskedLaws.{part_low, part_fits, ready_at}
 use Rattle.basket.proofs.LineLaws.{lines_start, lines_again, lines_end}

@@ -1,4 +1,4 @@
--- `basket::question_lines::put_all_lines` meets its contract: the lines of question after question, by the laws `lines-..`.
+-- `basket::question_lines::put_all_lines` meets its contract: the lines of question after question, by the laws `lines_..`.
 use Prim.Native.Nat.{◌-◌}
 use Rattle.basket.proofs.LineLaws.{Listing}
 use Rattle.basket.proofs.question_lines.put_all_lines.Given as goal

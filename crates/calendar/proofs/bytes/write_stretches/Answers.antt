@@ -1,4 +1,4 @@
--- `calendar::bytes::write_stretches` meets its contract: what is written and what is left make up the whole, by the laws `write-..`.
+-- `calendar::bytes::write_stretches` meets its contract: what is written and what is left make up the whole, by the laws `write_..`.
 use borrow.Author.Rules.{rules}
 use Rattle.calendar.proofs.ByteLaws.{write_start, write_again, write_end}
 use Rattle.calendar.proofs.bytes.write_stretches.Goals as goal

@@ -1,4 +1,4 @@
--- `calendar::bytes::write_stretches` meets its contract: what is written and what is left make up the whole, by the laws `write-..`.
+-- `calendar::bytes::write_stretches` meets its contract: what is written and what is left make up the whole, by the laws `write_..`.
 use Prim.Native.Nat.{◌-◌}
 use Rattle.calendar.proofs.ByteLaws.{Writing}
 use Rattle.calendar.proofs.bytes.write_stretches.Given as goal

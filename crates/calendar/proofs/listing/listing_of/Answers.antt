@@ -1,4 +1,4 @@
--- `calendar::listing::listing_of` meets its contract: refusals 1 and 2, or what is listed behind them, by the laws `listing-..`.
+-- `calendar::listing::listing_of` meets its contract: refusals 1 and 2, or what is listed behind them, by the laws `listing_..`.
 use borrow.Author.Rules.{rules}
 use Rattle.calendar.proofs.ListingLaws.{listing_refused, listing_is, ask_there, found_there}
 use Rattle.calendar.proofs.listing.listing_of.Goals as goal

@@ -1,4 +1,4 @@
--- `calendar::listing::listing_within` meets its contract: refusals 9 and 3, or the stretches, by the laws `within-..`.
+-- `calendar::listing::listing_within` meets its contract: refusals 9 and 3, or the stretches, by the laws `within_..`.
 use borrow.Author.Rules.{rules}
 use Rattle.calendar.proofs.ListingLaws.{within_9, within_3, within_done, found_window, days_size, days_there, days_dates}
 use Rattle.calendar.proofs.listing.listing_within.Goals as goal

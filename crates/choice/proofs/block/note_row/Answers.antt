@@ -1,4 +1,4 @@
--- `choice::block::note_row` meets its contract: by the laws `note-..`.
+-- `choice::block::note_row` meets its contract: by the laws `note_..`.
 use borrow.Author.Rules.{rules}
 use Rattle.choice.proofs.BlockLaws.{note_none, note_one, note_many}
 use Rattle.choice.proofs.block.note_row.Goals as goal

@@ -1,4 +1,4 @@
--- `choice::block::record_through` meets its contract: a row of the asked article and sort, or none, by the laws `through-..`.
+-- `choice::block::record_through` meets its contract: a row of the asked article and sort, or none, by the laws `through_..`.
 use borrow.Author.Rules.{rules}
 use Rattle.records.proofs.PriceLaws.{row_kind}
 use Rattle.choice.proofs.BlockLaws.{through_row, through_other}

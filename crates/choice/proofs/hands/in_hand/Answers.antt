@@ -1,4 +1,4 @@
--- `choice::hands::in_hand` meets its contract: one way out for each law `hand-..`.
+-- `choice::hands::in_hand` meets its contract: one way out for each law `hand_..`.
 use borrow.Author.Rules.{rules}
 use Rattle.choice.proofs.HandLaws.{hand_passed, hand_first, hand_better, hand_kept}
 use Rattle.choice.proofs.hands.in_hand.Goals as goal

@@ -1,4 +1,4 @@
--- `choice::hands::limit` meets its contract: no limit and a limit, by the laws `limit-..`.
+-- `choice::hands::limit` meets its contract: no limit and a limit, by the laws `limit_..`.
 use borrow.Author.Rules.{rules}
 use Rattle.choice.proofs.HandLaws.{limit_none, limit_some}
 use Rattle.choice.proofs.hands.limit.Goals as goal

@@ -1,4 +1,4 @@
--- `choice::hands::taken` meets its contract: by the laws `taken-..`.
+-- `choice::hands::taken` meets its contract: by the laws `taken_..`.
 use borrow.Author.Rules.{rules}
 use Rattle.choice.proofs.HandLaws.{taken_asked, taken_other}
 use Rattle.choice.proofs.hands.taken.Goals as goal

@@ -1,4 +1,4 @@
--- `choice::passing::holds` meets its contract: by the laws `holds-..`.
+-- `choice::passing::holds` meets its contract: by the laws `holds_..`.
 use borrow.Author.Rules.{rules}
 use Rattle.choice.proofs.PassingLaws.{holds_not_yet, holds_no_more, holds_then}
 use Rattle.choice.proofs.passing.holds.Goals as goal

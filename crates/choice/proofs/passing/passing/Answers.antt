@@ -1,4 +1,4 @@
--- `choice::passing::passing` meets its contract: a row of the asked article and sort, or none, by the laws `passes-..`.
+-- `choice::passing::passing` meets its contract: a row of the asked article and sort, or none, by the laws `passes_..`.
 use borrow.Author.Rules.{rules}
 use Rattle.records.proofs.PriceLaws.{row_kind}
 use Rattle.choice.proofs.PassingLaws.{passes_row, passes_other}

@@ -1,4 +1,4 @@
--- `choice::rows::row_at` meets its contract: a record stands there, and it is a price row, by the laws `stands-..`.
+-- `choice::rows::row_at` meets its contract: a record stands there, and it is a price row, by the laws `stands_..`.
 use borrow.Author.Rules.{rules}
 use Rattle.choice.proofs.ChosenLaws.{stands_here, stands_kind, stands_read}
 use Rattle.choice.proofs.rows.row_at.Goals as goal

@@ -1,4 +1,4 @@
--- `derive::names::names_size` meets its contract: name behind name, by the laws `sizes-..`.
+-- `derive::names::names_size` meets its contract: name behind name, by the laws `sizes_..`.
 use borrow.Author.Rules.{rules}
 use Rattle.derive.proofs.WriteLaws.{sizes_start, sizes_short, sizes_fit, sizes_again, sizes_end}
 use Rattle.derive.proofs.names.names_size.Goals as goal

@@ -1,4 +1,4 @@
--- `derive::names::names_size` meets its contract: name behind name, by the laws `sizes-..`.
+-- `derive::names::names_size` meets its contract: name behind name, by the laws `sizes_..`.
 use Prim.Native.Nat.{◌-◌}
 use Rattle.derive.proofs.WriteLaws.{Sizing}
 use Rattle.derive.proofs.names.names_size.Given as goal

@@ -1,4 +1,4 @@
--- `derive::names::put_names` meets its contract: name behind name, by the laws `name-..`.
+-- `derive::names::put_names` meets its contract: name behind name, by the laws `name_..`.
 use borrow.Author.Rules.{rules}
 use Rattle.derive.proofs.WriteLaws.{names_start, name_there, name_room, name_put, names_end}
 use Rattle.derive.proofs.names.put_names.Goals as goal

@@ -1,4 +1,4 @@
--- `derive::names::put_names` meets its contract: name behind name, by the laws `name-..`.
+-- `derive::names::put_names` meets its contract: name behind name, by the laws `name_..`.
 use Prim.Native.Nat.{◌-◌}
 use Rattle.derive.proofs.WriteLaws.{Naming}
 use Rattle.derive.proofs.names.put_names.Given as goal

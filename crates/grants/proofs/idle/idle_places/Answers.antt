@@ -1,4 +1,4 @@
--- `grants::idle::idle_places` meets its contract: the set and the grants that are left make up the whole, by the laws `idle-..`.
+-- `grants::idle::idle_places` meets its contract: the set and the grants that are left make up the whole, by the laws `idle_..`.
 use borrow.Author.Rules.{rules}
 use Rattle.grants.proofs.IdleLaws.{idle_start, idle_above, idle_again, idle_end}
 use Rattle.grants.proofs.idle.idle_places.Goals as goal

@@ -1,4 +1,4 @@
--- `grants::idle::idle_places` meets its contract: the set and the grants that are left make up the whole, by the laws `idle-..`.
+-- `grants::idle::idle_places` meets its contract: the set and the grants that are left make up the whole, by the laws `idle_..`.
 use Prim.Native.Nat.{◌-◌}
 use Rattle.grants.proofs.IdleLaws.{Idling}
 use Rattle.grants.proofs.idle.idle_places.Given as goal

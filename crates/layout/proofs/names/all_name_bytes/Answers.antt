@@ -1,4 +1,4 @@
--- `layout::names::all_name_bytes` meets its contract: the flag and what is left are the whole answer, by the laws `flag-..`.
+-- `layout::names::all_name_bytes` meets its contract: the flag and what is left are the whole answer, by the laws `flag_..`.
 use borrow.Author.Rules.{rules}
 use Rattle.layout.proofs.ReadingLaws.{flag_start, flag_again, flag_end}
 use Rattle.layout.proofs.names.all_name_bytes.Goals as goal

@@ -1,4 +1,4 @@
--- `layout::names::put_raised` meets its contract: what is stored and what is left make up the whole, by the laws `store-..` and `raise-..`.
+-- `layout::names::put_raised` meets its contract: what is stored and what is left make up the whole, by the laws `store_..` and `raise_..`.
 use borrow.Author.Rules.{rules}
 use Rattle.layout.proofs.StoreLaws.{store_start}
 use Rattle.layout.proofs.NameLaws.{raise_again, raise_end}

@@ -1,4 +1,4 @@
--- `layout::names::put_raised` meets its contract: what is stored and what is left make up the whole, by the laws `store-..` and `raise-..`.
+-- `layout::names::put_raised` meets its contract: what is stored and what is left make up the whole, by the laws `store_..` and `raise_..`.
 use Prim.Native.Nat.{◌-◌}
 use mathlib.Core.List.{map}
 use lib.ListN.{length}

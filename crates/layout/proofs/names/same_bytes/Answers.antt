@@ -1,4 +1,4 @@
--- `layout::names::same_bytes` meets its contract: the flag and what is left are the whole answer, by the laws `compare-..`.
+-- `layout::names::same_bytes` meets its contract: the flag and what is left are the whole answer, by the laws `compare_..`.
 use borrow.Author.Rules.{rules}
 use Rattle.layout.proofs.NameLaws.{compare_not, compare_none, compare_last, compare_start, compare_again, compare_end}
 use Rattle.layout.proofs.names.same_bytes.Goals as goal

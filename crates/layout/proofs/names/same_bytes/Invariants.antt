@@ -1,4 +1,4 @@
--- `layout::names::same_bytes` meets its contract: the flag and what is left are the whole answer, by the laws `compare-..`.
+-- `layout::names::same_bytes` meets its contract: the flag and what is left are the whole answer, by the laws `compare_..`.
 use Prim.Native.Nat.{◌-◌}
 use lib.ListN.{length}
 use Rattle.layout.proofs.NameLaws.{Comparing}

@@ -1,4 +1,4 @@
--- `layout::strings::put_bytes` meets its contract: what is stored and what is left make up the whole, by the laws `store-..`.
+-- `layout::strings::put_bytes` meets its contract: what is stored and what is left make up the whole, by the laws `store_..`.
 use borrow.Author.Rules.{rules}
 use Rattle.layout.proofs.StoreLaws.{store_start, store_again, store_to}
 use Rattle.layout.proofs.strings.put_bytes.Goals as goal

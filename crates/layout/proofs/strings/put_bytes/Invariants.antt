@@ -1,4 +1,4 @@
--- `layout::strings::put_bytes` meets its contract: what is stored and what is left make up the whole, by the laws `store-..`.
+-- `layout::strings::put_bytes` meets its contract: what is stored and what is left make up the whole, by the laws `store_..`.
 use Prim.Native.Nat.{◌-◌}
 use lib.ListN.{length}
 use Rattle.layout.proofs.StoreLaws.{Storing}

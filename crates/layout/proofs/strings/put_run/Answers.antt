@@ -1,4 +1,4 @@
--- `layout::strings::put_run` meets its contract: as the copy of as many equal bytes, by the laws `run-..`.
+-- `layout::strings::put_run` meets its contract: as the copy of as many equal bytes, by the laws `run_..`.
 use borrow.Author.Rules.{rules}
 use Rattle.layout.proofs.StoreLaws.{store_start, run_again, run_to}
 use Rattle.layout.proofs.strings.put_run.Goals as goal

@@ -1,4 +1,4 @@
--- `layout::strings::put_run` meets its contract: as the copy of as many equal bytes, by the laws `run-..`.
+-- `layout::strings::put_run` meets its contract: as the copy of as many equal bytes, by the laws `run_..`.
 use Prim.Native.Nat.{◌-◌}
 use lib.ListN.{replicate}
 use Rattle.layout.proofs.StoreLaws.{Storing}

@@ -1,4 +1,4 @@
--- `lookup::named::first_named` meets its contract: none of the records passed is one, by the laws `seek-..`.
+-- `lookup::named::first_named` meets its contract: none of the records passed is one, by the laws `seek_..`.
 use borrow.Author.Rules.{rules}
 use Rattle.lookup.proofs.NamedLaws.{seek_start, seek_none, seek_here, seek_less, seek_accepted, seek_next, seek_found}
 use Rattle.lookup.proofs.named.first_named.Goals as goal

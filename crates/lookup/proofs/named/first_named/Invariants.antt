@@ -1,4 +1,4 @@
--- `lookup::named::first_named` meets its contract: none of the records passed is one, by the laws `seek-..`.
+-- `lookup::named::first_named` meets its contract: none of the records passed is one, by the laws `seek_..`.
 use Prim.Native.Nat.{◌-◌}
 use lib.ListN.{length}
 use Rattle.lookup.specs.Ensures.{Seeking}

@@ -1,4 +1,4 @@
--- `lookup::roundings::flag_open` meets its contract: each number gone through is looked for if it has no spot, by the laws `opening-..`.
+-- `lookup::roundings::flag_open` meets its contract: each number gone through is looked for if it has no spot, by the laws `opening_..`.
 use borrow.Author.Rules.{rules}
 use Rattle.lookup.proofs.LookupLaws.{opening_start, opening_again, opening_end}
 use Rattle.lookup.proofs.roundings.flag_open.Goals as goal

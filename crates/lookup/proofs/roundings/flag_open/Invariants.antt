@@ -1,4 +1,4 @@
--- `lookup::roundings::flag_open` meets its contract: each number gone through is looked for if it has no spot, by the laws `opening-..`.
+-- `lookup::roundings::flag_open` meets its contract: each number gone through is looked for if it has no spot, by the laws `opening_..`.
 use Prim.Native.Nat.{◌-◌}
 use Rattle.lookup.proofs.LookupLaws.{Opening}
 use Rattle.lookup.proofs.roundings.flag_open.Given as goal

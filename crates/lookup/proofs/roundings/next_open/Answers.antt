@@ -1,4 +1,4 @@
--- `lookup::roundings::next_open` meets its contract: no record passed is looked for, by the laws `next-..`.
+-- `lookup::roundings::next_open` meets its contract: no record passed is looked for, by the laws `next_..`.
 use borrow.Author.Rules.{rules}
 use Rattle.lookup.proofs.LookupLaws.{next_none, next_start, next_end, next_here, next_accepted, next_less, next_found, next_again}
 use Rattle.lookup.proofs.roundings.next_open.Goals as goal

@@ -1,4 +1,4 @@
--- `lookup::roundings::next_open` meets its contract: no record passed is looked for, by the laws `next-..`.
+-- `lookup::roundings::next_open` meets its contract: no record passed is looked for, by the laws `next_..`.
 use Prim.Native.Nat.{◌-◌}
 use lib.ListN.{length}
 use Rattle.lookup.proofs.LookupLaws.{Passing}

@@ -1,4 +1,4 @@
--- `lookup::roundings::put_spots` meets its contract: spot after spot, by the laws `replace-..`.
+-- `lookup::roundings::put_spots` meets its contract: spot after spot, by the laws `replace_..`.
 use borrow.Author.Rules.{rules}
 use Rattle.lookup.proofs.LookupLaws.{replace_start, replace_again, replace_end}
 use Rattle.lookup.proofs.roundings.put_spots.Goals as goal

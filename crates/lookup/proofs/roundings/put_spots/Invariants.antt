@@ -1,4 +1,4 @@
--- `lookup::roundings::put_spots` meets its contract: spot after spot, by the laws `replace-..`.
+-- `lookup::roundings::put_spots` meets its contract: spot after spot, by the laws `replace_..`.
 use Prim.Native.Nat.{◌-◌}
 use Rattle.lookup.proofs.LookupLaws.{Replacing}
 use Rattle.lookup.proofs.roundings.put_spots.Given as goal

@@ -1,4 +1,4 @@
--- `lookup::roundings::rounding_spots` meets its contract: each number is found, or the records left have what all have, by the laws `placing-..`.
+-- `lookup::roundings::rounding_spots` meets its contract: each number is found, or the records left have what all have, by the laws `placing_..`.
 use borrow.Author.Rules.{rules}
 use Rattle.lookup.proofs.LookupLaws.{placing_start, placing_end, placing_here, placing_fits, placing_kind, placing_between, placing_less, placing_again}
 use Rattle.lookup.proofs.roundings.rounding_spots.Goals as goal

@@ -1,4 +1,4 @@
--- `lookup::roundings::rounding_spots` meets its contract: each number is found, or the records left have what all have, by the laws `placing-..`.
+-- `lookup::roundings::rounding_spots` meets its contract: each number is found, or the records left have what all have, by the laws `placing_..`.
 use Prim.Native.Nat.{◌-◌}
 use lib.ListN.{length}
 use Rattle.lookup.specs.Roundings.{Placing}

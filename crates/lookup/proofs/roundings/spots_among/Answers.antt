@@ -1,4 +1,4 @@
--- `lookup::roundings::spots_among` meets its contract: each number is found, or the noted spots left have what all have, by the laws `among-..`.
+-- `lookup::roundings::spots_among` meets its contract: each number is found, or the noted spots left have what all have, by the laws `among_..`.
 use borrow.Author.Rules.{rules}
 use Rattle.lookup.proofs.LookupLaws.{among_start, among_held, among_again, among_end}
 use Rattle.lookup.proofs.roundings.spots_among.Goals as goal

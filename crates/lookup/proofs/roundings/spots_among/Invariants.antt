@@ -1,4 +1,4 @@
--- `lookup::roundings::spots_among` meets its contract: each number is found, or the noted spots left have what all have, by the laws `among-..`.
+-- `lookup::roundings::spots_among` meets its contract: each number is found, or the noted spots left have what all have, by the laws `among_..`.
 use Prim.Native.Nat.{◌-◌}
 use Rattle.lookup.specs.Roundings.{Among}
 use Rattle.lookup.proofs.roundings.spots_among.Given as goal

@@ -1,4 +1,4 @@
--- `packaging::spots::walk` meets its contract: with the records left, the spot of each place will have the first of all, by the laws `walk-..`.
+-- `packaging::spots::walk` meets its contract: with the records left, the spot of each place will have the first of all, by the laws `walk_..`.
 use borrow.Author.Rules.{rules}
 use Rattle.records.proofs.TestLaws.{accepted}
 use Rattle.packaging.proofs.WalkLaws.{walk_start, walk_here, walk_turn, walk_end}

@@ -1,4 +1,4 @@
--- `packaging::spots::walk` meets its contract: with the records left, the spot of each place will have the first of all, by the laws `walk-..`.
+-- `packaging::spots::walk` meets its contract: with the records left, the spot of each place will have the first of all, by the laws `walk_..`.
 use Prim.Native.Nat.{◌-◌}
 use lib.ListN.{length}
 use Rattle.packaging.proofs.WalkLaws.{Walking}

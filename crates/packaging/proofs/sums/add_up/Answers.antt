@@ -1,4 +1,4 @@
--- `packaging::sums::add_up` meets its contract: the sums are those of the places gone through, by the laws `add-..`.
+-- `packaging::sums::add_up` meets its contract: the sums are those of the places gone through, by the laws `add_..`.
 use borrow.Author.Rules.{rules}
 use Rattle.packaging.proofs.SumLaws.{add_start, add_room, add_marks, add_turn, add_end}
 use Rattle.packaging.proofs.sums.add_up.Goals as goal

@@ -1,4 +1,4 @@
--- `packaging::sums::add_up` meets its contract: the sums are those of the places gone through, by the laws `add-..`.
+-- `packaging::sums::add_up` meets its contract: the sums are those of the places gone through, by the laws `add_..`.
 use Prim.Native.Nat.{◌-◌}
 use Rattle.packaging.proofs.SumLaws.{Adding}
 use Rattle.packaging.proofs.sums.add_up.Given as goal

@@ -1,4 +1,4 @@
--- `packed::sums::values_after` meets its contract: each sum fits, and the sums below i are there, by the laws `sum-..`.
+-- `packed::sums::values_after` meets its contract: each sum fits, and the sums below i are there, by the laws `sum_..`.
 use borrow.Author.Rules.{rules}
 use Rattle.packed.proofs.ValueLaws.{sum_start, sum_fits, sum_again, sum_end}
 use Rattle.packed.proofs.sums.values_after.Goals as goal

@@ -1,4 +1,4 @@
--- `packed::sums::values_after` meets its contract: each sum fits, and the sums below i are there, by the laws `sum-..`.
+-- `packed::sums::values_after` meets its contract: each sum fits, and the sums below i are there, by the laws `sum_..`.
 use Prim.Native.Nat.{◌-◌}
 use Rattle.packed.proofs.ValueLaws.{Summing}
 use Rattle.packed.proofs.sums.values_after.Given as goal

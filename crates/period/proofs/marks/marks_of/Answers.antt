@@ -1,4 +1,4 @@
--- `period::marks::marks_of` meets its contract: the marks made, with the records that are left, are the days of change, by the laws `mark-..`.
+-- `period::marks::marks_of` meets its contract: the marks made, with the records that are left, are the days of change, by the laws `mark_..`.
 use borrow.Author.Rules.{rules}
 use Rattle.records.proofs.TestLaws.{accepted}
 use Rattle.period.proofs.MarkLaws.{mark_start, mark_here, mark_dates, mark_less, mark_turn, mark_end}

@@ -1,4 +1,4 @@
--- `period::marks::marks_of` meets its contract: the marks made, with the records that are left, are the days of change, by the laws `mark-..`.
+-- `period::marks::marks_of` meets its contract: the marks made, with the records that are left, are the days of change, by the laws `mark_..`.
 use Prim.Native.Nat.{◌-◌}
 use lib.ListN.{length}
 use Rattle.period.specs.Marks.{Marking}

@@ -1,4 +1,4 @@
--- `picks::held::counted` meets its contract: by the laws `counts-..`.
+-- `picks::held::counted` meets its contract: by the laws `counts_..`.
 use borrow.Author.Rules.{rules}
 use Rattle.picks.proofs.HeldLaws.{counts_none, counts_one}
 use Rattle.picks.proofs.held.counted.Goals as goal

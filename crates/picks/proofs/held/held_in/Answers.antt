@@ -1,4 +1,4 @@
--- `picks::held::held_in` meets its contract: the rows in hand so far, and what the slots left choose, by the laws `hold-..`.
+-- `picks::held::held_in` meets its contract: the rows in hand so far, and what the slots left choose, by the laws `hold_..`.
 use borrow.Author.Rules.{rules}
 use Rattle.picks.proofs.HeldLaws.{hold_start, hold_turn, hold_end}
 use Rattle.picks.proofs.held.held_in.Goals as goal

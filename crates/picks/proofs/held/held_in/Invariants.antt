@@ -1,4 +1,4 @@
--- `picks::held::held_in` meets its contract: the rows in hand so far, and what the slots left choose, by the laws `hold-..`.
+-- `picks::held::held_in` meets its contract: the rows in hand so far, and what the slots left choose, by the laws `hold_..`.
 use Prim.Native.Nat.{◌-◌}
 use Rattle.picks.specs.Held.{Holding}
 use Rattle.picks.proofs.held.held_in.Given as goal

@@ -1,4 +1,4 @@
--- `price::quoted::quoted` meets its contract: the question asks by what is made of it, by the laws `wanted_asked` and `quote-..`.
+-- `price::quoted::quoted` meets its contract: the question asks by what is made of it, by the laws `wanted_asked` and `quote_..`.
 use borrow.Author.Rules.{rules}
 use Rattle.grants.proofs.AskLaws.{article_inside, wanted_asked}
 use Rattle.price.proofs.CallLaws.{quote_window, quote_told}

@@ -1,4 +1,4 @@
--- `printing::input::own_length` meets its contract: the bytes read so far make the number, by the laws `read-..`.
+-- `printing::input::own_length` meets its contract: the bytes read so far make the number, by the laws `read_..`.
 use native.Mathlib.Omega.{arith}
 use borrow.Author.Rules.{rules}
 use Rattle.printing.proofs.InputLaws.{read_start, read_on, read_fits, read_end}

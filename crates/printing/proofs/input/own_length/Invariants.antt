@@ -1,4 +1,4 @@
--- `printing::input::own_length` meets its contract: the bytes read so far make the number, by the laws `read-..`.
+-- `printing::input::own_length` meets its contract: the bytes read so far make the number, by the laws `read_..`.
 use Prim.Native.Nat.{◌-◌}
 use Rattle.printing.specs.Input.{Reading}
 use Rattle.printing.proofs.input.own_length.Given as goal

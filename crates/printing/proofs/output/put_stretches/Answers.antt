@@ -1,4 +1,4 @@
--- `printing::output::put_stretches` meets its contract: the lines so far stand in front, by the laws `print-..`.
+-- `printing::output::put_stretches` meets its contract: the lines so far stand in front, by the laws `print_..`.
 use borrow.Author.Rules.{rules}
 use Rattle.printing.proofs.OutputLaws.{print_start, print_room, print_again, print_end}
 use Rattle.printing.proofs.output.put_stretches.Goals as goal

@@ -1,4 +1,4 @@
--- `printing::output::put_stretches` meets its contract: the lines so far stand in front, by the laws `print-..`.
+-- `printing::output::put_stretches` meets its contract: the lines so far stand in front, by the laws `print_..`.
 use Prim.Native.Nat.{◌-◌}
 use Rattle.printing.specs.Output.{Printing}
 use Rattle.printing.proofs.output.put_stretches.Given as goal

@@ -1,4 +1,4 @@
--- `property_list::names::same_raised` meets its contract: they are alike so far, by the laws `raised-..`.
+-- `property_list::names::same_raised` meets its contract: they are alike so far, by the laws `raised_..`.
 use borrow.Author.Rules.{rules}
 use Rattle.property_list.proofs.NameLaws.{raised_not, raised_start, raised_again, raised_apart, raised_end}
 use Rattle.property_list.proofs.names.same_raised.Goals as goal

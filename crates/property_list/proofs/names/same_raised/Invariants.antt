@@ -1,4 +1,4 @@
--- `property_list::names::same_raised` meets its contract: they are alike so far, by the laws `raised-..`.
+-- `property_list::names::same_raised` meets its contract: they are alike so far, by the laws `raised_..`.
 use Prim.Native.Nat.{◌-◌}
 use mathlib.Core.Bool.{true}
 use mathlib.Core.List.{map}

@@ -1,4 +1,4 @@
--- `property_list::positions::position_of` meets its contract: the first of the name is the first from here on, by the laws `look-..`.
+-- `property_list::positions::position_of` meets its contract: the first of the name is the first from here on, by the laws `look_..`.
 use borrow.Author.Rules.{rules}
 use Rattle.property_list.proofs.PositionLaws.{stop_less, look_here, look_found, look_again, look_end}
 use Rattle.property_list.proofs.SlotLaws.{look_slot}

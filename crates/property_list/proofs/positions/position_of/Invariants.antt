@@ -1,4 +1,4 @@
--- `property_list::positions::position_of` meets its contract: the first of the name is the first from here on, by the laws `look-..`.
+-- `property_list::positions::position_of` meets its contract: the first of the name is the first from here on, by the laws `look_..`.
 use Prim.Native.Nat.{◌-◌}
 use lib.ListN.{length}
 use Rattle.property_list.specs.Slots.{LooksFrom}

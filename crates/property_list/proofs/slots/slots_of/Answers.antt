@@ -1,4 +1,4 @@
--- `property_list::slots::slots_of` meets its contract: property after property, by the laws `fill-..`.
+-- `property_list::slots::slots_of` meets its contract: property after property, by the laws `fill_..`.
 use borrow.Author.Rules.{rules}
 use Rattle.property_list.proofs.PositionLaws.{stop_less}
 use Rattle.property_list.proofs.SlotLaws.{fill_start, fill_here, fill_again, fill_end}

@@ -1,4 +1,4 @@
--- `property_list::slots::slots_of` meets its contract: property after property, by the laws `fill-..`.
+-- `property_list::slots::slots_of` meets its contract: property after property, by the laws `fill_..`.
 use Prim.Native.Nat.{◌-◌}
 use lib.ListN.{length}
 use Rattle.property_list.proofs.SlotLaws.{Filling}

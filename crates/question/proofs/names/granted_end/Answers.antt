@@ -1,4 +1,4 @@
--- `question::names::granted_end` meets its contract: the names that are left decide about all of them, by the laws `count-..`.
+-- `question::names::granted_end` meets its contract: the names that are left decide about all of them, by the laws `count_..`.
 use borrow.Author.Rules.{rules}
 use Rattle.layout.proofs.CountedLaws.{count_cut, count_many, count_start, count_end, count_broken, count_again}
 use Rattle.question.proofs.names.granted_end.Goals as goal

@@ -1,4 +1,4 @@
--- `question::names::granted_end` meets its contract: the names that are left decide about all of them, by the laws `count-..`.
+-- `question::names::granted_end` meets its contract: the names that are left decide about all of them, by the laws `count_..`.
 use Rattle.rules.specs.Question.{granted_in}
 use Rattle.layout.specs.Counted.{Left}
 use Rattle.question.specs.Parts.{granted_at, granted_stop}

@@ -1,4 +1,4 @@
--- `question::names::names_stop` meets its contract: what is left to pass ends where the whole ends, by the laws `pass-..`.
+-- `question::names::names_stop` meets its contract: what is left to pass ends where the whole ends, by the laws `pass_..`.
 use borrow.Author.Rules.{rules}
 use Rattle.layout.proofs.CountedLaws.{pass_start, pass_here, pass_again, pass_end}
 use Rattle.question.proofs.names.names_stop.Goals as goal

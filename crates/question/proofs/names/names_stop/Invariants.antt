@@ -1,4 +1,4 @@
--- `question::names::names_stop` meets its contract: what is left to pass ends where the whole ends, by the laws `pass-..`.
+-- `question::names::names_stop` meets its contract: what is left to pass ends where the whole ends, by the laws `pass_..`.
 use Rattle.rules.specs.Question.{granted_in}
 use Rattle.layout.specs.Counted.{Passing}
 use Rattle.question.specs.Parts.{granted_at, granted_stop, names_stop}

@@ -1,4 +1,4 @@
--- `quote::unused::brought` meets its contract: the flags and the lines that are left say the whole, by the laws `flag-..`.
+-- `quote::unused::brought` meets its contract: the flags and the lines that are left say the whole, by the laws `flag_..`.
 use borrow.Author.Rules.{rules}
 use Rattle.quote.proofs.UnusedLaws.{flag_start, flag_again, flag_end}
 use Rattle.quote.proofs.unused.brought.Goals as goal

@@ -1,4 +1,4 @@
--- `quote::unused::brought` meets its contract: the flags and the lines that are left say the whole, by the laws `flag-..`.
+-- `quote::unused::brought` meets its contract: the flags and the lines that are left say the whole, by the laws `flag_..`.
 use Prim.Native.Nat.{◌-◌}
 use Rattle.quote.proofs.UnusedLaws.{Flagging}
 use Rattle.quote.proofs.unused.brought.Given as goal

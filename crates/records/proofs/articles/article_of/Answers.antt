@@ -1,4 +1,4 @@
--- `records::articles::article_of` meets its contract: where the number ends, and the rest is the scheme's id, by the laws `article-..`.
+-- `records::articles::article_of` meets its contract: where the number ends, and the rest is the scheme's id, by the laws `article_..`.
 use borrow.Author.Rules.{rules}
 use Rattle.records.proofs.ArticleLaws.{article_first, article_second, article_is}
 use Rattle.records.proofs.articles.article_of.Goals as goal

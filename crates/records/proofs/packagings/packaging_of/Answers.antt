@@ -1,4 +1,4 @@
--- `records::packagings::packaging_of` meets its contract: the two names end where the definition's do, by the laws `packaging-..`.
+-- `records::packagings::packaging_of` meets its contract: the two names end where the definition's do, by the laws `packaging_..`.
 use borrow.Author.Rules.{rules}
 use Rattle.records.proofs.PackagingLaws.{packaging_first, packaging_second, packaging_names}
 use Rattle.records.proofs.packagings.packaging_of.Goals as goal

@@ -1,4 +1,4 @@
--- `records::prices::row_of` meets its contract: the two names end where the definition's do, by the laws `price-..`.
+-- `records::prices::row_of` meets its contract: the two names end where the definition's do, by the laws `price_..`.
 use borrow.Author.Rules.{rules}
 use Rattle.records.proofs.PriceLaws.{price_first, price_second, price_names}
 use Rattle.records.proofs.prices.row_of.Goals as goal

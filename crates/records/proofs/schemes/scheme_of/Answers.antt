@@ -1,4 +1,4 @@
--- `records::schemes::scheme_of` meets its contract: the three names end where the definition's do, by the laws `scheme-..`.
+-- `records::schemes::scheme_of` meets its contract: the three names end where the definition's do, by the laws `scheme_..`.
 use borrow.Author.Rules.{rules}
 use Rattle.records.proofs.SchemeLaws.{scheme_first, scheme_second, scheme_third, scheme_names}
 use Rattle.records.proofs.schemes.scheme_of.Goals as goal

@@ -1,4 +1,4 @@
--- `relation_truth::orders::text_order` meets its contract: the bytes before the position reached are alike, by the laws `text-..`.
+-- `relation_truth::orders::text_order` meets its contract: the bytes before the position reached are alike, by the laws `text_..`.
 use borrow.Author.Rules.{rules}
 use Rattle.relation_truth.proofs.OrderLaws.{text_start, text_longer, text_shorter, text_level, text_decided, text_again}
 use Rattle.relation_truth.proofs.orders.text_order.Goals as goal

@@ -1,4 +1,4 @@
--- `relation_truth::orders::text_order` meets its contract: the bytes before the position reached are alike, by the laws `text-..`.
+-- `relation_truth::orders::text_order` meets its contract: the bytes before the position reached are alike, by the laws `text_..`.
 use Prim.Native.Nat.{◌-◌}
 use lib.ListN.{length}
 use Rattle.relation_truth.proofs.OrderLaws.{Alike}

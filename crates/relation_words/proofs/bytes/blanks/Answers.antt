@@ -1,4 +1,4 @@
--- `relation_words::bytes::blanks` meets its contract: all so far are blanks, by the laws `going-..`.
+-- `relation_words::bytes::blanks` meets its contract: all so far are blanks, by the laws `going_..`.
 use borrow.Author.Rules.{rules}
 use Rattle.relation_words.proofs.ByteLaws.{going_start, going_on, going_stop, going_over}
 use Rattle.relation_words.proofs.bytes.blanks.Goals as goal

@@ -1,4 +1,4 @@
--- `relation_words::bytes::blanks` meets its contract: all so far are blanks, by the laws `going-..`.
+-- `relation_words::bytes::blanks` meets its contract: all so far are blanks, by the laws `going_..`.
 use Prim.Native.Nat.{◌-◌}
 use lib.ListN.{length}
 use Rattle.relation_words.proofs.ByteLaws.{Going}

@@ -1,4 +1,4 @@
--- `relation_words::lists::begins_one` meets its contract: no word before begins so, by the laws `try-..`.
+-- `relation_words::lists::begins_one` meets its contract: no word before begins so, by the laws `try_..`.
 use borrow.Author.Rules.{rules}
 use Rattle.relation_words.proofs.WordLaws.{stop_stretch, try_start, try_found, try_on, try_end}
 use Rattle.relation_words.proofs.lists.begins_one.Goals as goal

@@ -1,4 +1,4 @@
--- `relation_words::lists::begins_one` meets its contract: no word before begins so, by the laws `try-..`.
+-- `relation_words::lists::begins_one` meets its contract: no word before begins so, by the laws `try_..`.
 use Prim.Native.Nat.{◌-◌}
 use mathlib.Core.List.{map}
 use lib.ListN.{length}

@@ -1,4 +1,4 @@
--- `relation_words::lists::begins_word` meets its contract: what is left of both decides, by the laws `match-..`.
+-- `relation_words::lists::begins_word` meets its contract: what is left of both decides, by the laws `match_..`.
 use borrow.Author.Rules.{rules}
 use Rattle.relation_words.proofs.WordLaws.{match_start, match_over, match_unlike, match_on, match_end}
 use Rattle.relation_words.proofs.lists.begins_word.Goals as goal

@@ -1,4 +1,4 @@
--- `relation_words::lists::begins_word` meets its contract: what is left of both decides, by the laws `match-..`.
+-- `relation_words::lists::begins_word` meets its contract: what is left of both decides, by the laws `match_..`.
 use Prim.Native.Nat.{◌-◌}
 use Rattle.relation_words.proofs.WordLaws.{Matching}
 use Rattle.relation_words.proofs.lists.begins_word.Given as goal

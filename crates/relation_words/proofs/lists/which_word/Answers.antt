@@ -1,4 +1,4 @@
--- `relation_words::lists::which_word` meets its contract: no word before is it, by the laws `count-..`.
+-- `relation_words::lists::which_word` meets its contract: no word before is it, by the laws `count_..`.
 use borrow.Author.Rules.{rules}
 use Rattle.relation_words.proofs.WordLaws.{stop_stretch, count_start, count_found, count_on, count_end}
 use Rattle.relation_words.proofs.lists.which_word.Goals as goal

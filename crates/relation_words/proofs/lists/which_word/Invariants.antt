@@ -1,4 +1,4 @@
--- `relation_words::lists::which_word` meets its contract: no word before is it, by the laws `count-..`.
+-- `relation_words::lists::which_word` meets its contract: no word before is it, by the laws `count_..`.
 use Prim.Native.Nat.{◌-◌}
 use mathlib.Core.List.{map}
 use lib.ListN.{length}

@@ -1,4 +1,4 @@
--- `relation_words::lists::word_stop` meets its contract: the bytes so far stand before the first of the words that are left, by the laws `spelling-..`.
+-- `relation_words::lists::word_stop` meets its contract: the bytes so far stand before the first of the words that are left, by the laws `spelling_..`.
 use borrow.Author.Rules.{rules}
 use Rattle.relation_words.proofs.WordLaws.{spelling_start, spelling_on, spelling_stop, spelling_end}
 use Rattle.relation_words.proofs.lists.word_stop.Goals as goal

@@ -1,4 +1,4 @@
--- `relation_words::lists::word_stop` meets its contract: the bytes so far stand before the first of the words that are left, by the laws `spelling-..`.
+-- `relation_words::lists::word_stop` meets its contract: the bytes so far stand before the first of the words that are left, by the laws `spelling_..`.
 use Prim.Native.Nat.{◌-◌}
 use lib.ListN.{length}
 use Rattle.relation_words.proofs.WordLaws.{Spelling}

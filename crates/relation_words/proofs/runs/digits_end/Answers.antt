@@ -1,4 +1,4 @@
--- `relation_words::runs::digits_end` meets its contract: the digits so far, at most eighteen, by the laws `figure-..`.
+-- `relation_words::runs::digits_end` meets its contract: the digits so far, at most eighteen, by the laws `figure_..`.
 use borrow.Author.Rules.{rules}
 use Rattle.std.proofs.lemmas.Bool.{not_from_true}
 use Rattle.relation_words.proofs.DigitLaws.{figure_start, figure_on, figure_stop, figure_more, figure_over}

@@ -1,4 +1,4 @@
--- `relation_words::runs::digits_end` meets its contract: the digits so far, at most eighteen, by the laws `figure-..`.
+-- `relation_words::runs::digits_end` meets its contract: the digits so far, at most eighteen, by the laws `figure_..`.
 use Prim.Native.Nat.{◌-◌}
 use lib.ListN.{length}
 use Rattle.relation_words.proofs.DigitLaws.{Figuring}

@@ -1,4 +1,4 @@
--- `relation_words::runs::quote_end` meets its contract: no quote so far, by the laws `quote-..`.
+-- `relation_words::runs::quote_end` meets its contract: no quote so far, by the laws `quote_..`.
 use borrow.Author.Rules.{rules}
 use Rattle.relation_words.proofs.RunLaws.{quote_start, quote_on, quote_stop, quote_over}
 use Rattle.relation_words.proofs.runs.quote_end.Goals as goal

@@ -1,4 +1,4 @@
--- `relation_words::runs::quote_end` meets its contract: no quote so far, by the laws `quote-..`.
+-- `relation_words::runs::quote_end` meets its contract: no quote so far, by the laws `quote_..`.
 use Prim.Native.Nat.{◌-◌}
 use lib.ListN.{length}
 use Rattle.relation_words.proofs.RunLaws.{Quoting}

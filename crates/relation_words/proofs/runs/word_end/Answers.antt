@@ -1,4 +1,4 @@
--- `relation_words::runs::word_end` meets its contract: bytes of a word so far, by the laws `word-..`.
+-- `relation_words::runs::word_end` meets its contract: bytes of a word so far, by the laws `word_..`.
 use borrow.Author.Rules.{rules}
 use Rattle.relation_words.proofs.RunLaws.{word_start, word_on, word_stop, word_over}
 use Rattle.relation_words.proofs.runs.word_end.Goals as goal

@@ -1,4 +1,4 @@
--- `relation_words::runs::word_end` meets its contract: bytes of a word so far, by the laws `word-..`.
+-- `relation_words::runs::word_end` meets its contract: bytes of a word so far, by the laws `word_..`.
 use Prim.Native.Nat.{◌-◌}
 use lib.ListN.{length}
 use Rattle.relation_words.proofs.RunLaws.{Wording}

@@ -1,4 +1,4 @@
--- `relation_words::runs::words_run` meets its contract: a word of the list may go on so, by the laws `run-..`.
+-- `relation_words::runs::words_run` meets its contract: a word of the list may go on so, by the laws `run_..`.
 use borrow.Author.Rules.{rules}
 use Rattle.relation_words.proofs.RunLaws.{one_byte, more_bytes, run_none, run_start, run_ended, run_on, run_wrong, run_over}
 use Rattle.relation_words.proofs.runs.words_run.Goals as goal

@@ -1,4 +1,4 @@
--- `relation_words::runs::words_run` meets its contract: a word of the list may go on so, by the laws `run-..`.
+-- `relation_words::runs::words_run` meets its contract: a word of the list may go on so, by the laws `run_..`.
 use Prim.Native.Nat.{◌-◌}
 use lib.ListN.{length}
 use Rattle.relation_words.specs.Words.{words_in}

@@ -1,4 +1,4 @@
--- `relations::names::names_of` meets its contract: the assignments so far and what they derive, by the laws `names-..`.
+-- `relations::names::names_of` meets its contract: the assignments so far and what they derive, by the laws `names_..`.
 use native.Mathlib.Omega.{arith}
 use borrow.Author.Rules.{rules}
 use Rattle.relations.proofs.TextLaws.{names_start, names_few, names_wrong, names_within, names_end, names_on, names_further, names_most}

@@ -1,4 +1,4 @@
--- `relations::names::names_of` meets its contract: the assignments so far and what they derive, by the laws `names-..`.
+-- `relations::names::names_of` meets its contract: the assignments so far and what they derive, by the laws `names_..`.
 use Prim.Native.Nat.{◌-◌}
 use lib.ListN.{length}
 use Rattle.relation_truth.specs.Values.{held_in}

@@ -1,4 +1,4 @@
--- `relations::simple::values` meets its contract: constants so far, by the laws `values-..`.
+-- `relations::simple::values` meets its contract: constants so far, by the laws `values_..`.
 use native.Mathlib.Omega.{arith}
 use borrow.Author.Rules.{rules}
 use Rattle.relations.proofs.ExpectedLaws.{heard_inside}

@@ -1,4 +1,4 @@
--- `relations::simple::values` meets its contract: constants so far, by the laws `values-..`.
+-- `relations::simple::values` meets its contract: constants so far, by the laws `values_..`.
 use Prim.Native.Nat.{◌-◌}
 use lib.ListN.{length}
 use Rattle.relation_truth.specs.Values.{constant_in}

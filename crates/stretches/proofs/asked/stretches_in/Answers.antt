@@ -1,5 +1,5 @@
 -- `stretches::asked::stretches_in` meets its contract: the question asks by what is made of it, the days of change are
--- priced, and the marks make all other days steady, by the laws `asked-..`.
+-- priced, and the marks make all other days steady, by the laws `asked_..`.
 use borrow.Author.Rules.{rules}
 use Rattle.grants.proofs.AskLaws.{article_inside, wanted_asked}
 use Rattle.outcomes.proofs.OutcomeLaws.{window_size, window_between}

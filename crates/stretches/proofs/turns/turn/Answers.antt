@@ -1,4 +1,4 @@
--- `stretches::turns::turn` meets its contract: a day that begins a stretch, and one that does not, by the laws `turned-..`.
+-- `stretches::turns::turn` meets its contract: a day that begins a stretch, and one that does not, by the laws `turned_..`.
 use borrow.Author.Rules.{rules}
 use Rattle.stretches.proofs.TurnLaws.{turned_new, turned_old}
 use Rattle.stretches.proofs.turns.turn.Goals as goal

@@ -1,5 +1,5 @@
 -- `stretches::walk::stretches_of` meets its contract: the stretches closed, the one in hand and the days to come make up the whole, by
--- the laws `by-..`.
+-- the laws `by_..`.
 use borrow.Author.Rules.{rules}
 use Rattle.stretches.proofs.WalkLaws.{by_start, by_turn, by_end}
 use Rattle.stretches.proofs.walk.stretches_of.Goals as goal

@@ -1,5 +1,5 @@
 -- `stretches::walk::stretches_of` meets its contract: the stretches closed, the one in hand and the days to come make up the whole, by
--- the laws `by-..`.
+-- the laws `by_..`.
 use Prim.Native.Nat.{◌-◌}
 use lib.ListN.{length}
 use Rattle.stretches.specs.Stretches.{GoingBy}

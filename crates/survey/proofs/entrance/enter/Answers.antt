@@ -1,4 +1,4 @@
--- `survey::entrance::enter` meets its contract: each way out by its law `enters-..`.
+-- `survey::entrance::enter` meets its contract: each way out by its law `enters_..`.
 use borrow.Author.Rules.{rules}
 use Rattle.survey.proofs.EntranceLaws.{is_question, enters_both, enters_no_book, enters_no_question, enters_neither}
 use Rattle.survey.proofs.entrance.enter.Goals as goal

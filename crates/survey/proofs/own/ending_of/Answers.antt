@@ -1,4 +1,4 @@
--- `survey::own::ending_of` meets its contract: of no byte, of one, and of more, by the laws `ending-..`.
+-- `survey::own::ending_of` meets its contract: of no byte, of one, and of more, by the laws `ending_..`.
 use borrow.Author.Rules.{rules}
 use Rattle.survey.proofs.OwnLaws.{ending_none, ending_one, ending_more}
 use Rattle.survey.proofs.own.ending_of.Goals as goal

@@ -1,4 +1,4 @@
--- `survey::own::is_own` meets its contract: another length, another ending, or all of it compared, by the laws `own-..`.
+-- `survey::own::is_own` meets its contract: another length, another ending, or all of it compared, by the laws `own_..`.
 use borrow.Author.Rules.{rules}
 use Rattle.records.proofs.PriceLaws.{price_first}
 use Rattle.survey.proofs.OwnLaws.{own_size, own_long, own_ending}

@@ -1,4 +1,4 @@
--- `survey::window::note_spot` meets its contract: by the laws `note-..`.
+-- `survey::window::note_spot` meets its contract: by the laws `note_..`.
 use borrow.Author.Rules.{rules}
 use Rattle.survey.proofs.SpotLaws.{note_other, note_one, note_many}
 use Rattle.survey.proofs.window.note_spot.Goals as goal

@@ -1,4 +1,4 @@
--- `survey::window::widened` meets its contract: by the laws `span-..`.
+-- `survey::window::widened` meets its contract: by the laws `span_..`.
 use borrow.Author.Rules.{rules}
 use Rattle.survey.proofs.WindowLaws.{span_kept, span_first, span_wider}
 use Rattle.survey.proofs.window.widened.Goals as goal

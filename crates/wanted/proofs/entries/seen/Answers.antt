@@ -1,4 +1,4 @@
--- `wanted::entries::seen` meets its contract: by the laws `seen-..`.
+-- `wanted::entries::seen` meets its contract: by the laws `seen_..`.
 use borrow.Author.Rules.{rules}
 use Rattle.records.proofs.FieldLaws.{accepted_long, of_kind}
 use Rattle.wanted.proofs.EntryLaws.{seen_not, seen_other, seen_row}

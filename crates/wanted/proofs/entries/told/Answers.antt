@@ -1,4 +1,4 @@
--- `wanted::entries::told` meets its contract: by the laws `told-..`.
+-- `wanted::entries::told` meets its contract: by the laws `told_..`.
 use borrow.Author.Rules.{rules}
 use Rattle.wanted.proofs.EntryLaws.{told_sale, told_purchase}
 use Rattle.wanted.proofs.entries.told.Goals as goal

@@ -1,4 +1,4 @@
--- `wanted::last::last_after` meets its contract: by the laws `last-..`.
+-- `wanted::last::last_after` meets its contract: by the laws `last_..`.
 use borrow.Author.Rules.{rules}
 use Rattle.wanted.proofs.LastLaws.{last_some, last_none, last_long, last_part, last_named}
 use Rattle.wanted.proofs.last.last_after.Goals as goal

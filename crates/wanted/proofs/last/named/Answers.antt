@@ -1,4 +1,4 @@
--- `wanted::last::named` meets its contract: by the laws `named-..`.
+-- `wanted::last::named` meets its contract: by the laws `named_..`.
 use borrow.Author.Rules.{rules}
 use Rattle.wanted.proofs.LastLaws.{named_same, named_new}
 use Rattle.wanted.proofs.last.named.Goals as goal

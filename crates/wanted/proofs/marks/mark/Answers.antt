@@ -1,4 +1,4 @@
--- `wanted::marks::mark` meets its contract: the mark so far and what is left are the whole, by the laws `marking-..`.
+-- `wanted::marks::mark` meets its contract: the mark so far and what is left are the whole, by the laws `marking_..`.
 use borrow.Author.Rules.{rules}
 use Rattle.wanted.proofs.MarkLaws.{marking_start, marking_again, marking_end}
 use Rattle.wanted.proofs.marks.mark.Goals as goal

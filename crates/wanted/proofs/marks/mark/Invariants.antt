@@ -1,4 +1,4 @@
--- `wanted::marks::mark` meets its contract: the mark so far and what is left are the whole, by the laws `marking-..`.
+-- `wanted::marks::mark` meets its contract: the mark so far and what is left are the whole, by the laws `marking_..`.
 use Prim.Native.Nat.{◌-◌}
 use lib.ListN.{length}
 use Rattle.wanted.proofs.MarkLaws.{Marking}

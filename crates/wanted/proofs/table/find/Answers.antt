@@ -1,4 +1,4 @@
--- `wanted::table::find` meets its contract: from the last name with the mark to the first, by the laws `find-..`.
+-- `wanted::table::find` meets its contract: from the last name with the mark to the first, by the laws `find_..`.
 use borrow.Author.Rules.{rules}
 use Rattle.wanted.proofs.TableLaws.{find_start, find_none, find_order, find_inside, find_less, find_hit, find_next}
 use Rattle.wanted.proofs.table.find.Goals as goal

@@ -1,4 +1,4 @@
--- `wanted::table::find` meets its contract: from the last name with the mark to the first, by the laws `find-..`.
+-- `wanted::table::find` meets its contract: from the last name with the mark to the first, by the laws `find_..`.
 use Rattle.wanted.proofs.TableLaws.{Finding}
 use Rattle.wanted.proofs.table.find.Given as goal
 

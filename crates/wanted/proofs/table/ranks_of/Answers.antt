@@ -1,4 +1,4 @@
--- `wanted::table::ranks_of` meets its contract: name after name, by the laws `ranking-..`.
+-- `wanted::table::ranks_of` meets its contract: name after name, by the laws `ranking_..`.
 use borrow.Author.Rules.{rules}
 use Rattle.wanted.proofs.TableLaws.{filling_order, filling_inside, ranking_start, ranking_again, ranking_end}
 use Rattle.wanted.proofs.table.ranks_of.Goals as goal

@@ -1,4 +1,4 @@
--- `wanted::table::ranks_of` meets its contract: name after name, by the laws `ranking-..`.
+-- `wanted::table::ranks_of` meets its contract: name after name, by the laws `ranking_..`.
 use Prim.Native.Nat.{◌-◌}
 use Rattle.wanted.proofs.TableLaws.{Ranking}
 use Rattle.wanted.proofs.table.ranks_of.Given as goal

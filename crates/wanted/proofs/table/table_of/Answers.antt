@@ -1,4 +1,4 @@
--- `wanted::table::table_of` meets its contract: name after name, by the laws `filling-..`.
+-- `wanted::table::table_of` meets its contract: name after name, by the laws `filling_..`.
 use borrow.Author.Rules.{rules}
 use Rattle.wanted.proofs.TableLaws.{filling_start, filling_order, filling_inside, filling_end, filling_again}
 use Rattle.wanted.proofs.table.table_of.Goals as goal

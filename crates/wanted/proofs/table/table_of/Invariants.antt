@@ -1,4 +1,4 @@
--- `wanted::table::table_of` meets its contract: name after name, by the laws `filling-..`.
+-- `wanted::table::table_of` meets its contract: name after name, by the laws `filling_..`.
 use Prim.Native.Nat.{◌-◌}
 use Rattle.wanted.proofs.TableLaws.{Filling}
 use Rattle.wanted.proofs.table.table_of.Given as goal
