@@ -103,7 +103,9 @@ fn tell(ranks: [usize; 500], sorts: &[u8; 500], n: usize, sightings: Sightings) 
     all
 }
 
-// Of each name on the list whether the book has the article, and the window of its rows of the sort beside it.
+// Of each name on the list whether the book has the article, and the window of its rows of the sort beside it. It stays a call of its own:
+// what it takes of the stack is given back before a basket's questions are answered.
+#[inline(never)]
 pub fn find_all(
     b: &[u8],
     names: &[u8],
