@@ -43,7 +43,7 @@ pub fn factored(factor: u16, x: Fraction) -> Fraction
 
 // ---- the running total
 
-// The total after one more line.
+// The total after one more line. Its type is that of the definition `total_of`, by which the promises about a total are stated, and stays with it.
 pub fn add_line(total: Cents, amount: Cents) -> Total
     requires { Addable total.0 amount.0 }
     ensures { result ≡ total_after total.0 amount.0 }

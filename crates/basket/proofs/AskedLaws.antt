@@ -12,51 +12,45 @@ use Rattle.rules.specs.Price.{Answer, answered}
 use Rattle.rules.specs.Basket.{answer_size, basket_bytes}
 use Rattle.rules.proofs.CurrencyLaws.{rows_in_letters}
 use Rattle.rules.proofs.BasketLaws.{basket_size}
-use Rattle.layout.specs.Reads.{part}
 use Rattle.layout.specs.Records.{records_left}
-use Rattle.questions.specs.Questions.{no_question}
+use Rattle.questions.specs.declared.Lent.{Lent}
+use Rattle.questions.specs.Questions.{no_question, nowhere}
 use Rattle.survey.specs.declared.Found.{Found}
-use Rattle.survey.specs.Survey.{FoundIs, FoundOf}
+use Rattle.survey.specs.Survey.{FoundIs}
 use Rattle.wanted.specs.declared.Sights.{Sights}
-use Rattle.wanted.specs.Entries.{no_sight}
+use Rattle.wanted.specs.Entries.{found_for}
 use Rattle.price.specs.Answered.{Ready, answered_to}
-use Rattle.basket.specs.Basket.{asked, Basketed, outcomes, all_answers, all_lines}
+use Rattle.basket.specs.Basket.{asked, Basketed, question_at, outcomes, all_answers, all_lines}
 
-module _ {b s starts ends : List ℕ} {found : Sights} {n : ℕ} (bk : Basketed b s starts ends found n) where
-  pub outcomes_count : length (outcomes b s) ≡ n
+module _ {b s : List ℕ} {ls : List Lent} {found : Sights} (bk : Basketed b s ls found) where
+  pub outcomes_count : length (outcomes b s) ≡ length ls
   outcomes_count = length-map (asked s) (answered (records_left b 5)) ∙ bk.count
 
   -- 33 bytes for each answer
-  pub answers_size : length (all_answers b s) ≡ answer_size * n
+  pub answers_size : length (all_answers b s) ≡ answer_size * length ls
   unfolding basket_bytes
   answers_size =
       let whole = basket_size (records_left b 5) (rows_in_letters b (records_left b 5) bk.is_book) (asked s) in
       omega (arith, whole, length-append (all_answers b s) (all_lines b s), bk.count)
 
-  module _ (j : ℕ) (h : j < n) where
-    pub part_low : get_or starts j 0 ≤ get_or ends j 0
-    part_low = (bk.stand j h).low
-
-    pub part_fits : get_or ends j 0 ≤ length s
-    part_fits = (bk.stand j h).fits
-
-    pub ready_at : {f : Found} → FoundOf (get_or found.all j no_sight) found.noted f → Ready b (part s (get_or starts j 0) (get_or ends j 0)) f
+  module _ (j : ℕ) (h : j < length ls) where
+    pub ready_at : {f : Found} → f ≡ found_for found j → Ready b (question_at s ls j) f
     ready_at {f} of =
         let is = (bk.stand j h).is in
         record {
           ok = ap is_some is;
           has = λ q e.
               subst (λ (x : Question). FoundIs b x.article x.sort f) (some-injective _ q (sym is ∙ e))
-              (subst (λ (g : Found). FoundIs b (get_or (asked s) j no_question).article (get_or (asked s) j no_question).sort g) (sym of.is) (bk.has j h));
+              (subst (λ (g : Found). FoundIs b (get_or (asked s) j no_question).article (get_or (asked s) j no_question).sort g) (sym of) (bk.has j h));
         }
 
     -- what the question there is answered, among what all are
-    as_one : answered_to (records_left b 5) (part s (get_or starts j 0) (get_or ends j 0)) ≡ answered (records_left b 5) (get_or (asked s) j no_question)
+    as_one : answered_to (records_left b 5) (question_at s ls j) ≡ answered (records_left b 5) (get_or (asked s) j no_question)
     unfolding answered_to
     as_one = rw (bk.stand j h).is
 
     pub nth : (f : Result Answer → List ℕ)
-        → get_or (map f (outcomes b s)) j (f (answered (records_left b 5) no_question)) ≡ f (answered_to (records_left b 5) (part s (get_or starts j 0) (get_or ends j 0)))
+        → get_or (map f (outcomes b s)) j (f (answered (records_left b 5) no_question)) ≡ f (answered_to (records_left b 5) (question_at s ls j))
     nth f =
         get_or-map f (outcomes b s) j (answered (records_left b 5) no_question)
         ∙ ap f (get_or-map (answered (records_left b 5)) (asked s) j no_question ∙ sym as_one)

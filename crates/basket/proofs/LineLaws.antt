@@ -1,68 +1,80 @@
 -- The lines of all questions, one question's behind the other's.
 use Prim.Native.Nat.{ℕ, ◌+◌, ◌≤◌, ◌<◌}
-use mathlib.Core.Path.{◌≡◌, sym, ◌∙◌, ap, subst}
+use mathlib.Core.Path.{◌≡◌, refl, sym, ◌∙◌, ap, subst}
 use mathlib.Core.List.{List, map}
 use native.Mathlib.Omega.{arith}
-use native.Mathlib.Numerals.{unary_clauses}
-use lib.ListN.{length, get_or, length-map}
+use lib.ListN.{length, take, get_or, length-map}
+use Rattle.std.specs.Prelude.{Some, None}
+use Rattle.std.specs.Prelude as Std
 use Rattle.rules.specs.Price.{answered}
 use Rattle.rules.specs.Basket.{lines_in}
-use Rattle.layout.specs.Ensures.{PutsTo}
-use Rattle.layout.specs.Reads.{part}
+use Rattle.layout.specs.Ensures.{Puts, PutsTo}
 use Rattle.layout.specs.Records.{records_left}
 use Rattle.layout.proofs.PileLaws.{Piling, pile_start, pile_room, pile_again, pile_end}
+use Rattle.questions.specs.declared.Lent.{Lent}
 use Rattle.questions.specs.Questions.{no_question}
 use Rattle.wanted.specs.declared.Sights.{Sights}
 use Rattle.price.specs.declared.answered.Answered.{Answered}
-use Rattle.price.specs.Answered.{HasRoom, AnsweredIs, lines_to}
-use Rattle.basket.specs.Basket.{Basketed, outcomes, all_lines, Kept}
+use Rattle.price.specs.Answered.{HasRoom, PutsIfRoom, AnsweredIs, lines_to}
+use Rattle.basket.specs.Basket.{Basketed, question_at, outcomes, all_lines, KeptTo, Kept}
 use Rattle.basket.proofs.AskedLaws.{outcomes_count, nth}
 
 -- the lines of j questions are there
-pub record Listing (b s starts ends : List ℕ) (found : Sights) (n : ℕ) (old : List ℕ) (from : ℕ) (out : List ℕ) (at j : ℕ) : Type 0 where
-  pub basket : Basketed b s starts ends found n
-  pub few : n ≤ 200
-  pub place : j ≤ n
+pub record Listing (b s : List ℕ) (ls : List Lent) (found : Sights) (old : List ℕ) (from : ℕ) (out : List ℕ) (end : Std.Option ℕ) (j : ℕ) : Type 0 where
+  pub basket : Basketed b s ls found
+  pub few : length ls ≤ 200
+  pub place : j ≤ length ls
+  pub at : ℕ
+  pub is : end ≡ Some at
   pub pile : Piling old from (map lines_in (outcomes b s)) out at j
 
-module _ {b s starts ends : List ℕ} {found : Sights} {n : ℕ} {old : List ℕ} {from : ℕ} where
-  pub lines_start : Basketed b s starts ends found n → HasRoom old from (all_lines b s) → Listing b s starts ends found n old from old from 0
-  lines_start bk room = record { basket = bk; few = bk.few; place = omega arith; pile = pile_start old from (map lines_in (outcomes b s)) room.fits }
+module _ {b s : List ℕ} {ls : List Lent} {found : Sights} {old : List ℕ} {from : ℕ} where
+  pub lines_start : Basketed b s ls found → HasRoom old from (all_lines b s) → Listing b s ls found old from old (Some from) 0
+  lines_start bk room = record { basket = bk; few = bk.few; place = omega arith; at = from; is = refl; pile = pile_start old from (map lines_in (outcomes b s)) room.fits }
 
-  module _ {out : List ℕ} {at j : ℕ} (inv : Listing b s starts ends found n old from out at j) where
-    count : length (map lines_in (outcomes b s)) ≡ n
+  module _ {out : List ℕ} {end : Std.Option ℕ} {j : ℕ} (inv : Listing b s ls found old from out end j) where
+    count : length (map lines_in (outcomes b s)) ≡ length ls
     count = length-map (outcomes b s) lines_in ∙ outcomes_count inv.basket
 
-    pub lines_room : j < n → HasRoom out at (lines_to (records_left b 5) (part s (get_or starts j 0) (get_or ends j 0)))
+    pub lines_room : j < length ls → HasRoom out inv.at (lines_to (records_left b 5) (question_at s ls j))
     lines_room h = record {
       fits =
           let d = lines_in (answered (records_left b 5) no_question) in
           omega (arith, pile_room old from (map lines_in (outcomes b s)) inv.pile (omega (arith, count)) d, ap length (nth inv.basket j h lines_in));
     }
 
-    pub lines_again : j < n → {new : List ℕ} {told : Answered} → AnsweredIs (records_left b 5) (part s (get_or starts j 0) (get_or ends j 0)) out at new told
-        → Listing b s starts ends found n old from new told.end (j + 1)
+    pub lines_again : j < length ls → {new : List ℕ} {told : Answered} → AnsweredIs (records_left b 5) (question_at s ls j) out end new told
+        → Listing b s ls found old from new told.end (j + 1)
     lines_again h {new} {told} is =
-        let d = lines_in (answered (records_left b 5) no_question) in
-        let put = is.lines.fits (lines_room h).fits in
-        record {
+        let bytes = lines_to (records_left b 5) (question_at s ls j) in
+        go told.end refl (subst (λ (x : Std.Option ℕ). PutsIfRoom out x bytes new told.end) inv.is is.lines)
+      where
+        go : (e : Std.Option ℕ) → told.end ≡ e → PutsIfRoom out (Some inv.at) (lines_to (records_left b 5) (question_at s ls j)) new e
+            → Listing b s ls found old from new told.end (j + 1)
+        go None e p = absurd (omega (arith, p.full, (lines_room h).fits))
+        go (Some k) e p = record {
           basket = inv.basket;
           few = inv.few;
           place = omega arith;
-          pile = pile_again old from (map lines_in (outcomes b s)) inv.pile (omega (arith, count)) d
-              (subst (λ (x : List ℕ). PutsTo out at x new told.end) (sym (nth inv.basket j h lines_in)) put);
+          at = k;
+          is = e;
+          pile = pile_again old from (map lines_in (outcomes b s)) inv.pile (omega (arith, count)) (lines_in (answered (records_left b 5) no_question))
+              (subst (λ (x : List ℕ). PutsTo out inv.at x new k) (sym (nth inv.basket j h lines_in)) p.put);
         }
 
-    pub lines_end : n ≤ j → PutsTo old from (all_lines b s) out at
-    lines_end h = pile_end old from (map lines_in (outcomes b s)) inv.pile (omega (arith, count))
+    pub lines_end : length ls ≤ j → Puts old from (all_lines b s) out
+    lines_end h = (pile_end old from (map lines_in (outcomes b s)) inv.pile (omega (arith, count))).puts
 
 -- those that were kept
-module _ {kept bytes : List ℕ} {end : ℕ} (k : Kept kept end bytes) (l : end ≤ length kept) where
-  kept_part : part kept 0 end ≡ bytes
-  kept_part = simp unary_clauses (k.is l)
+module _ (kept bytes : List ℕ) {e : ℕ} {end : Std.Option ℕ} (is : end ≡ Some e) (k : Kept kept end bytes) where
+  kept_to : KeptTo kept bytes e
+  kept_to = subst (λ (x : Std.Option ℕ). Kept kept x bytes) is k
 
-  pub kept_room : {out : List ℕ} {at : ℕ} → HasRoom out at bytes → at + length (part kept 0 end) ≤ length out
-  kept_room h = omega (arith, ap length kept_part, h.fits)
+  pub kept_fits : e ≤ length kept
+  kept_fits = kept_to.fits
 
-  pub kept_put : {old : List ℕ} {at : ℕ} {new : List ℕ} {r : ℕ} → PutsTo old at (part kept 0 end) new r → PutsTo old at bytes new r
-  kept_put {old} {at} {new} {r} p = subst (λ (x : List ℕ). PutsTo old at x new r) kept_part p
+  pub kept_room : {out : List ℕ} {at : ℕ} → HasRoom out at bytes → at + length (take e kept) ≤ length out
+  kept_room h = omega (arith, ap length kept_to.is, h.fits)
+
+  pub kept_put : {old : List ℕ} {at : ℕ} {new : List ℕ} {r : ℕ} → PutsTo old at (take e kept) new r → Puts old at bytes new
+  kept_put {old} {at} {new} {r} p = subst (λ (x : List ℕ). Puts old at x new) kept_to.is p.puts

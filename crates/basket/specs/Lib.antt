@@ -1,3 +1,4 @@
 pub mod Basket
+pub mod Held
 pub mod Located
 pub mod Read

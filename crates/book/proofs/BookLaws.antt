@@ -156,8 +156,5 @@ module _ {b : List ℕ} {at : ℕ} (inv : Decides b at) where
     pub walk_bad : e < 1 → false ≡ is_some (records b)
     walk_bad g = decided false (le-ltb 0 e (omega arith))
 
-    pub walk_less : 1 ≤ e → length b - e < length b - at
-    walk_less g = omega (arith, p.low (omega arith))
-
     pub walk_again : 1 ≤ e → Decides b e
     walk_again g = record { fits = p.fits; rest = decided true (lt-ltb 0 e (omega arith)) }

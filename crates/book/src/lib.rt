@@ -5,30 +5,31 @@ ghost use Rattle.std.specs.Prelude.{◌≡◌, ◌≤◌, length};
 ghost use Rattle.rules.specs.Lists.{is_some};
 ghost use Rattle.rules.specs.BookLayout.{records};
 ghost use Rattle.layout.specs.Records.{RecordHere, StopIs};
+ghost use Rattle.layout.specs.Ends.{EndOrNone};
 ghost use Rattle.book.specs.Ensures.{RecordEnd};
 
 use kinds::record_ok;
 use layout::heads::book_head_ok;
 use layout::numbers::two_at;
 
-// The end of the record at `at`, or 0.
-pub fn record_end(b: &[u8], at: usize) -> usize
+// Where the record at `at` ends, if one stands there.
+pub fn record_end(b: &[u8], at: usize) -> Option<usize>
     requires { at ≤ length b.now }
-    ensures { RecordEnd b.now at result }
+    ensures { EndOrNone (RecordEnd b.now at) result }
 {
     if b.len() - at < 2 {
-        return 0;
+        return None;
     }
     let from = at + 2;
     let n = two_at(b, at);
     if b.len() - from < n {
-        return 0;
+        return None;
     }
     let end = from + n;
     if record_ok(&b[from..end], &b[from..]) {
-        end
+        Some(end)
     } else {
-        0
+        None
     }
 }
 
@@ -36,19 +37,17 @@ pub fn record_end(b: &[u8], at: usize) -> usize
 pub fn book_ok(b: &[u8]) -> bool
     ensures { result ≡ is_some (records b.now) }
 {
-    if book_head_ok(b) {
-        let mut at = 5;
-        while at < b.len() {
-            let end = record_end(b, at);
-            if end < 1 {
-                return false;
-            }
-            at = end;
-        }
-        true
-    } else {
-        false
+    if !book_head_ok(b) {
+        return false;
     }
+    let mut at = 5;
+    while at < b.len() {
+        let Some(end) = record_end(b, at) else {
+            return false;
+        };
+        at = end;
+    }
+    true
 }
 
 // The end of the record at `at` of an accepted book.

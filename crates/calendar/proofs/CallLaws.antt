@@ -1,9 +1,9 @@
 -- The call: what is listed, if it fits; else the refusals behind it, and nothing is written.
 use Prim.Native.Nat.{ℕ, ◌*◌, ◌≤◌, ◌<◌}
 use native.Mathlib.Nat.{zero-add}
-use mathlib.Core.Path.{◌≡◌, refl, sym, ◌∙◌, ap}
+use mathlib.Core.Path.{◌≡◌, refl, sym, ◌∙◌, ap, subst}
 use mathlib.Core.Bool.{Bool, true, false, cond}
-use mathlib.Core.List.{List, ◌++◌}
+use mathlib.Core.List.{List, ◌++◌, map}
 use native.Mathlib.Omega.{arith}
 use lib.Dec.{eqb, leb}
 use lib.ListN.{length, take, drop}
@@ -14,7 +14,10 @@ use Rattle.rules.specs.Calendar.{Stretch, stretches_bytes, listing, finished, ca
 use Rattle.layout.specs.Ensures.{Puts}
 use Rattle.calendar.specs.declared.listing.Listing.{Listing}
 use Rattle.calendar.specs.Calls.{CalendarIs}
-use Rattle.calendar.specs.Listing.{stretches_in, ListingIs, refusal_of, RefusalIs, Writable}
+use Rattle.calendar.specs.Listing.{stretches_in, ListingIs, refusal_of, RefusalIs, AnswerIs}
+use Rattle.stretches.specs.declared.Stretch as Declared
+use Rattle.stretches.specs.Stretches.{as_stretch}
+use Rattle.rules.specs.declared.CalendarAnswer.{CalendarAnswer}
 use Rattle.calendar.proofs.ByteLaws.{bytes_length}
 
 -- ---- the definition's call in two parts
@@ -83,31 +86,32 @@ finish size {room} {o} {l} {r} {k} w e f =
 
 -- ---- as bytes
 
-module _ (b s : List ℕ) (end : ℕ) (lent : List ℕ) {l : Listing} {r : ℕ} (w : ListingIs (listing b s end) l) (f : RefusalIs l.number (20 * l.stretches.n) (length lent) r) where
+module _ (b s : List ℕ) (end : ℕ) (lent : List ℕ) {l : Listing} {r : CalendarAnswer} (w : ListingIs (listing b s end) l) (f : AnswerIs l.number (20 * l.stretches.n) (length lent) r) where
   size_is : length (stretches_bytes (stretches_in l.stretches)) ≡ 20 * l.stretches.n
   size_is = bytes_length (take l.stretches.n l.stretches.list) ∙ ap (λ (k : ℕ). 20 * k) (length-take-le l.stretches.n l.stretches.list (omega (arith, w.long, w.few)))
 
-  ends : Finished (λ ss. length (stretches_bytes ss)) (length lent) (listing b s end) l r
-  ends = finish (λ ss. length (stretches_bytes ss)) w size_is f
+  ends : Finished (λ ss. length (stretches_bytes ss)) (length lent) (listing b s end) l r.number
+  ends = finish (λ ss. length (stretches_bytes ss)) w size_is f.number
 
   abbrev called : Result (List Stretch)
   called = calendar b s end (length lent)
 
-  pub calendar_refused : (r ≡ 0 → ⊥) → CalendarIs b s end lent (record { length = 0; number = r }) lent
+  pub calendar_refused : (r.number ≡ 0 → ⊥) → CalendarIs b s end lent r lent
   unfolding shown_bytes lent_after
   calendar_refused h =
-      let is : called ≡ refused r = two_parts stretches_bytes b s end (length lent) ∙ ends.refuses h in
-      record { answer = rw is; output = rw is }
+      let is : called ≡ refused r.number = two_parts stretches_bytes b s end (length lent) ∙ ends.refuses h in
+      record { answer = rw is (λ i. record { length = f.refuses h i; number = r.number }); output = rw is }
 
-  pub calendar_writable : r ≡ 0 → Writable lent l.stretches
-  calendar_writable h = record { long = w.long; few = w.few; room = omega (arith, ends.fits h, size_is) }
+  module _ {rs : List Declared.Stretch} (e : rs ≡ take l.stretches.n l.stretches.list) (h : r.number ≡ 0) where
+    pub calendar_room : 20 * length rs ≤ length lent
+    calendar_room = omega (arith, ends.fits h, size_is, ap length e, length-take-le l.stretches.n l.stretches.list (omega (arith, w.long, w.few)))
 
-  pub calendar_done : r ≡ 0 → {new : List ℕ} → Puts lent 0 (stretches_bytes (stretches_in l.stretches)) new
-      → CalendarIs b s end lent (record { length = 20 * l.stretches.n; number = 0 }) new
-  unfolding shown_bytes lent_after
-  calendar_done h {new} p =
-      let is : called ≡ done (stretches_in l.stretches) = two_parts stretches_bytes b s end (length lent) ∙ ends.answers h in
-      record {
-        answer = rw is (λ i. record { length = sym size_is i; number = 0 });
-        output = rw is (p.is ∙ ap (λ (k : ℕ). stretches_bytes (stretches_in l.stretches) ++ drop k lent) (zero-add (length (stretches_bytes (stretches_in l.stretches)))));
-      }
+    pub calendar_done : {new : List ℕ} → Puts lent 0 (stretches_bytes (map as_stretch rs)) new → CalendarIs b s end lent r new
+    unfolding shown_bytes lent_after
+    calendar_done {new} p =
+        let is : called ≡ done (stretches_in l.stretches) = two_parts stretches_bytes b s end (length lent) ∙ ends.answers h in
+        let put = subst (λ (x : List Declared.Stretch). Puts lent 0 (stretches_bytes (map as_stretch x)) new) e p in
+        record {
+          answer = rw is (λ i. record { length = (f.answers h ∙ sym size_is) i; number = h i });
+          output = rw is (put.is ∙ ap (λ (k : ℕ). stretches_bytes (stretches_in l.stretches) ++ drop k lent) (zero-add (length (stretches_bytes (stretches_in l.stretches)))));
+        }

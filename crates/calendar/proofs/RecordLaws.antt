@@ -59,14 +59,6 @@ module _ (b s : List ℕ) (end : ℕ) (ys : List Declared.Stretch) {l : Listing}
       go true e = let z = eqb-true r.number 0 e in omega (arith, a.answers z, ends.fits z, size_is)
       go false e = omega (arith, a.refuses (eqb-false r.number 0 e))
 
-  -- nor more than there are
-  pub list_few : r.length ≤ most_days
-  list_few = go (eqb r.number 0) refl
-    where
-      go : (x : Bool) → eqb r.number 0 ≡ x → r.length ≤ most_days
-      go true e = omega (arith, a.answers (eqb-true r.number 0 e), w.few)
-      go false e = omega (arith, a.refuses (eqb-false r.number 0 e))
-
   pub list_called : CalendarListIs b s end ys r (filled ys (stretch_of l) r.length)
   unfolding shown_records lent_after_list lent_after
   list_called = go (eqb r.number 0) refl

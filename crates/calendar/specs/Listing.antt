@@ -1,5 +1,5 @@
 -- The stretches that a call asks for, before it is known whether they fit into the lent output.
-use Rattle.std.specs.Prelude.{ℕ, zero, suc, ◌*◌, ◌≤◌, ◌≡◌, cond, List, map, eqb, leb, length, take, get_or, set}
+use Rattle.std.specs.Prelude.{ℕ, zero, suc, ◌≤◌, ◌≡◌, cond, List, map, eqb, leb, length, take, get_or, set}
 use Rattle.rules.specs.Refusals.{Result, done, refused}
 use Rattle.rules.specs.Calendar.{Stretch, most_days}
 use Rattle.rules.specs.declared.CalendarAnswer.{CalendarAnswer}
@@ -41,11 +41,11 @@ refusal_of listed size room = cond (eqb listed 0) (cond (leb size room) 0 7) lis
 pub record RefusalIs (listed size room r : ℕ) : Type 0 where
   pub is : r ≡ refusal_of listed size room
 
--- there is room for these
-pub record Writable (out : List ℕ) (r : Stretches) : Type 0 where
-  pub long : length r.list ≡ most_days
-  pub few : r.n ≤ most_days
-  pub room : 20 * r.n ≤ length out
+-- what a caller reads of so much, where it fits or is refused
+pub record AnswerIs (listed size room : ℕ) (r : CalendarAnswer) : Type 0 where
+  pub refuses : (r.number ≡ 0 → ⊥) → r.length ≡ 0
+  pub answers : r.number ≡ 0 → r.length ≡ size
+  pub number : RefusalIs listed size room r.number
 
 -- ---- as a list of records
 
@@ -57,10 +57,8 @@ pub record StretchAt (l : Listing) (i : ℕ) (r : Declared.Stretch) : Type 0 whe
   pub is : r ≡ stretch_of l i
 
 -- how many are handed over, where there is room for so many
-pub record ListAnswer (l : Listing) (room : ℕ) (r : CalendarAnswer) : Type 0 where
-  pub refuses : (r.number ≡ 0 → ⊥) → r.length ≡ 0
-  pub answers : r.number ≡ 0 → r.length ≡ l.stretches.n
-  pub number : RefusalIs l.number l.stretches.n room r.number
+abbrev pub ListAnswer : Listing → ℕ → CalendarAnswer → Type 0
+ListAnswer l room r = AnswerIs l.number l.stretches.n room r
 
 -- the first n elements are what g says, and the others are as in ys
 abbrev pub filled : List Declared.Stretch → (ℕ → Declared.Stretch) → ℕ → List Declared.Stretch

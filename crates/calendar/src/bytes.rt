@@ -1,14 +1,13 @@
 // Stretches in bytes, 20 each.
-ghost use Rattle.std.specs.Prelude.{◌+◌, ◌*◌, ◌≤◌, [], ◌∷◌, length};
+ghost use Rattle.std.specs.Prelude.{◌+◌, ◌*◌, ◌≤◌, [], ◌∷◌, map, length};
 ghost use Rattle.rules.specs.Bytes.{signed_bytes_of};
 ghost use Rattle.rules.specs.Calendar.{stretch_bytes, stretches_bytes};
 ghost use Rattle.layout.specs.Ensures.{Puts};
 ghost use Rattle.stretches.specs.Stretches.{as_stretch};
-ghost use Rattle.calendar.specs.Listing.{stretches_in, Writable};
 
 use layout::numbers::{put_four, put_signed_eight};
 use rules::{Cents, Currency};
-use stretches::{Stretch, Stretches};
+use stretches::Stretch;
 
 fn put_currency(out: &mut [u8], at: usize, refusal: u8, currency: Currency)
     requires { at + 4 ≤ length out.old }
@@ -40,15 +39,11 @@ fn write_stretch(out: &mut [u8], at: usize, stretch: Stretch)
 }
 
 // One behind the other, to the front of `out`.
-pub fn write_stretches(out: &mut [u8], stretches: Stretches)
-    requires { Writable out.old stretches }
-    ensures { Puts out.old 0 (stretches_bytes (stretches_in stretches)) out.new }
+pub fn write_stretches(out: &mut [u8], stretches: &[Stretch])
+    requires { 20 * length stretches.now ≤ length out.old }
+    ensures { Puts out.old 0 (stretches_bytes (map as_stretch stretches.now)) out.new }
 {
-    let list = stretches.list;
-    let n = stretches.n;
-    let mut i = 0;
-    while i < n {
-        write_stretch(out, 20 * i, list[i]);
-        i += 1;
+    for (i, stretch) in stretches.iter().enumerate() {
+        write_stretch(out, 20 * i, *stretch);
     }
 }

@@ -2,32 +2,22 @@
 ghost use Rattle.std.specs.Prelude.{◌<◌};
 ghost use Rattle.calendar.specs.Listing.{StretchAt, ListAnswer};
 
+use crate::answer;
 use crate::listing::Listing;
-use crate::refusal;
 use rules::CalendarAnswer;
 use stretches::Stretch;
 
 // How many records the call hands over, and its number.
-pub fn list_answer(listing: Listing, room: usize) -> CalendarAnswer
-    ensures { ListAnswer listing room result }
+pub fn list_answer(listing: &Listing, room: usize) -> CalendarAnswer
+    ensures { ListAnswer listing.now room result }
 {
-    let n = listing.stretches.n;
-    let number = refusal(listing.number, n, room);
-    if number != 0 {
-        return CalendarAnswer { length: 0, number };
-    }
-    CalendarAnswer {
-        length: n as u64,
-        number: 0,
-    }
+    answer(listing.number, listing.stretches.n, room)
 }
 
 // The i-th stretch is itself the record that is handed over.
-pub fn stretch_at(listing: Listing, i: usize) -> Stretch
+pub fn stretch_at(listing: &Listing, i: usize) -> Stretch
     requires { i < 1096 }
-    ensures { StretchAt listing i result }
+    ensures { StretchAt listing.now i result }
 {
-    let stretches = listing.stretches;
-    let list = stretches.list;
-    list[i]
+    listing.stretches.list[i]
 }

@@ -2,31 +2,16 @@
 // All that is to be shown about it is shown of `printing::output`; here bytes are read and written.
 #![tactic(auto)]
 
-ghost use Rattle.std.specs.Prelude.{◌≤◌, length, IfOk};
-
 use std::io;
 use std::io::{Read, Write};
 
-// Reads until what is lent is full or the input ends, and returns how many bytes it put in front.
-fn read_full(rt: &impl Input, input: &mut [u8]) -> io::Result<usize>
-    ensures { IfOk result (λ n. n ≤ length input.new) }
-{
-    let mut from = rt.reader();
-    let mut n = 0;
-    while n < input.len() {
-        let more = from.read(&mut input[n..])?;
-        if more == 0 {
-            break;
-        }
-        n += more;
-    }
-    Ok(n)
-}
+// So many bytes are read at most: one more than is allowed, so that too much is seen.
+const MOST_READ: u64 = 65537;
 
 fn main(rt: HostRuntime) -> io::Result<()> {
-    let mut input = [0u8; 65537]; // one more than is allowed, so that too much is seen
-    let n = read_full(&rt, &mut input)?;
-    let printed = printing::output::output(&input[..n]);
+    let mut input = Vec::new(rt.alloc());
+    rt.reader().take(MOST_READ).read_to_end(&mut input)?;
+    let printed = printing::output::output(&input);
     let bytes = printed.bytes;
     let size = printed.n;
     io::writer(&rt).write_all(&bytes[..size])

@@ -1,13 +1,14 @@
 -- A record over the days of a block: it is the same on each of them, or it is listed; and what the list holds.
 use Prim.Native.Nat.{ℕ, suc, ◌+◌, ◌≤◌, ◌<◌}
 use mathlib.Core.Path.{◌≡◌, refl, sym, ◌∙◌, ap, subst}
-use mathlib.Core.Bool.{Bool, true, false, ◌&&◌, ◌||◌, not, cond, false≢true}
-use mathlib.Core.List.{List, [], ◌∷◌, ◌++◌}
+use mathlib.Core.Bool.{Bool, true, false, ◌||◌, not, cond, false≢true}
+use mathlib.Core.List.{List}
 use native.Mathlib.Omega.{arith}
+use Rattle.std.specs.Prelude.{Some, None}
 use lib.Dec.{leb, ltb}
 use lib.ListN.{length, take, set, length-set}
 use lib.Seq.{take-suc-set}
-use borrow.Author.Tests.{lt-leb, leb-true, ltb-true, ltb-false}
+use borrow.Author.Tests.{lt-leb, ltb-true}
 use Rattle.rules.specs.Lists.{between}
 use Rattle.rules.specs.Layout.{whole}
 use Rattle.rules.specs.Days.{is_day}
@@ -25,8 +26,11 @@ use Rattle.grants.specs.declared.terms.Terms.{Terms}
 use Rattle.grants.specs.Asks.{Asks, terms_on}
 use Rattle.choice.specs.declared.hands.Passing.{Passing}
 use Rattle.choice.specs.declared.block.Through.{Through}
-use Rattle.choice.specs.Walk.{slot_of, standing, passing_of, uncounted, SlotIs, RowPasses}
-use Rattle.choice.specs.Block.{AsksWithin, Alike, Same, Unread, RowThrough, PassesThrough, most_listed, RowNoted}
+use Rattle.choice.specs.declared.block.Through.TheVariants.{Never, Always}
+use Rattle.choice.specs.declared.noted.Noted.{Noted}
+use Rattle.choice.specs.Hands.{Going, counted}
+use Rattle.choice.specs.Walk.{slot_of, standing, passing_of, uncounted, Alike, Same, Unread, SlotIs, RowPasses}
+use Rattle.choice.specs.Block.{AsksWithin, passing_through, RowThrough, PassesThrough, most_noted, NotedAfter}
 use Rattle.choice.proofs.PassingLaws.{no_day, row_is, other_is}
 
 -- ---- a row over the days
@@ -59,14 +63,13 @@ module _ {article table : List ℕ} {terms : Terms} {last : ℕ} {q : Question} 
   }
 
 module _ (t : List ℕ) (row : PriceRow) (at : ℕ) (table : List ℕ) (terms : Terms) (last : ℕ) where
-  pub row_never : (ltb last row.from || ltb row.to terms.date.0) ≡ true → RowThrough table terms last at (row_in t row) (record { passing = uncounted; listed = false })
+  pub row_never : (ltb last row.from || ltb row.to terms.date.0) ≡ true → RowThrough table terms last at (row_in t row) Never
   unfolding passing_of row_in
   row_never e = record {
-    below = omega arith;
+    below = tt;
     steady = λ z q a.
         Same (ap (λ (b : Bool). cond b (standing q at (row_in t row)) uncounted)
         (sym (not_on (row_in t row) q.date (outside q.date (omega (arith, a.asks.date, a.low)) (omega (arith, a.asks.date, a.high)) (ltb last row.from) (ltb row.to terms.date.0) refl refl e))));
-    listed = λ z. absurd (false≢true z);
   }
     where
       outside : (d : ℕ) → terms.date.0 ≤ d → d ≤ last → (x y : Bool) → ltb last row.from ≡ x → ltb row.to terms.date.0 ≡ y → (x || y) ≡ true → between row.from row.to d ≡ false
@@ -74,18 +77,16 @@ module _ (t : List ℕ) (row : PriceRow) (at : ℕ) (table : List ℕ) (terms : 
       outside d l h false true f g z = rw (lt-leb d row.to (omega (arith, ltb-true row.to terms.date.0 g))) (and_false (leb row.from d))
       outside d l h false false f g z = absurd (false≢true z)
 
-  pub row_shared : {p : Passing} → RowPasses table terms at (row_in t row) p → (p.stands && leb last row.to) ≡ true → RowThrough table terms last at (row_in t row) (record { passing = p; listed = false })
+  pub row_shared : {p : Passing} → RowPasses table terms at (row_in t row) (Some p) → last ≤ row.to → RowThrough table terms last at (row_in t row) (Always p)
   unfolding passing_of slot_of on row_in
   row_shared {p} pass e = record {
     below = pass.below;
     steady = λ z q a.
-        Same (go q (stands terms.date.0 (row_in t row)) refl (pass.of (on q terms.date.0) (asks_first a)) (omega (arith, a.asks.date, a.low))
-        (omega (arith, a.asks.date, a.high, leb-true last row.to (and_right p.stands _ e))));
-    listed = λ z. absurd (false≢true z);
+        shared q (pass.of (on q terms.date.0) (asks_first a)) (omega (arith, a.asks.date, a.low)) (omega (arith, a.asks.date, a.high));
   }
     where
-      go : (q : Question) (b : Bool) → stands terms.date.0 (row_in t row) ≡ b → p ≡ cond b (standing (on q terms.date.0) at (row_in t row)) uncounted → terms.date.0 ≤ q.date → q.date ≤ row.to
-          → p ≡ passing_of q at (row_in t row)
+      go : (q : Question) (b : Bool) → stands terms.date.0 (row_in t row) ≡ b → counted p ≡ cond b (standing (on q terms.date.0) at (row_in t row)) uncounted → terms.date.0 ≤ q.date → q.date ≤ row.to
+          → counted p ≡ passing_of q at (row_in t row)
       go q true f g l h =
           let then = counts_on (row_in t row) terms.date.0 q.date f l h in
           g
@@ -98,19 +99,20 @@ module _ (t : List ℕ) (row : PriceRow) (at : ℕ) (table : List ℕ) (terms : 
             hand = record { at = at; upto = row.upto; from = row.from; rounding = row.rounding };
           })
           ∙ ap (λ (x : Bool). cond x (standing q at (row_in t row)) uncounted) (sym then)
-      go q false f g l h = absurd (false≢true (sym (ap (λ (x : Passing). x.stands) g) ∙ and_left p.stands _ e))
+      go q false f g l h = absurd (false≢true (sym (ap (λ (x : Going). x.stands) g)))
 
-  -- where its condition is not granted it need not be listed
-  pub row_listed : {slot : ℕ} → SlotIs table terms (row_in t row) slot → RowThrough table terms last at (row_in t row) (record { passing = uncounted; listed = ltb slot 99 })
-  unfolding passing_of slot_of on
-  row_listed {slot} s = record {
-    below = omega arith;
-    steady = λ z q a. Unread refl (go q (omega (arith, s.below, ltb-false slot 99 z, s.of (on q terms.date.0) (asks_first a))) (stands q.date (row_in t row)));
-    listed = λ z. refl;
-  }
+      shared : (q : Question) → Alike (counted p) (passing_of (on q terms.date.0) at (row_in t row)) → terms.date.0 ≤ q.date → q.date ≤ row.to
+          → Alike (counted p) (passing_of q at (row_in t row))
+      shared q (Same e) l h = Same (go q (stands terms.date.0 (row_in t row)) refl e l h)
+      shared q (Unread e f) l h = absurd (omega (arith, pass.below))
+
+  -- where its condition is not granted it need not be
+  pub row_unnoted : SlotIs table terms (row_in t row) None → RowThrough table terms last at (row_in t row) Never
+  unfolding on passing_of slot_of
+  row_unnoted s = record { below = tt; steady = λ z q a. Unread refl (go q (s.of (on q terms.date.0) (asks_first a)) (stands q.date (row_in t row))) }
     where
-      go : (q : Question) → slot_of q (row_in t row) ≡ 99 → (b : Bool) → (cond b (standing q at (row_in t row)) uncounted).slot ≡ 99
-      go q e true = e
+      go : (q : Question) → 99 ≡ slot_of q (row_in t row) → (b : Bool) → (cond b (standing q at (row_in t row)) uncounted).slot ≡ 99
+      go q e true = sym e
       go q e false = refl
 
 -- ---- any record
@@ -119,33 +121,29 @@ module _ (t article table : List ℕ) (terms : Terms) (at last : ℕ) {b : Bool}
   pub through_row : {row : PriceRow} {x : Through} → b ≡ true → RowIs t row → RowThrough table terms last at (row_in t row) x → PassesThrough article table terms last at (whole kinded t) x
   through_row {x = x} e r h = record {
     below = h.below;
-    steady = λ z q a. subst (Alike x.passing) (row_is t article table (terms_on terms a.day) at s e r q a.asks) (h.steady z q a);
-    listed = h.listed;
+    steady = λ z q a. subst (Alike (passing_through x)) (row_is t article table (terms_on terms a.day) at s e r q a.asks) (h.steady z q a);
   }
 
-  pub through_other : b ≡ false → PassesThrough article table terms last at (whole kinded t) (record { passing = uncounted; listed = false })
+  pub through_other : b ≡ false → PassesThrough article table terms last at (whole kinded t) Never
   through_other e = record {
-    below = omega arith;
+    below = tt;
     steady = λ z q a. Same (other_is t article table (terms_on terms a.day) at s e q a.asks);
-    listed = λ z. absurd (false≢true z);
   }
 
--- ---- the list
+-- ---- the rows that are noted
 
-module _ (rows : List ℕ) (n at : ℕ) (long : length rows ≡ most_listed) {listed : Bool} where
-  pub note_none : listed ≡ false → RowNoted rows n listed at rows n
-  note_none f = record { long = long; few = λ h. h; is = λ h. rw f }
+module _ (old : Noted) (at : ℕ) where
+  pub note_none : NotedAfter old false at old
+  note_none = record { long = refl; few = λ h. h; is = λ h. refl }
 
-  pub note_one : listed ≡ true → n < most_listed → RowNoted rows n listed at (set rows n at) (n + 1)
-  note_one t l = record {
-    long = length-set rows n at ∙ long;
+  pub note_one : length old.rows ≡ most_noted → old.n < most_noted → NotedAfter old true at (record { rows = set old.rows old.n at; n = old.n + 1 })
+  note_one k l = record {
+    long = length-set old.rows old.n at;
     few = λ h. omega arith;
     is = λ h.
-        let e : n + 1 ≡ suc n = omega arith in
-        ap (λ (k : ℕ). take k (set rows n at)) e
-        ∙ take-suc-set rows n at (omega (arith, long))
-        ∙ ap (λ (b : Bool). cond b (take n rows ++ (at ∷ [])) (take n rows)) (sym t);
+        let e : old.n + 1 ≡ suc old.n = omega arith in
+        ap (λ (k : ℕ). take k (set old.rows old.n at)) e ∙ take-suc-set old.rows old.n at (omega arith);
   }
 
-  pub note_many : listed ≡ true → most_listed ≤ n → RowNoted rows n listed at rows 2049
-  note_many t l = record { long = long; few = λ h. absurd (omega arith); is = λ h. absurd (omega arith) }
+  pub note_many : most_noted ≤ old.n → NotedAfter old true at (record { rows = old.rows; n = 2049 })
+  note_many l = record { long = refl; few = λ h. absurd (omega arith); is = λ h. absurd (omega arith) }

@@ -23,7 +23,7 @@ use Rattle.records.proofs.FieldLaws.{kind_byte}
 use Rattle.choice.specs.declared.hands.Hand.{Hand}
 use Rattle.choice.specs.declared.hands.Seen.{Seen}
 use Rattle.choice.specs.Slots.{in_slot, placed_row, slot_chosen}
-use Rattle.choice.specs.Hands.{is_empty, taken_of, TakenIs, RowThere, Holds, HandIs, NoRow, OneRow, SeenIs, RowStands, RowRead}
+use Rattle.choice.specs.Hands.{is_empty, taken_of, TakenIs, RowThere, Holds, HandIs, NoRow, OneRow, SeenIs, RowStands}
 use Rattle.choice.specs.Walk.{unseen, seen_of, Chooses, SlotsHold}
 use Rattle.choice.proofs.PassingLaws.{same_row}
 
@@ -93,12 +93,6 @@ module _ {w : List ℕ} {at : ℕ} {r : Row} (there : RowThere w at r) where
     there_row row p = same_row (sym p.is ∙ body)
 
 module _ {w : List ℕ} {at : ℕ} (stands : RowStands w at) where
-  pub stands_here : RecordHere w at
-  stands_here = there_here stands.there
-
   module _ {end : ℕ} (stop : StopIs w at end) where
     pub stands_kind : OfKind 2 (take (end - (at + 2)) (drop (at + 2) w))
     stands_kind = there_kind stands.there stop
-
-    pub stands_read : {row : PriceRow} → RowIs (take (end - (at + 2)) (drop (at + 2) w)) row → RowRead w at row
-    stands_read {row} is = record { body = take (end - (at + 2)) (drop (at + 2) w); is = is; of = λ x there. there_row there stop row is }

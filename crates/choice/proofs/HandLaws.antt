@@ -9,7 +9,7 @@ use Rattle.layout.specs.Ensures.{Number, Says}
 use Rattle.choice.specs.declared.hands.Hand.{Hand}
 use Rattle.choice.specs.declared.hands.Seen.{Seen}
 use Rattle.choice.specs.declared.hands.Passing.{Passing}
-use Rattle.choice.specs.Hands.{is_empty, limit_of, better_hand, hand_after, seen_after, taken_of, HandAfter, SeenAfter, TakenIs}
+use Rattle.choice.specs.Hands.{counted, is_empty, limit_of, better_hand, hand_after, seen_after, taken_of, HandAfter, SeenAfter, TakenIs}
 
 -- ---- what the functions compute
 
@@ -46,12 +46,12 @@ module _ (new old : Hand) where
       unfolding hand_after
       hand_kept t = record { is = rw (e, held.is, n, p.is, t) }
 
-pub seen_is : (s : Seen) (p : Passing) {asked other : Hand} → HandAfter (p.stands && p.asked && p.reaches) s.asked p.hand asked → HandAfter (p.stands && p.reaches) s.other p.hand other
-    → SeenAfter s p (record { met = s.met || (p.stands && p.asked); asked = asked; other = other })
+pub seen_is : (s : Seen) (p : Passing) {asked other : Hand} → HandAfter (p.asked && p.reaches) s.asked p.hand asked → HandAfter p.reaches s.other p.hand other
+    → SeenAfter s (counted p) (record { met = s.met || p.asked; asked = asked; other = other })
 unfolding seen_after
 seen_is s p a o = record {
   is = λ i. record {
-    met = s.met || (p.stands && p.asked);
+    met = s.met || p.asked;
     asked = a.is i;
     other = o.is i;
   };

@@ -7,8 +7,7 @@ use lib.Dec.{eqb, ltb}
 use borrow.Author.Tests.{ltb-true, ltb-false, eqb-true, eqb-false, ne_eqb}
 use Rattle.choice.specs.declared.hands.Hand.{Hand}
 use Rattle.choice.specs.declared.hands.Seen.{Seen}
-use Rattle.choice.specs.declared.hands.Passing.{Passing}
-use Rattle.choice.specs.Hands.{is_empty, limit_of, better_hand, hand_after, seen_after}
+use Rattle.choice.specs.Hands.{Going, is_empty, limit_of, better_hand, hand_after, seen_after}
 
 -- ---- the order
 
@@ -155,7 +154,7 @@ or_swap false false true = refl
 or_swap false false false = refl
 
 -- a slot keeps the same
-pub seen_swap : (p r : Passing) → 1 ≤ p.hand.at → 1 ≤ r.hand.at → (p.hand.at ≡ r.hand.at → ⊥) → (s : Seen) → seen_after (seen_after s p) r ≡ seen_after (seen_after s r) p
+pub seen_swap : (p r : Going) → 1 ≤ p.hand.at → 1 ≤ r.hand.at → (p.hand.at ≡ r.hand.at → ⊥) → (s : Seen) → seen_after (seen_after s p) r ≡ seen_after (seen_after s r) p
 unfolding seen_after
 seen_swap p r low also apart s = λ i. record {
   met = or_swap s.met (p.stands && p.asked) (r.stands && r.asked) i;

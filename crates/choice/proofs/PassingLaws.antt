@@ -1,27 +1,26 @@
 -- A record that goes by: its slot, whether it holds, and in which currency it is, by its fields.
 use Prim.Native.Nat.{ℕ, ◌+◌, ◌-◌, ◌*◌, ◌≤◌, ◌<◌}
-use mathlib.Core.Path.{◌≡◌, refl, sym, ◌∙◌, ap}
+use mathlib.Core.Path.{◌≡◌, refl, sym, ◌∙◌, ap, subst}
 use mathlib.Core.Bool.{Bool, true, false, ◌&&◌, ◌||◌, not, cond, and_assoc}
 use mathlib.Core.List.{List}
 use mathlib.Core.Option.{Option, some, none, some-injective}
 use native.Mathlib.Omega.{arith}
+use Rattle.std.specs.Prelude as Std
+use Rattle.std.specs.Prelude.{Some, None}
 use native.Mathlib.Decide.{dec_lt}
 use lib.Dec.{eqb, leb, ltb}
 use lib.ListN.{take, drop}
-use borrow.Author.Tests.{lt-leb, le-leb, lt-ltb, le-ltb, eq-eqb, ne_eqb, eqb-true, eqb-false}
+use borrow.Author.Tests.{lt-ltb, le-ltb, eq-eqb, ne_eqb, eqb-true, eqb-false}
 use Rattle.rules.specs.Lists.{same, if_some, between}
 use Rattle.rules.specs.Layout.{whole}
 use Rattle.rules.specs.Days.{is_day}
 use Rattle.rules.specs.Book.{Row, Record, PriceRecord, as_row, base, letter_of}
 use Rattle.rules.specs.BookLayout.{kinded}
-use Rattle.rules.specs.Question.{Question, no_currency, asked_of, letters_of}
+use Rattle.rules.specs.Question.{Question, asked_of, letters_of}
 use Rattle.rules.specs.Choice.{is_percent}
 use Rattle.rules.specs.declared.Level.{Level}
-use Rattle.rules.specs.declared.Level.TheVariants.{Base, Surcharge, Discount}
-use Rattle.rules.specs.declared.Value.{Value}
 use Rattle.rules.specs.declared.PriceRow.{PriceRow}
-use Rattle.rules.specs.declared.Currency.{Currency}
-use Rattle.rules.proofs.TestLaws.{and_true, and_false, so, not_so}
+use Rattle.rules.proofs.TestLaws.{and_false}
 use Rattle.rules.proofs.KindLaws.{row_kind, same_held}
 use Rattle.rules.proofs.ChoiceLaws.{is_asked, stands}
 use Rattle.layout.specs.Ensures.{Number, Says}
@@ -32,22 +31,22 @@ use Rattle.grants.specs.Places.{place_of, PlaceIs}
 use Rattle.grants.specs.Asks.{Asks}
 use Rattle.choice.specs.declared.hands.Passing.{Passing}
 use Rattle.choice.specs.Slots.{level_of, in_slot}
-use Rattle.choice.specs.Walk.{slot_at, slot_of, standing, passing_of, is_own, passing_in, in_asked, SlotIs, RowPasses, Passes, uncounted}
+use Rattle.choice.specs.Walk.{slot_at, slot_of, standing, passing_of, is_own, passing_in, in_asked, Alike, Same, Unread, going, SlotAt, SlotIs, RowPasses, Passes, uncounted}
 
 -- ---- the slot
 
 module _ (level : Level) (place : ℕ) where
-  pub slot_far : 33 ≤ place → Number (slot_at (level_of (letter_of level)) place) 100 99
+  pub slot_far : 33 ≤ place → SlotAt (slot_at (level_of (letter_of level)) place) None
   unfolding slot_at
-  slot_far h = record { is = rw (le-ltb place 33 h, and_false (ltb (level_of (letter_of level)) 3)); below = omega arith }
+  slot_far h = record { below = tt; is = sym (rw (le-ltb place 33 h, and_false (ltb (level_of (letter_of level)) 3))) }
 
-  pub slot_near : {n : ℕ} → Number (level_of (letter_of level)) 3 n → place < 33 → Number (slot_at (level_of (letter_of level)) place) 100 (n * 33 + place)
+  pub slot_near : {n : ℕ} → Number (level_of (letter_of level)) 3 n → place < 33 → SlotAt (slot_at (level_of (letter_of level)) place) (Some (n * 33 + place))
   unfolding slot_at
-  slot_near {n} l h = record { is = rw (← l.is, lt-ltb n 3 l.below, lt-ltb place 33 h); below = omega (arith, l.below) }
+  slot_near {n} l h = record { below = omega (arith, l.below); is = sym (rw (← l.is, lt-ltb n 3 l.below, lt-ltb place 33 h)) }
 
-pub slot_is : (t : List ℕ) (row : PriceRow) {table : List ℕ} {terms : Terms} {place i : ℕ}
+pub slot_is : (t : List ℕ) (row : PriceRow) {table : List ℕ} {terms : Terms} {place : ℕ} {i : Std.Option ℕ}
     → PlaceIs table terms.names (take (row.condition.at + row.condition.size - row.condition.at) (drop row.condition.at t)) place
-    → Number (slot_at (level_of (letter_of row.level)) place) 100 i → SlotIs table terms (row_in t row) i
+    → SlotAt (slot_at (level_of (letter_of row.level)) place) i → SlotIs table terms (row_in t row) i
 unfolding slot_of row_in
 slot_is t row p s =
     let k : row.condition.at + row.condition.size - row.condition.at ≡ row.condition.size = omega arith in
@@ -93,55 +92,11 @@ pub no_day : (a b : Bool) → (a && (b && false)) ≡ false
 no_day true b = and_false b
 no_day false b = refl
 
-module _ (from to date : ℕ) where
-  pub holds_not_yet : date < from → Says (is_day from && (is_day to && between from to date)) false
-  holds_not_yet h = record { is = rw (lt-leb from date h) (no_day (is_day from) (is_day to)) }
-
-  module _ (h : from ≤ date) where
-    pub holds_no_more : to < date → Says (is_day from && (is_day to && between from to date)) false
-    holds_no_more k = record { is = rw (le-leb from date h, lt-leb date to k) (no_day (is_day from) (is_day to)) }
-
-    pub holds_then : {a b : Bool} → date ≤ to → a ≡ is_day from → b ≡ is_day to → Says (is_day from && (is_day to && between from to date)) (a && b)
-    holds_then k e f = record { is = rw (le-leb from date h, le-leb date to k, e, f) (ap (λ x. is_day from && x) (and_true (is_day to))) }
-
-three : (a b c : Bool) → (a && (b && (c && true))) ≡ ((a && b) && c)
-three true true true = refl
-three true true false = refl
-three true false c = refl
-three false b c = refl
-
-pub asked_is : (a c : Currency)
-    → Says (in_asked (asked_of (letters_of a)) (letters_of c)) (not (eqb a.0 0 && eqb a.1 0 && eqb a.2 0) && eqb c.0 a.0 && eqb c.1 a.1 && eqb c.2 a.2)
-asked_is a c = record {
-  is =
-      go (same (letters_of a) no_currency)
-      ∙ (λ i. not (three (eqb a.0 0) (eqb a.1 0) (eqb a.2 0) i) && three (eqb c.0 a.0) (eqb c.1 a.1) (eqb c.2 a.2) i)
-      ∙ four (not (eqb a.0 0 && eqb a.1 0 && eqb a.2 0)) (eqb c.0 a.0) (eqb c.1 a.1) (eqb c.2 a.2);
-}
-  where
-    go : (x : Bool) → in_asked (cond x none (some (letters_of a))) (letters_of c) ≡ (not x && same (letters_of c) (letters_of a))
-    go true = refl
-    go false = refl
-
-    four : (n x y z : Bool) → (n && ((x && y) && z)) ≡ (((n && x) && y) && z)
-    four true x y z = refl
-    four false x y z = refl
-
 -- ---- a row
 
 in_asked_lem : (o : Option (List ℕ)) (r : Row) → is_asked o r ≡ in_asked o r.currency
 in_asked_lem none r = refl
 in_asked_lem (some c) r = refl
-
-module _ (level : Level) (value : Value) where
-  pub base_percent : level ≡ Base → {r : Bool} → Says (is_percent value) r → Says (eqb (letter_of level) base && is_percent value) r
-  base_percent e p = record { is = rw e p.is }
-
-  pub surcharge_percent : level ≡ Surcharge → Says (eqb (letter_of level) base && is_percent value) false
-  surcharge_percent e = record { is = rw e }
-
-  pub discount_percent : level ≡ Discount → Says (eqb (letter_of level) base && is_percent value) false
-  discount_percent e = record { is = rw e }
 
 module _ (t : List ℕ) (row : PriceRow) (at : ℕ) (table : List ℕ) (terms : Terms) {percent holds : Bool} (p : Says (eqb (letter_of row.level) base && is_percent row.value) percent)
     (h : Says (is_day row.from && (is_day row.to && between row.from row.to terms.date.0)) holds) where
@@ -150,39 +105,53 @@ module _ (t : List ℕ) (row : PriceRow) (at : ℕ) (table : List ℕ) (terms : 
   unfolding row_in
   counts q a = ap (λ (d : ℕ). stands d (row_in t row)) a.date ∙ (λ i. not (p.is i) && h.is i)
 
-  pub row_past : not (not percent && holds) ≡ true → RowPasses table terms at (row_in t row) uncounted
+  pub row_past : (not percent && holds) ≡ false → RowPasses table terms at (row_in t row) None
   unfolding passing_of
   row_past e = record {
-    below = omega arith;
-    of = λ q a. ap (λ (x : Bool). cond x (standing q at (row_in t row)) uncounted) (sym (counts q a ∙ not_so _ e));
+    below = tt;
+    of = λ q a. Same (ap (λ (x : Bool). cond x (standing q at (row_in t row)) uncounted) (sym (counts q a ∙ e)));
   }
 
-  pub row_passes : not (not percent && holds) ≡ false → {slot : ℕ} {asked : Bool} → SlotIs table terms (row_in t row) slot
+  pub row_passes : (not percent && holds) ≡ true → {slot : ℕ} {asked : Bool} → SlotIs table terms (row_in t row) (Some slot)
       → Says (in_asked (asked_of (letters_of terms.currency)) (letters_of row.currency)) asked
       → RowPasses table terms at (row_in t row)
-      (record {
+      (Some (record {
         slot = slot;
-        stands = not percent && holds;
         asked = asked;
         reaches = eqb row.upto 0 || leb terms.quantity row.upto;
         hand = record { at = at; upto = row.upto; from = row.from; rounding = row.rounding };
-      })
+      }))
   unfolding passing_of row_in
   row_passes e s c = record {
     below = s.below;
     of = λ q a.
         let asked-too =
         sym c.is ∙ ap (λ (o : Option (List ℕ)). in_asked o (letters_of row.currency)) (sym a.currency) ∙ sym (in_asked_lem q.currency (row_in t row)) in
-        (λ i.
+        let counts-too : true ≡ stands q.date (row_in t row) = sym (counts q a ∙ e) in
+        Same
+        ((λ i.
         record {
           slot = s.of q a i;
-          stands = sym (counts q a) i;
+          stands = counts-too i;
           asked = asked-too i;
           reaches = eqb row.upto 0 || leb (sym a.quantity i) row.upto;
           hand = record { at = at; upto = row.upto; from = row.from; rounding = row.rounding };
         })
-        ∙ ap (λ (x : Bool). cond x (standing q at (row_in t row)) uncounted) (sym (counts q a ∙ so _ e));
+        ∙ ap (λ (x : Bool). cond x (standing q at (row_in t row)) uncounted) counts-too);
   }
+
+-- where its condition is not granted it is in no slot
+module _ (t : List ℕ) (row : PriceRow) {table : List ℕ} {terms : Terms} (s : SlotIs table terms (row_in t row) None) where
+  pub row_unread : {article : List ℕ} (q : Question) → Asks q article table terms → (at : ℕ) → Alike uncounted (passing_of q at (row_in t row))
+  unfolding passing_of
+  row_unread q a at = Unread refl (go (stands q.date (row_in t row)))
+    where
+      go : (b : Bool) → (cond b (standing q at (row_in t row)) uncounted).slot ≡ 99
+      go true = sym (s.of q a)
+      go false = refl
+
+  pub row_nowhere : {at : ℕ} → RowPasses table terms at (row_in t row) None
+  row_nowhere {at} = record { below = tt; of = λ q a. row_unread q a at }
 
 -- ---- any record
 
@@ -213,8 +182,8 @@ module _ (t article table : List ℕ) (terms : Terms) (at : ℕ) {b : Bool} (s :
   pub other_is : b ≡ false → (q : Question) → Asks q article table terms → uncounted ≡ passing_in q at (whole kinded t)
   other_is e q a = sym (foreign q at (whole kinded t) (told q a ∙ e))
 
-  pub passes_row : {row : PriceRow} {p : Passing} → b ≡ true → RowIs t row → RowPasses table terms at (row_in t row) p → Passes article table terms at (whole kinded t) p
-  passes_row e r h = record { below = h.below; of = λ q a. h.of q a ∙ row_is e r q a }
+  pub passes_row : {row : PriceRow} {p : Std.Option Passing} → b ≡ true → RowIs t row → RowPasses table terms at (row_in t row) p → Passes article table terms at (whole kinded t) p
+  passes_row {p = p} e r h = record { below = h.below; of = λ q a. subst (Alike (going p)) (row_is e r q a) (h.of q a) }
 
-  pub passes_other : b ≡ false → Passes article table terms at (whole kinded t) uncounted
-  passes_other e = record { below = omega arith; of = other_is e }
+  pub passes_other : b ≡ false → Passes article table terms at (whole kinded t) None
+  passes_other e = record { below = tt; of = λ q a. Same (other_is e q a) }

@@ -5,6 +5,7 @@ use mathlib.Core.Bool.{Bool, true, false, ◌&&◌, ◌||◌, cond}
 use mathlib.Core.List.{List, [], ◌∷◌}
 use mathlib.Core.Option.{Option, some, none}
 use native.Mathlib.Omega.{arith}
+use Rattle.std.specs.Prelude as Std
 use native.Mathlib.Decide.{ℕ_discrete}
 use lib.Dec.{eqb, ltb}
 use lib.ListN.{length, take, drop, get_or, set, replicate, length-set, length-replicate, get_or-replicate}
@@ -28,9 +29,9 @@ use Rattle.choice.specs.declared.hands.Hand.{Hand}
 use Rattle.choice.specs.declared.hands.Seen.{Seen}
 use Rattle.choice.specs.declared.hands.Passing.{Passing}
 use Rattle.choice.specs.Slots.{in_slot}
-use Rattle.choice.specs.Hands.{is_empty, limit_of, better_hand, hand_after, seen_after, SeenAfter, RowThere, Holds, HandIs, NoRow, OneRow, SeenIs}
-use Rattle.choice.specs.Walk.{no_slot, slot_of, standing, passing_of, is_own, passing_in, uncounted, Passes, unseen, seen_of, SlotsFor}
-use Rattle.choice.specs.Block.{slot_after, slot_past}
+use Rattle.choice.specs.Hands.{Going, counted, is_empty, limit_of, better_hand, hand_after, seen_after, SeenAfter, RowThere, Holds, HandIs, NoRow, OneRow, SeenIs}
+use Rattle.choice.specs.Walk.{no_slot, slot_of, standing, passing_of, is_own, passing_in, uncounted, Alike, Same, Unread, going, Passes, unseen, seen_of, SlotsFor}
+use Rattle.choice.specs.Block.{slot_after, TookIn, slot_past}
 use Rattle.choice.proofs.PassingLaws.{slot_in}
 
 -- ---- a slot sees a row
@@ -104,7 +105,7 @@ pub record Sees (w : List ℕ) (at : ℕ) (q : Question) (level place : ℕ) (sl
   pub rest : Choice.walk q.date q.quantity q.currency state (keep (in_slot q level place) left) ≡ seen_of q all level place
 
 -- what a row that goes by leaves in a slot that is not its own, and in its own
-module _ (i : ℕ) (s : Seen) (p : Passing) where
+module _ (i : ℕ) (s : Seen) (p : Going) where
   pub after_none : (p.slot ≡ i → ⊥) → slot_after i s p ≡ s
   unfolding slot_after
   after_none n = rw (ne_eqb p.slot i n)
@@ -170,10 +171,10 @@ module _ {w : List ℕ} {q : Question} {at end : ℕ} (more : at < end) {o : Opt
       Left : List Row → Type 0
       Left xs = Sees w at q level place s xs all
 
-      Done : Passing → Type 0
+      Done : Going → Type 0
       Done p = Sees w end q level place (slot_after (level * 33 + place) s p) (rows rs) all
 
-      same : (p : Passing) → (p.slot ≡ level * 33 + place → ⊥) → Sees w end q level place s (rows rs) all → Done p
+      same : (p : Going) → (p.slot ≡ level * 33 + place → ⊥) → Sees w end q level place s (rows rs) all → Done p
       same p n x = rw (after_none (level * 33 + place) s p n) x
 
       skip : Sees w end q level place s (rows rs) all → Done uncounted
@@ -203,16 +204,29 @@ module _ {w : List ℕ} {q : Question} {at end : ℕ} (more : at < end) {o : Opt
       go none e y = skip (sees_on more y)
       go (some x) e y = read x e (as_row x) refl y
 
--- what storing a row's slot makes of any slot
-pub slot_set : (slots : List Seen) → length slots ≡ 100 → {p : Passing} → p.slot < 100 → {new : Seen} → SeenAfter (get_or slots p.slot unseen) p new
-    → (i : ℕ) → get_or (set slots p.slot new) i unseen ≡ slot_after i (get_or slots i unseen) p
-slot_set slots long {p} low {new} after i = go (ℕ_discrete p.slot i)
+-- ---- a record goes by in all slots at once
+
+pub took_none : (slots : List Seen) → TookIn slots uncounted slots
+took_none slots = record { long = refl; of = λ i l. sym (after_none i (get_or slots i unseen) uncounted (λ e. omega arith)) }
+
+pub took_one : {slots : List Seen} {p : Passing} {new : Seen} → length slots ≡ 99 → p.slot < 99 → SeenAfter (get_or slots p.slot unseen) (counted p) new
+    → TookIn slots (counted p) (set slots p.slot new)
+took_one {slots} {p} {new} long low after = record { long = length-set slots p.slot new; of = λ i l. go i (ℕ_discrete p.slot i) }
   where
-    go : Dec (p.slot ≡ i) → get_or (set slots p.slot new) i unseen ≡ slot_after i (get_or slots i unseen) p
-    go (yes e) =
+    go : (i : ℕ) → Dec (p.slot ≡ i) → get_or (set slots p.slot new) i unseen ≡ slot_after i (get_or slots i unseen) (counted p)
+    go i (yes e) =
         let here : p.slot < length slots = omega (arith, long) in
-        rw (← e) (get_or-set_same slots p.slot new unseen here ∙ after.is ∙ sym (after_own p.slot (get_or slots p.slot unseen) p refl))
-    go (no n) = get_or-set_other slots p.slot i new unseen (λ e. n (sym e)) ∙ sym (after_none i (get_or slots i unseen) p n)
+        rw (← e) (get_or-set_same slots p.slot new unseen here ∙ after.is ∙ sym (after_own p.slot (get_or slots p.slot unseen) (counted p) refl))
+    go i (no n) = get_or-set_other slots p.slot i new unseen (λ e. n (sym e)) ∙ sym (after_none i (get_or slots i unseen) (counted p) n)
+
+module _ {i : ℕ} (l : i < no_slot) where
+  -- one of no slot leaves this one as it is
+  pub after_off : (s : Seen) (p : Going) → p.slot ≡ no_slot → slot_after i s p ≡ s
+  after_off s p e = after_none i s p (λ f. omega arith)
+
+  pub after_alike : (s : Seen) {p r : Going} → Alike p r → slot_after i s p ≡ slot_after i s r
+  after_alike s (Same e) = ap (slot_after i s) e
+  after_alike s {p} {r} (Unread e f) = after_off s p e ∙ sym (after_off s r f)
 
 -- ---- the walk, for all questions of some kind
 
@@ -222,12 +236,12 @@ pub record Sharing (w : List ℕ) (from : ℕ) (Kind : Question → Type 0) (slo
       → Sees w at q level place (slot_past w q (level * 33 + place) (get_or slots (level * 33 + place) unseen) listed) (rows (records_left w at)) (rows (records_left w from))
 
 module _ (w : List ℕ) (from : ℕ) (Kind : Question → Type 0) where
-  pub share_start : 5 ≤ from → Sharing w from Kind (replicate 100 unseen) [] from
+  pub share_start : 5 ≤ from → Sharing w from Kind (replicate 99 unseen) [] from
   unfolding seen_of slot_past
   share_start b = record {
     sees = λ q a level place l p.
-        let k : level * 33 + place < 100 = omega arith in
-        rw (get_or-replicate 100 (level * 33 + place) unseen unseen k)
+        let k : level * 33 + place < 99 = omega arith in
+        rw (get_or-replicate 99 (level * 33 + place) unseen unseen k)
         (record {
           state = Choice.start;
           before = record { asked = omega arith; other = omega arith };
@@ -267,14 +281,14 @@ module _ (w : List ℕ) (from : ℕ) (Kind : Question → Type 0) where
 -- so far the slots saw the records before `at`, for every question that asks so
 pub record Walking (w : List ℕ) (from : ℕ) (article table : List ℕ) (terms : Terms) (slots : List Seen) (at : ℕ) : Type 0 where
   pub between : Between w at
-  pub long : length slots ≡ 100
+  pub long : length slots ≡ 99
   pub share : Sharing w from (λ q. Asks q article table terms) slots [] at
 
 module _ (w : List ℕ) (from : ℕ) (article table : List ℕ) (terms : Terms) where
-  pub walk_start : Between w from → Walking w from article table terms (replicate 100 unseen) from
+  pub walk_start : Between w from → Walking w from article table terms (replicate 99 unseen) from
   walk_start b = record {
     between = b;
-    long = length-replicate 100 unseen;
+    long = length-replicate 99 unseen;
     share = share_start w from (λ q. Asks q article table terms) b.low;
   }
 
@@ -283,14 +297,14 @@ module _ (w : List ℕ) (from : ℕ) (article table : List ℕ) (terms : Terms) 
     walk_here h = pass_here inv.between h
 
     pub walk_turn : at < length w → {end : ℕ} → StopIs w at end
-        → {p : Passing} → Passes article table terms at (whole kinded (take (end - (at + 2)) (drop (at + 2) w))) p
-        → {new : Seen} → SeenAfter (get_or slots p.slot unseen) p new → Walking w from article table terms (set slots p.slot new) end
+        → {p : Std.Option Passing} → Passes article table terms at (whole kinded (take (end - (at + 2)) (drop (at + 2) w))) p
+        → {slots' : List Seen} → TookIn slots (going p) slots' → Walking w from article table terms slots' end
     unfolding slot_past
-    walk_turn h {end} stop {p} pass {new} after = record {
+    walk_turn h {end} stop {p} pass {slots'} took = record {
       between = pass_next inv.between h stop;
-      long = length-set slots p.slot new ∙ inv.long;
+      long = took.long ∙ inv.long;
       share = share_turn w from (λ q. Asks q article table terms) inv.between inv.share h stop
-          (λ q a i l. slot_set slots inv.long pass.below after i ∙ ap (slot_after i (get_or slots i unseen)) (pass.of q a));
+          (λ q a i l. took.of i l ∙ after_alike l (get_or slots i unseen) (pass.of q a));
     }
 
     pub walk_end : length w ≤ at → SlotsFor w (rows (records_left w from)) article table terms slots

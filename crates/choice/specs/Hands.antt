@@ -13,6 +13,20 @@ use Rattle.choice.specs.declared.hands.Hand.{Hand}
 use Rattle.choice.specs.declared.hands.Seen.{Seen}
 use Rattle.choice.specs.declared.hands.Passing.{Passing}
 
+-- ---- a record that goes by
+
+-- what it is to a question: the slot that it is of; whether it counts that day, is in the asked currency, and reaches the quantity
+pub record Going : Type 0 where
+  pub slot : ℕ
+  pub stands : Bool
+  pub asked : Bool
+  pub reaches : Bool
+  pub hand : Hand
+
+-- a row that counts
+abbrev pub counted : Passing → Going
+counted p = record { slot = p.slot; stands = true; asked = p.asked; reaches = p.reaches; hand = p.hand }
+
 -- ---- what the functions compute
 
 -- no row is in hand
@@ -31,7 +45,7 @@ better_hand new old =
 unfoldable pub hand_after : Bool → Hand → Hand → Hand
 hand_after counts old new = cond counts (cond (is_empty old) new (cond (better_hand new old) new old)) old
 
-unfoldable pub seen_after : Seen → Passing → Seen
+unfoldable pub seen_after : Seen → Going → Seen
 seen_after s p =
     record {
       met = s.met || (p.stands && p.asked);
@@ -47,7 +61,7 @@ pub record HandAfter (counts : Bool) (old new r : Hand) : Type 0 where
   pub is : r ≡ hand_after counts old new
 
 -- `r` is what a slot keeps after a row has gone by
-pub record SeenAfter (s : Seen) (p : Passing) (r : Seen) : Type 0 where
+pub record SeenAfter (s : Seen) (p : Going) (r : Seen) : Type 0 where
   pub is : r ≡ seen_after s p
 
 -- `r` is the row that a slot takes in the end

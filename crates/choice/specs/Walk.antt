@@ -1,5 +1,6 @@
 -- What a record that goes by is to the questions that ask so, and what the walk over the records leaves in the slots.
-use Rattle.std.specs.Prelude.{ℕ, ◌+◌, ◌*◌, ◌/◌, ◌%◌, ◌<◌, ◌≡◌, Bool, false, ◌&&◌, cond, List, eqb, ltb, length, get_or}
+use Rattle.std.specs.Prelude as Std
+use Rattle.std.specs.Prelude.{ℕ, ◌+◌, ◌*◌, ◌/◌, ◌%◌, ◌<◌, ◌≡◌, Bool, false, ◌&&◌, cond, List, eqb, ltb, length, get_or, Some, None, IfSome, unwrap_or}
 use Rattle.std.proofs.Math.Option.{Option, some, none}
 use Rattle.rules.specs.Lists.{same, keep, if_some}
 use Rattle.rules.specs.Book.{Row, Record, as_row}
@@ -13,7 +14,7 @@ use Rattle.choice.specs.declared.hands.Hand.{Hand}
 use Rattle.choice.specs.declared.hands.Seen.{Seen}
 use Rattle.choice.specs.declared.hands.Passing.{Passing}
 use Rattle.choice.specs.Slots.{no_level, level_of, in_slot, placed_row, slot_chosen}
-use Rattle.choice.specs.Hands.{SeenIs}
+use Rattle.choice.specs.Hands.{Going, counted, SeenIs}
 
 -- ---- a record that goes by
 
@@ -30,7 +31,7 @@ unfoldable pub slot_of : Question → Row → ℕ
 slot_of q r = slot_at (level_of r.level) (place_of q.granted r.condition)
 
 -- what one is that counts that day
-abbrev pub standing : Question → ℕ → Row → Passing
+abbrev pub standing : Question → ℕ → Row → Going
 standing q at r = record {
   slot = slot_of q r;
   stands = Choice.stands q.date r;
@@ -44,11 +45,11 @@ abbrev pub no_hand : Hand
 no_hand = record { at = 0; upto = 0; from = 0; rounding = 0 }
 
 -- what any other record is
-abbrev pub uncounted : Passing
+abbrev pub uncounted : Going
 uncounted = record { slot = no_slot; stands = false; asked = false; reaches = false; hand = no_hand }
 
 -- a row of the asked article and sort on another day is like one of another article
-unfoldable pub passing_of : Question → ℕ → Row → Passing
+unfoldable pub passing_of : Question → ℕ → Row → Going
 passing_of q at r = cond (Choice.stands q.date r) (standing q at r) uncounted
 
 -- the row is of the asked article and sort
@@ -56,7 +57,7 @@ abbrev pub is_own : Question → Row → Bool
 is_own q r = same r.article q.article && eqb r.sort q.sort
 
 -- what any record is
-unfoldable pub passing_in : Question → ℕ → Option Record → Passing
+unfoldable pub passing_in : Question → ℕ → Option Record → Going
 passing_in q at none = uncounted
 passing_in q at (some x) = if_some (as_row x) uncounted λ r. cond (is_own q r) (passing_of q at r) uncounted
 
@@ -65,20 +66,39 @@ abbrev pub in_asked : Option (List ℕ) → List ℕ → Bool
 in_asked none c = false
 in_asked (some d) c = same c d
 
+-- two that go by leave the same in every slot
+pub data Alike (p r : Going) : Type 0 where
+  Same : p ≡ r → Alike p r
+  Unread : p.slot ≡ no_slot → r.slot ≡ no_slot → Alike p r
+
+-- ---- as the code has it: a row that counts and has a slot, or nothing
+
+abbrev pub going : Std.Option Passing → Going
+going None = uncounted
+going (Some p) = counted p
+
+abbrev pub InSlot : Std.Option Passing → Type 0
+InSlot p = IfSome p (λ x. x.slot < no_slot)
+
+-- `r` is this slot, or none for the one past the last
+pub record SlotAt (slot : ℕ) (r : Std.Option ℕ) : Type 0 where
+  pub below : IfSome r (λ i. i < no_slot)
+  pub is : unwrap_or r no_slot ≡ slot
+
 -- `i` is the slot of the row r, for every question that asks by these terms and this table
-pub record SlotIs (table : List ℕ) (terms : Terms) (r : Row) (i : ℕ) : Type 0 where
-  pub below : i < 100
-  pub of : {article : List ℕ} (q : Question) → Asks q article table terms → i ≡ slot_of q r
+pub record SlotIs (table : List ℕ) (terms : Terms) (r : Row) (i : Std.Option ℕ) : Type 0 where
+  pub below : IfSome i (λ s. s < no_slot)
+  pub of : {article : List ℕ} (q : Question) → Asks q article table terms → unwrap_or i no_slot ≡ slot_of q r
 
 -- `p` is what the row r is to it, if it asks for the row's article and sort; the row's record stands at `at`
-pub record RowPasses (table : List ℕ) (terms : Terms) (at : ℕ) (r : Row) (p : Passing) : Type 0 where
-  pub below : p.slot < 100
-  pub of : {article : List ℕ} (q : Question) → Asks q article table terms → p ≡ passing_of q at r
+pub record RowPasses (table : List ℕ) (terms : Terms) (at : ℕ) (r : Row) (p : Std.Option Passing) : Type 0 where
+  pub below : InSlot p
+  pub of : {article : List ℕ} (q : Question) → Asks q article table terms → Alike (going p) (passing_of q at r)
 
 -- and what any record is to one that asks for this article
-pub record Passes (article table : List ℕ) (terms : Terms) (at : ℕ) (o : Option Record) (p : Passing) : Type 0 where
-  pub below : p.slot < 100
-  pub of : (q : Question) → Asks q article table terms → p ≡ passing_in q at o
+pub record Passes (article table : List ℕ) (terms : Terms) (at : ℕ) (o : Option Record) (p : Std.Option Passing) : Type 0 where
+  pub below : InSlot p
+  pub of : (q : Question) → Asks q article table terms → Alike (going p) (passing_in q at o)
 
 -- ---- the walk
 
@@ -96,7 +116,7 @@ pub record Chooses (q : Question) (rs : List Row) (i : ℕ) (r : Row) : Type 0 w
 
 -- the slots hold what the question sees of these rows; the rows in hand stand in w
 pub record SlotsHold (w : List ℕ) (rs : List Row) (q : Question) (slots : List Seen) : Type 0 where
-  pub long : length slots ≡ 100
+  pub long : length slots ≡ no_slot
   pub each : (level place : ℕ) → level < 3 → place < 33 → SeenIs w (get_or slots (level * 33 + place) unseen) (seen_of q rs level place)
 
 -- and so they do for every question that asks so

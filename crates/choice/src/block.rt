@@ -1,93 +1,52 @@
-// A block: days in a row that are asked about one after the other. A row that is the same to all of them is seen once, any other is listed.
-ghost use Rattle.std.specs.Prelude.{◌≡◌, length};
+// A block: days in a row that are asked about one after the other. A row that is the same to all of them is seen once, any other is noted.
 ghost use Rattle.rules.specs.Layout.{whole};
 ghost use Rattle.rules.specs.BookLayout.{kinded};
 ghost use Rattle.records.specs.Asks.{Accepted};
 ghost use Rattle.records.specs.Ensures.{row_in, RowIs};
-ghost use Rattle.grants.specs.Asks.{Tabled};
-ghost use Rattle.choice.specs.Block.{RowThrough, PassesThrough, RowNoted};
+ghost use Rattle.choice.specs.Block.{RowThrough, PassesThrough};
 
-use crate::MOST_LISTED;
-use crate::hands::{NO_SLOT, Passing};
+use crate::hands::Passing;
 use crate::passing::{row_passing, slot_of};
 use days::Day;
-use grants::terms::Terms;
+use grants::asking::Asking;
 use records::{is_row, row_of};
 use rules::PriceRow;
 
-// The count of the listed rows where they would be more than fit.
-const TOO_MANY: usize = 2049;
-
-// What a record is on all days of a block; or it is listed, since it is not the same on each.
+// What a record is on the days of a block: it counts on none of them, or is the same row on each; or it is noted, since it is not.
 #[derive(Clone, Copy)]
-pub struct Through {
-    pub passing: Passing,
-    pub listed: bool,
+pub enum Through {
+    Never,
+    Always(Passing),
+    Sometimes,
 }
 
-impl Through {
-    // Nothing, on any of the days.
-    const NEVER: Through = Through {
-        passing: Passing::UNCOUNTED,
-        listed: false,
-    };
-}
-
-// A row of the asked article and sort, from the day of the terms to the last day.
-fn row_through(t: &[u8], row: PriceRow, at: usize, table: &[u8], terms: Terms, last: Day) -> Through
-    requires row_is { RowIs t.now row }
-    requires tabled { Tabled table.now terms }
-    ensures { RowThrough table.now terms last.0 at (row_in t.now row) result }
+// A row of the asked article and sort, from the day that is asked for to the last day.
+fn row_through(t: &[u8], row: PriceRow, at: usize, asking: &Asking, last: Day) -> Through
+    requires { RowIs t.now row }
+    ensures { RowThrough asking.now.table.now asking.now.terms last.0 at (row_in t.now row) result }
 {
-    if (last.0 < row.from) | (row.to < terms.date.0) {
-        return Through::NEVER;
+    if (last.0 < row.from) | (row.to < asking.terms.date.0) {
+        return Through::Never;
     }
-    let passing = row_passing(t, row, at, table, terms);
-    if passing.stands & (last.0 <= row.to) {
-        return Through {
-            passing,
-            listed: false,
-        };
+    if last.0 <= row.to {
+        if let Some(passing) = row_passing(t, row, at, asking) {
+            return Through::Always(passing);
+        }
     }
-    let slot = slot_of(t, row, table, terms);
-    Through {
-        passing: Passing::UNCOUNTED,
-        listed: slot < NO_SLOT,
+    match slot_of(t, row, asking) {
+        Some(_) => Through::Sometimes,
+        None => Through::Never,
     }
 }
 
 // The record that stands at `at` and has the body t.
-pub fn record_through(
-    t: &[u8],
-    at: usize,
-    article: &[u8],
-    table: &[u8],
-    terms: Terms,
-    last: Day,
-) -> Through
-    requires accepted { Accepted t.now }
-    requires tabled { Tabled table.now terms }
-    ensures { PassesThrough article.now table.now terms last.0 at (whole kinded t.now) result }
+pub fn record_through(t: &[u8], at: usize, asking: &Asking, last: Day) -> Through
+    requires { Accepted t.now }
+    ensures { PassesThrough asking.now.article.now asking.now.table.now asking.now.terms last.0 at (whole kinded t.now) result }
 {
-    if is_row(t, article, terms.sort) {
-        let row = row_of(t);
-        row_through(t, row, at, table, terms, last)
+    if is_row(t, asking.article, asking.terms.sort) {
+        row_through(t, row_of(t), at, asking, last)
     } else {
-        Through::NEVER
+        Through::Never
     }
-}
-
-// The count of the listed rows once the record at `at` has gone by, which is listed or not.
-pub fn note_row(rows: &mut [usize; MOST_LISTED], n: usize, at: usize, listed: bool) -> usize
-    requires { length rows.old ≡ 2048 }
-    ensures { RowNoted rows.old n listed at rows.new result }
-{
-    if listed {
-        if n < MOST_LISTED {
-            rows[n] = at;
-            return n + 1;
-        }
-        return TOO_MANY;
-    }
-    n
 }

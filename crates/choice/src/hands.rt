@@ -1,8 +1,9 @@
 // What a slot keeps while the records go by: whether a row in the asked currency was seen, and the best rows so far.
 ghost use Rattle.layout.specs.Ensures.{Number, Says};
-ghost use Rattle.choice.specs.Hands.{is_empty, limit_of, better_hand, HandAfter, SeenAfter, TakenIs};
+ghost use Rattle.choice.specs.Hands.{is_empty, limit_of, better_hand, HandAfter, counted, SeenAfter, TakenIs};
 
-// A row in hand: where its record stands in the book, what it is compared by, and the number of its rounding.
+// A row in hand: where its record stands in the book, what it is compared by, and the number of its rounding. It says by itself whether it is
+// one, and not by an `Option`: of 24 bytes, and not 32, two hundred are kept, and every row that goes by is held against them.
 #[derive(Clone, Copy)]
 pub struct Hand {
     pub at: usize,
@@ -43,28 +44,13 @@ impl Seen {
     };
 }
 
-// One past the last slot: none.
-pub const NO_SLOT: usize = 99;
-
-// A row that goes by: the slot it is of; whether it counts that day, is in the asked currency, and reaches the quantity.
+// A row that goes by and counts that day: the slot it is of; whether it is in the asked currency, and reaches the quantity.
 #[derive(Clone, Copy)]
 pub struct Passing {
     pub slot: usize,
-    pub stands: bool,
     pub asked: bool,
     pub reaches: bool,
     pub hand: Hand,
-}
-
-impl Passing {
-    // No row that counts.
-    pub const UNCOUNTED: Passing = Passing {
-        slot: NO_SLOT,
-        stands: false,
-        asked: false,
-        reaches: false,
-        hand: Hand::EMPTY,
-    };
 }
 
 // No limit is above every limit.
@@ -88,28 +74,20 @@ fn better(new: Hand, old: Hand) -> bool
 fn in_hand(counts: bool, old: Hand, new: Hand) -> Hand
     ensures { HandAfter counts old new result }
 {
-    if counts {
-        if old.is_empty() {
-            return new;
-        }
-        if better(new, old) {
-            return new;
-        }
+    if counts && (old.is_empty() || better(new, old)) {
+        new
+    } else {
+        old
     }
-    old
 }
 
 pub fn see(s: Seen, p: Passing) -> Seen
-    ensures { SeenAfter s p result }
+    ensures { SeenAfter s (counted p) result }
 {
-    let hit = p.stands & p.asked;
-    let hand = p.hand;
-    let asked = in_hand(hit & p.reaches, s.asked, hand);
-    let other = in_hand(p.stands & p.reaches, s.other, hand);
     Seen {
-        met: s.met | hit,
-        asked,
-        other,
+        met: s.met | p.asked,
+        asked: in_hand(p.asked & p.reaches, s.asked, p.hand),
+        other: in_hand(p.reaches, s.other, p.hand),
     }
 }
 

@@ -3,134 +3,126 @@
 
 mod block;
 pub mod hands;
+pub mod noted;
 mod passing;
 pub mod rows;
 pub mod slots;
 
-ghost use Rattle.std.specs.Prelude.{◌≡◌, length};
 ghost use Rattle.rules.specs.Book.{rows};
 ghost use Rattle.layout.specs.Records.{records_left, Between};
-ghost use Rattle.grants.specs.Asks.{Tabled};
-ghost use Rattle.choice.specs.Walk.{SlotsFor};
-ghost use Rattle.choice.specs.Block.{Listed, SlotsAfter, SharedOn, SharedFor};
+ghost use Rattle.choice.specs.Walk.{InSlot, going, SlotsFor};
+ghost use Rattle.choice.specs.Block.{TookIn, AllStand, SlotsAfter, SharedOn, SharedFor};
 
-use crate::block::{note_row, record_through};
-use crate::hands::{Seen, see};
+use crate::block::{Through, record_through};
+use crate::hands::{Passing, Seen, see};
+use crate::noted::{MOST_NOTED, Noted};
 use crate::passing::passing;
 use book::record_stop;
 use days::Day;
-use grants::terms::Terms;
+use grants::asking::Asking;
 
-// The records of w from `from` on, each once. w is a book, or the front part of one. Slot 33 * level + place, for 3 levels of 33 places
-// each, and behind them one that nobody reads.
-pub fn slots_for(w: &[u8], from: usize, article: &[u8], table: &[u8], terms: Terms) -> [Seen; 100]
-    requires between { Between w.now from }
-    requires tabled { Tabled table.now terms }
-    ensures { SlotsFor w.now (rows (records_left w.now from)) article.now table.now terms result }
+// A slot for each level and place: slot 33 * level + place, for 3 levels of 33 places each.
+pub const SLOTS: usize = 99;
+
+// The slots once a record has gone by, as the row that it is to a question, or as none.
+fn take_in(slots: &mut [Seen; SLOTS], p: Option<Passing>)
+    requires { InSlot p }
+    ensures { TookIn slots.old (going p) slots.new }
 {
-    let mut slots = [Seen::NOTHING; 100];
+    if let Some(p) = p {
+        let old = slots[p.slot];
+        slots[p.slot] = see(old, p);
+    }
+}
+
+// The records of w from `from` on, each once. w is a book, or the front part of one.
+pub fn slots_for(w: &[u8], from: usize, asking: &Asking) -> [Seen; SLOTS]
+    requires { Between w.now from }
+    ensures { SlotsFor w.now (rows (records_left w.now from)) asking.now.article.now asking.now.table.now asking.now.terms result }
+{
+    let mut slots = [Seen::NOTHING; SLOTS];
     let mut at = from;
     while at < w.len() {
         let end = record_stop(w, at);
-        let start = at + 2;
-        let p = passing(&w[start..end], at, article, table, terms);
-        let i = p.slot;
-        let old = slots[i];
-        slots[i] = see(old, p);
+        let p = passing(&w[at + 2..end], at, asking);
+        take_in(&mut slots, p);
         at = end;
     }
     slots
 }
 
-// So many rows are listed at most.
-pub const MOST_LISTED: usize = 2048;
-
-// What the slots keep of the rows that are the same on all days of a block; n others are listed, or more than fit.
+// What the slots keep of the rows that are the same on all days of a block, and the others.
 #[derive(Clone, Copy)]
 pub struct Shared {
-    pub slots: [Seen; 100],
-    pub n: usize,
+    pub slots: [Seen; SLOTS],
+    pub noted: Noted,
 }
 
-// The same walk once for all days from that of the terms to the last.
-pub fn shared_for(
-    w: &[u8],
-    from: usize,
-    article: &[u8],
-    table: &[u8],
-    terms: Terms,
-    last: Day,
-    listed: &mut [usize; MOST_LISTED],
-) -> Shared
-    requires between { Between w.now from }
-    requires tabled { Tabled table.now terms }
-    requires listed_len { length listed.old ≡ 2048 }
-    ensures { SharedFor w.now from article.now table.now terms last.0 result listed.new }
+impl Shared {
+    ghost use Rattle.choice.specs.Block.{passing_through, is_noted, InSlotThrough, TookThrough};
+
+    pub const NOTHING: Shared = Shared {
+        slots: [Seen::NOTHING; SLOTS],
+        noted: Noted::NONE,
+    };
+
+    // The record that stands at `at` goes by.
+    fn take_in(&mut self, at: usize, x: Through)
+        requires { InSlotThrough x }
+        ensures { TookThrough self.old at x self.new }
+    {
+        match x {
+            Through::Never => (),
+            Through::Always(p) => take_in(&mut self.slots, Some(p)),
+            Through::Sometimes => self.noted.push(at),
+        }
+    }
+}
+
+// The same walk once for all days from the one that is asked for to the last.
+pub fn shared_for(w: &[u8], from: usize, asking: &Asking, last: Day, shared: &mut Shared)
+    requires { Between w.now from }
+    ensures { SharedFor w.now from asking.now.article.now asking.now.table.now asking.now.terms last.0 shared.new }
 {
-    let mut slots = [Seen::NOTHING; 100];
-    let mut n = 0;
+    let slots = [Seen::NOTHING; SLOTS];
+    shared.slots = slots;
+    shared.noted.n = 0;
     let mut at = from;
     while at < w.len() {
         let end = record_stop(w, at);
-        let start = at + 2;
-        let r = record_through(&w[start..end], at, article, table, terms, last);
-        n = note_row(listed, n, at, r.listed);
-        let p = r.passing;
-        let i = p.slot;
-        let old = slots[i];
-        slots[i] = see(old, p);
+        let x = record_through(&w[at + 2..end], at, asking, last);
+        shared.take_in(at, x);
         at = end;
     }
-    Shared { slots, n }
 }
 
-// The slots once the first n of the listed rows have gone by too.
-fn slots_after(
-    w: &[u8],
-    shared: [Seen; 100],
-    listed: &[usize; MOST_LISTED],
-    n: usize,
-    article: &[u8],
-    table: &[u8],
-    terms: Terms,
-) -> [Seen; 100]
-    requires listed { Listed w.now listed.now n }
-    requires tabled { Tabled table.now terms }
-    ensures { SlotsAfter w.now shared listed.now n article.now table.now terms result }
+// The slots once the noted rows have gone by too.
+fn slots_after(w: &[u8], shared: &[Seen; SLOTS], noted: &[usize], asking: &Asking) -> [Seen; SLOTS]
+    requires { AllStand w.now noted.now }
+    ensures { SlotsAfter w.now shared.now noted.now asking.now.article.now asking.now.table.now asking.now.terms result }
 {
-    let mut slots = shared;
-    let mut k = 0;
-    while k < n {
-        let at = listed[k];
-        let end = record_stop(w, at);
-        let start = at + 2;
-        let p = passing(&w[start..end], at, article, table, terms);
-        let i = p.slot;
-        let old = slots[i];
-        slots[i] = see(old, p);
-        k += 1;
+    let mut slots = *shared;
+    for at in noted {
+        let end = record_stop(w, *at);
+        let p = passing(&w[*at + 2..end], *at, asking);
+        take_in(&mut slots, p);
     }
     slots
 }
 
-// The slots of a day of the block. Where too many rows would be listed, by a walk of its own.
-pub fn slots_on(
-    w: &[u8],
-    from: usize,
-    article: &[u8],
-    table: &[u8],
-    terms: Terms,
-    shared: Shared,
-    listed: &[usize; MOST_LISTED],
-) -> [Seen; 100]
+// The slots of a day of the block. Where more rows came than are noted, by a walk of its own.
+pub fn slots_on(w: &[u8], from: usize, asking: &Asking, shared: &Shared) -> [Seen; SLOTS]
     requires between { Between w.now from }
-    requires tabled { Tabled table.now terms }
-    requires shared_on { SharedOn w.now from article.now table.now terms shared listed.now }
-    ensures { SlotsFor w.now (rows (records_left w.now from)) article.now table.now terms result }
+    requires shared_on { SharedOn w.now from asking.now.article.now asking.now.table.now asking.now.terms shared.now }
+    ensures { SlotsFor w.now (rows (records_left w.now from)) asking.now.article.now asking.now.table.now asking.now.terms result }
 {
-    if MOST_LISTED < shared.n {
-        return slots_for(w, from, article, table, terms);
+    if MOST_NOTED < shared.noted.n {
+        return slots_for(w, from, asking);
     }
-    let slots = shared.slots;
-    slots_after(w, slots, listed, shared.n, article, table, terms)
+    slots_after(
+        w,
+        &shared.slots,
+        &shared.noted.rows[..shared.noted.n],
+        asking,
+    )
 }

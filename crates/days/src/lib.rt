@@ -6,7 +6,7 @@ ghost use Rattle.rules.specs.Days.{first_day, last_day, leap, days_in, is_day, n
 
 // A day, by its number yyyymmdd.
 #[repr(C)]
-#[derive(Clone, Copy)]
+#[derive(Clone, Copy, PartialEq, Eq, PartialOrd, Ord)]
 pub struct Day(pub u32);
 
 // Every fourth year is a leap year, but of the full hundreds only every fourth.

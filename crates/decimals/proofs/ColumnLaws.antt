@@ -1,18 +1,25 @@
 -- The columns that hold numbers: what stands in each, and the semicolon behind it.
 use Prim.Native.Nat.{ℕ, zero, suc, ◌+◌, ◌-◌, ◌/◌, ◌%◌, ◌≤◌, ◌<◌}
 use mathlib.Core.Path.{◌≡◌, refl, sym, ◌∙◌, ap, subst}
-use mathlib.Core.Bool.{Bool, cond}
+use mathlib.Core.Bool.{Bool, true, false, cond}
 use mathlib.Core.List.{List, [], ◌∷◌, ◌++◌}
 use native.Mathlib.Omega.{arith}
-use lib.IntN.{pos, negsuc}
+use lib.IntN.{ℤ, pos, negsuc}
+use lib.Signed.{lt_z}
+use mir.Val.{sel}
+use Rattle.std.specs.Int.{w32, cast_signed, cast_unsigned}
+use Rattle.std.specs.Prelude.{unsigned_abs}
+use Rattle.std.proofs.lemmas.Int.{of_z-to_z}
+use lib.Dec.{ltb}
 use lib.ListN.{length, set, length-append}
-use borrow.Author.Tests.{lt-ltb, le-ltb}
+use borrow.Author.Tests.{ltb-true}
 use Rattle.rules.specs.Bytes.{signed_of}
 use Rattle.rules.specs.Program.{decimal}
-use Rattle.file_rules.specs.Decimals.{digits_of, blank_zero, text_text, date_text, cents_text, value_text}
+use Rattle.file_rules.specs.Decimals.{digits_of, blank_zero, text_text, cents_text, value_text}
 use Rattle.layout.specs.Ensures.{Number, PutsTo}
 use Rattle.layout.proofs.StoreLaws.{puts_of, to_then}
-use Rattle.decimals.specs.Texts.{ended, RoomFor}
+use Rattle.decimals.specs.Texts.{ended, shown, RoomFor}
+use Rattle.decimals.proofs.DigitLaws.{as_last}
 
 -- ---- the semicolon
 
@@ -42,76 +49,68 @@ size_ended s p = record { is = omega (arith, p.is, ended_length s); below = omeg
 
 -- ---- 0 is blank
 
-blank : (f : ℕ → List ℕ) (n : ℕ) → n < 1 → blank_zero f n ≡ []
-blank f zero h = refl
-blank f (suc n) h = absurd (omega arith)
-
-shown : (f : ℕ → List ℕ) (n : ℕ) → 1 ≤ n → blank_zero f n ≡ f n
-shown f zero h = absurd (omega arith)
-shown f (suc n) h = refl
-
-module _ (n : ℕ) (h : n < 1) where
-  text_blank : text_text n ≡ []
-  unfolding text_text
-  text_blank = blank decimal n h
-
-  date_blank : date_text n ≡ []
-  unfolding date_text
-  date_blank = blank (digits_of 8) n h
-
-  pub text_none : Number (length (ended (text_text n))) 22 1
-  text_none = record { is = omega (arith, ended_length (text_text n), ap length text_blank); below = omega arith }
-
-  pub date_none : Number (length (ended (date_text n))) 10 1
-  date_none = record { is = omega (arith, ended_length (date_text n), ap length date_blank); below = omega arith }
-
-  module _ {old new : List ℕ} {at r : ℕ} (p : PutsTo old at (59 ∷ []) new r) where
-    pub no_text : PutsTo old at (ended (text_text n)) new r
-    unfolding ended
-    no_text = subst (λ (s : List ℕ). PutsTo old at (s ++ (59 ∷ [])) new r) (sym text_blank) p
-
-    pub no_date : PutsTo old at (ended (date_text n)) new r
-    unfolding ended
-    no_date = subst (λ (s : List ℕ). PutsTo old at (s ++ (59 ∷ [])) new r) (sym date_blank) p
-
 length_last : (k n : ℕ) → length (digits_of k n) ≡ k
 unfolding digits_of
 length_last zero n = refl
 length_last (suc k) n = length-append (digits_of k (n / 10)) ((48 + n % 10) ∷ []) ∙ omega (arith, length_last k (n / 10))
 
-module _ (n : ℕ) (h : 1 ≤ n) where
-  text_shown : text_text n ≡ decimal n
-  unfolding text_text
-  text_shown = shown decimal n h
+module _ (k n : ℕ) where
+  module _ (h : n ≡ 0) where
+    blank : shown k n ≡ []
+    unfolding shown
+    blank = ap (blank_zero (digits_of k)) h
 
-  date_shown : date_text n ≡ digits_of 8 n
-  unfolding date_text
-  date_shown = shown (digits_of 8) n h
+    pub blank_size : Number (length (ended (shown k n))) (k + 2) 1
+    blank_size = record { is = omega (arith, ended_length (shown k n), ap length blank); below = omega arith }
 
-  pub text_some : {m : ℕ} → Number (length (ended (decimal n))) 22 m → Number (length (ended (text_text n))) 22 m
-  text_some {m} p = subst (λ (s : List ℕ). Number (length (ended s)) 22 m) (sym text_shown) p
+    pub blank_put : {old new : List ℕ} {at r : ℕ} → PutsTo old at (59 ∷ []) new r → PutsTo old at (ended (shown k n)) new r
+    unfolding ended
+    blank_put {old} {new} {at} {r} p = subst (λ (s : List ℕ). PutsTo old at (s ++ (59 ∷ [])) new r) (sym blank) p
 
-  pub text_room : {out : List ℕ} {at : ℕ} → RoomFor out at (ended (text_text n)) → RoomFor out at (ended (decimal n))
-  text_room {out} {at} p = subst (λ (s : List ℕ). RoomFor out at (ended s)) text_shown p
+  module _ (h : n ≡ 0 → ⊥) where
+    all_shown : shown k n ≡ digits_of k n
+    unfolding shown
+    all_shown = by n h
+      where
+        by : (n : ℕ) → (n ≡ 0 → ⊥) → blank_zero (digits_of k) n ≡ digits_of k n
+        by zero h = absurd (h refl)
+        by (suc n) h = refl
 
-  pub some_text : {old new : List ℕ} {at r : ℕ} → PutsTo old at (ended (decimal n)) new r → PutsTo old at (ended (text_text n)) new r
-  some_text {old} {new} {at} {r} p = subst (λ (s : List ℕ). PutsTo old at (ended s) new r) (sym text_shown) p
+    shown_long : length (ended (shown k n)) ≡ k + 1
+    shown_long = omega (arith, ended_length (shown k n), ap length all_shown, length_last k n)
 
-  date_nine : length (ended (date_text n)) ≡ 9
-  date_nine = ended_length (date_text n) ∙ omega (arith, ap length date_shown, length_last 8 n)
+    pub digits_size : Number (length (ended (shown k n))) (k + 2) (k + 1)
+    digits_size = record { is = sym shown_long; below = omega arith }
 
-  pub date_some : Number (length (ended (date_text n))) 10 9
-  date_some = record { is = sym date_nine; below = omega arith }
+    module _ {out : List ℕ} {at : ℕ} (p : RoomFor out at (ended (shown k n))) where
+      pub digits_room : at + k ≤ length out
+      digits_room = omega (arith, p.room, shown_long)
 
-  module _ {out : List ℕ} {at : ℕ} (p : RoomFor out at (ended (date_text n))) where
-    pub date_room : at + 8 ≤ length out
-    date_room = omega (arith, p.room, date_nine)
+      pub digits_end : {new : List ℕ} {r : ℕ} → PutsTo out at (digits_of k n) new r → r < length new
+      digits_end q = omega (arith, p.room, shown_long, q.ends, q.puts.long, length_last k n)
 
-    pub date_end : {new : List ℕ} {r : ℕ} → PutsTo out at (digits_of 8 n) new r → r < length new
-    date_end q = omega (arith, p.room, date_nine, q.ends, q.puts.long, length_last 8 n)
+    pub digits_put : {a b c : List ℕ} {at m r : ℕ} → PutsTo a at (digits_of k n) b m → PutsTo b m (59 ∷ []) c r → PutsTo a at (ended (shown k n)) c r
+    digits_put {a} {c = c} {at} {r = r} p q =
+        subst (λ (s : List ℕ). PutsTo a at (ended s) c r) (sym all_shown) (end_behind (digits_of k n) p q)
 
-  pub some_date : {a b c : List ℕ} {at m r : ℕ} → PutsTo a at (digits_of 8 n) b m → PutsTo b m (59 ∷ []) c r → PutsTo a at (ended (date_text n)) c r
-  some_date {a} {c = c} {at} {r = r} p q = subst (λ (s : List ℕ). PutsTo a at (ended s) c r) (sym date_shown) (end_behind (digits_of 8 n) p q)
+  -- with all its digits it is a text's number
+  module _ (e : Number (length (decimal n)) 21 k) where
+    as_text : shown k n ≡ text_text n
+    unfolding shown text_text
+    as_text = by n (sym (as_last 20 n ∙ sym (ap (λ (j : ℕ). digits_of j n) e.is)))
+      where
+        by : (n : ℕ) → digits_of k n ≡ decimal n → blank_zero (digits_of k) n ≡ blank_zero decimal n
+        by zero i = refl
+        by (suc n) i = i
+
+    pub text_number : {r : ℕ} → Number (length (ended (shown k n))) (k + 2) r → Number (length (ended (text_text n))) 22 r
+    text_number p = record { is = omega (arith, p.is, ap (λ (s : List ℕ). length (ended s)) as_text); below = omega (arith, p.below, e.below) }
+
+    pub text_room : {out : List ℕ} {at : ℕ} → RoomFor out at (ended (text_text n)) → RoomFor out at (ended (shown k n))
+    text_room {out} {at} p = subst (λ (s : List ℕ). RoomFor out at (ended s)) (sym as_text) p
+
+    pub text_put : {old new : List ℕ} {at r : ℕ} → PutsTo old at (ended (shown k n)) new r → PutsTo old at (ended (text_text n)) new r
+    text_put {old} {new} {at} {r} p = subst (λ (s : List ℕ). PutsTo old at (ended s) new r) as_text p
 
 -- ---- a value
 
@@ -140,45 +139,66 @@ module _ {out : List ℕ} {at : ℕ} (n : ℕ) (p : RoomFor out at (ended (cents
         pub cents_put : {f : List ℕ} {r : ℕ} → PutsTo c e (59 ∷ []) f r → PutsTo out at (ended (cents_text n)) f r
         cents_put t = end_behind (cents_text n) (to_then q (to_then d s)) t
 
-module _ (n : ℕ) where
-  module _ (h : n < 2147483648) where
-    value_plus : value_text (signed_of 4 n) ≡ cents_text n
-    unfolding value_text
-    value_plus = ap (λ (b : Bool). value_text (cond b (pos n) (negsuc (4294967295 - n)))) (lt-ltb n 2147483648 h)
+-- four bytes with a sign, as an `i32` has them
+same_sign : (n : ℕ) → n < 4294967296 → cast_signed w32 n ≡ signed_of 4 n
+same_sign n h = by (ltb n 2147483648)
+  where
+    by : (b : Bool) → sel b (pos n) (negsuc (4294967296 - suc n)) ≡ cond b (pos n) (negsuc (4294967295 - n))
+    by true = refl
+    by false = ap negsuc (omega arith)
 
-    pub plus_size : {m : ℕ} → Number (length (decimal (n / 100))) 21 m → Number (length (ended (value_text (signed_of 4 n)))) 30 (m + 4)
+plus : (z : ℤ) → lt_z z (pos 0) ≡ false → value_text z ≡ cents_text (unsigned_abs z)
+unfolding value_text
+plus (pos n) h = refl
+plus (negsuc n) h = cc
+
+minus : (z : ℤ) → lt_z z (pos 0) ≡ true → value_text z ≡ 45 ∷ cents_text (unsigned_abs z)
+unfolding value_text
+minus (pos n) h = absurd (omega (arith, ltb-true n 0 h))
+minus (negsuc n) h = refl
+
+-- the `i32` z has the bytes of n, and is `a` cents from zero
+module _ (n : ℕ) {z : ℤ} {a : ℕ} (g : n < 4294967296) (c : z ≡ cast_signed w32 n)
+    (e : a ≡ unsigned_abs (cast_signed w32 (cast_unsigned w32 z))) where
+  as_signed : cast_signed w32 (cast_unsigned w32 z) ≡ signed_of 4 n
+  as_signed = ap (λ (y : ℤ). cast_signed w32 (cast_unsigned w32 y)) c ∙ (ap (cast_signed w32) (of_z-to_z w32 n g) ∙ same_sign n g)
+
+  far : a ≡ unsigned_abs (signed_of 4 n)
+  far = e ∙ ap unsigned_abs as_signed
+
+  module _ (h : lt_z (cast_signed w32 (cast_unsigned w32 z)) (pos 0) ≡ false) where
+    value_plus : value_text (signed_of 4 n) ≡ cents_text a
+    value_plus = plus (signed_of 4 n) (sym (ap (λ (y : ℤ). lt_z y (pos 0)) as_signed) ∙ h) ∙ sym (ap cents_text far)
+
+    pub plus_size : {m : ℕ} → Number (length (decimal (a / 100))) 21 m → Number (length (ended (value_text (signed_of 4 n)))) 30 (m + 4)
     plus_size p = record {
-      is = omega (arith, p.is, cents_length n, ap (λ (s : List ℕ). length (ended s)) value_plus);
+      is = omega (arith, p.is, cents_length a, ap (λ (s : List ℕ). length (ended s)) value_plus);
       below = omega (arith, p.below);
     }
 
-    pub plus_room : {out : List ℕ} {at : ℕ} → RoomFor out at (ended (value_text (signed_of 4 n))) → RoomFor out at (ended (cents_text n))
+    pub plus_room : {out : List ℕ} {at : ℕ} → RoomFor out at (ended (value_text (signed_of 4 n))) → RoomFor out at (ended (cents_text a))
     plus_room {out} {at} p = subst (λ (s : List ℕ). RoomFor out at (ended s)) value_plus p
 
-    pub plus_put : {old new : List ℕ} {at r : ℕ} → PutsTo old at (ended (cents_text n)) new r → PutsTo old at (ended (value_text (signed_of 4 n))) new r
+    pub plus_put : {old new : List ℕ} {at r : ℕ} → PutsTo old at (ended (cents_text a)) new r → PutsTo old at (ended (value_text (signed_of 4 n))) new r
     plus_put {old} {new} {at} {r} p = subst (λ (s : List ℕ). PutsTo old at (ended s) new r) (sym value_plus) p
 
-  module _ (h : 2147483648 ≤ n) (g : n < 4294967296) where
-    value_minus : value_text (signed_of 4 n) ≡ 45 ∷ cents_text (4294967295 - n + 1)
-    unfolding value_text
+  module _ (h : lt_z (cast_signed w32 (cast_unsigned w32 z)) (pos 0) ≡ true) where
+    value_minus : value_text (signed_of 4 n) ≡ 45 ∷ cents_text a
     value_minus =
-        let e : suc (4294967295 - n) ≡ 4294967295 - n + 1 = omega arith in
-        ap (λ (b : Bool). value_text (cond b (pos n) (negsuc (4294967295 - n)))) (le-ltb n 2147483648 h) ∙ ap (λ (k : ℕ). 45 ∷ cents_text k) e
+        minus (signed_of 4 n) (sym (ap (λ (y : ℤ). lt_z y (pos 0)) as_signed) ∙ h) ∙ sym (ap (λ (k : ℕ). 45 ∷ cents_text k) far)
 
-    minus_length : length (ended (value_text (signed_of 4 n))) ≡ 1 + length (ended (cents_text (4294967295 - n + 1)))
+    minus_length : length (ended (value_text (signed_of 4 n))) ≡ 1 + length (ended (cents_text a))
     unfolding ended
     minus_length = ap (λ (s : List ℕ). length (ended s)) value_minus ∙ omega arith
 
-    pub minus_size : {m : ℕ} → Number (length (decimal ((4294967295 - n + 1) / 100))) 21 m
-        → Number (length (ended (value_text (signed_of 4 n)))) 30 (m + 5)
-    minus_size p = record { is = omega (arith, p.is, cents_length (4294967295 - n + 1), minus_length); below = omega (arith, p.below) }
+    pub minus_size : {m : ℕ} → Number (length (decimal (a / 100))) 21 m → Number (length (ended (value_text (signed_of 4 n)))) 30 (m + 4 + 1)
+    minus_size p = record { is = omega (arith, p.is, cents_length a, minus_length); below = omega (arith, p.below) }
 
     module _ {out : List ℕ} {at : ℕ} (p : RoomFor out at (ended (value_text (signed_of 4 n)))) where
       module _ {b : List ℕ} {m : ℕ} (d : PutsTo out at (45 ∷ []) b m) where
-        pub minus_room : RoomFor b m (ended (cents_text (4294967295 - n + 1)))
+        pub minus_room : RoomFor b m (ended (cents_text a))
         minus_room = record { room = omega (arith, p.room, minus_length, d.ends, d.puts.long) }
 
-        pub minus_put : {new : List ℕ} {r : ℕ} → PutsTo b m (ended (cents_text (4294967295 - n + 1))) new r
-            → PutsTo out at (ended (value_text (signed_of 4 n))) new r
+        pub minus_put : {new : List ℕ} {r : ℕ} → PutsTo b m (ended (cents_text a)) new r → PutsTo out at (ended (value_text (signed_of 4 n))) new r
         unfolding ended
         minus_put {new} {r} q = subst (λ (s : List ℕ). PutsTo out at (ended s) new r) (sym value_minus) (to_then d q)

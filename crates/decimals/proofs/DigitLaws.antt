@@ -7,7 +7,7 @@ use mathlib.Core.Logic.{◌⊎◌, inl, inr}
 use native.Mathlib.Omega.{arith}
 use native.Mathlib.Nat.{pow-succ', suc-add, one-le-pow}
 use lib.Dec.{ltb}
-use lib.ListN.{length, set, length-append, length-set}
+use lib.ListN.{length, set, length-append}
 use lib.Seq.{sets, set_comm}
 use borrow.Author.Tests.{lt-ltb, le-ltb, ltb-true, ltb-false}
 use Rattle.rules.specs.Program.{digits, decimal}
@@ -102,81 +102,52 @@ set_before (v ∷ vs) l j m d h =
     set_before vs (set l j v) (suc j) m d (omega arith)
     ∙ ap (λ (s : List ℕ). sets s (suc j) vs) (set_comm l j m v d (λ e. omega arith))
 
--- the digits behind the first i are stored, and `left` has those in front
+-- the digits from i on are stored, and `left` has those in front of them
 pub record Filling (old : List ℕ) (at k n : ℕ) (out : List ℕ) (left i : ℕ) : Type 0 where
+  pub front : ℕ
+  pub here : i ≡ at + front
   pub done : List ℕ
-  pub whole : digits_of k n ≡ digits_of i left ++ done
-  pub few : i + length done ≡ k
-  pub stored : out ≡ sets old (at + i) done
-  pub long : length out ≡ length old
+  pub whole : digits_of k n ≡ digits_of front left ++ done
+  pub few : front + length done ≡ k
+  pub stored : out ≡ sets old i done
 
 module _ {old : List ℕ} {at k n : ℕ} where
-  pub fill_start : Filling old at k n old n k
-  fill_start = record { done = []; whole = sym (append-nil (digits_of k n)); few = omega arith; stored = refl; long = refl }
+  pub fill_start : Filling old at k n old n (at + k)
+  fill_start = record { front = k; here = refl; done = []; whole = sym (append-nil (digits_of k n)); few = omega arith; stored = refl }
 
   module _ {out : List ℕ} {left i : ℕ} (p : Filling old at k n out left i) where
-    pub fill_on : 0 < i → Filling old at k n (set out (at + (i - 1)) (48 + left % 10)) (left / 10) (i - 1)
+    pub fill_on : at < i → Filling old at k n (set out (i - 1) (48 + left % 10)) (left / 10) (i - 1)
     unfolding digits_of
     fill_on h =
-        let e : i ≡ suc (i - 1) = omega arith in
-        let f : at + i ≡ suc (at + (i - 1)) = omega arith in
+        let e : p.front ≡ suc (p.front - 1) = omega (arith, p.here) in
+        let f : i ≡ suc (i - 1) = omega arith in
         record {
+          front = p.front - 1;
+          here = omega (arith, p.here);
           done = (48 + left % 10) ∷ p.done;
           whole =
               p.whole
               ∙ (ap (λ (j : ℕ). digits_of j left ++ p.done) e
-              ∙ append_assoc (digits_of (i - 1) (left / 10)) ((48 + left % 10) ∷ []) p.done);
+              ∙ append_assoc (digits_of (p.front - 1) (left / 10)) ((48 + left % 10) ∷ []) p.done);
           few = omega (arith, p.few);
           stored =
-              ap (λ (s : List ℕ). set s (at + (i - 1)) (48 + left % 10)) p.stored
-              ∙ (set_before p.done old (at + i) (at + (i - 1)) (48 + left % 10) (omega arith)
-              ∙ ap (λ (j : ℕ). sets (set old (at + (i - 1)) (48 + left % 10)) j p.done) f);
-          long = length-set out (at + (i - 1)) (48 + left % 10) ∙ p.long;
+              ap (λ (s : List ℕ). set s (i - 1) (48 + left % 10)) p.stored
+              ∙ (set_before p.done old i (i - 1) (48 + left % 10) (omega arith)
+              ∙ ap (λ (j : ℕ). sets (set old (i - 1) (48 + left % 10)) j p.done) f);
         }
 
-    fill_end : at + k ≤ length old → i ≤ 0 → PutsTo old at (digits_of k n) out (at + k)
+    pub fill_end : at + k ≤ length old → i ≤ at → PutsTo old at (digits_of k n) out (at + k)
     unfolding digits_of
     fill_end g h =
-        let e : i ≡ 0 = omega arith in
+        let e : p.front ≡ 0 = omega (arith, p.here) in
         let d : digits_of k n ≡ p.done = p.whole ∙ ap (λ (j : ℕ). digits_of j left ++ p.done) e in
-        let f : at + i ≡ at = omega arith in
+        let f : i ≡ at = omega (arith, p.here) in
         record {
           puts =
               subst (λ (s : List ℕ). Puts old at s out) (sym d)
               (puts_of (omega (arith, p.few)) (p.stored ∙ ap (λ (j : ℕ). sets old j p.done) f));
           ends = omega (arith, ap length d, p.few);
         }
-
-module _ {old : List ℕ} {at k n : ℕ} {out : List ℕ} {left i : ℕ} (p : Filling old at k n out left i) where
-  pub fill_inside : (x y : ℕ) → at + k ≤ length old → 1 < i → at + (i - 2) < length (set out x y)
-  fill_inside x y g h = omega (arith, length-set out x y, p.long, p.few)
-
-  -- two at a time
-  abbrev Two : ℕ → ℕ → ℕ → ℕ → ℕ → Type 0
-  Two place last front rest j = Filling old at k n (set (set out place (48 + last)) (at + j) (48 + front)) rest j
-
-  pub fill_two : 1 < i
-      → Filling old at k n (set (set out (at + (i - 2) + 1) (48 + left % 100 % 10)) (at + (i - 2)) (48 + left % 100 / 10)) (left / 100) (i - 2)
-  fill_two h =
-      let two : Two (at + (i - 1)) (left % 10) (left / 10 % 10) (left / 10 / 10) (i - 1 - 1) = fill_on (fill_on p (omega arith)) (omega arith) in
-      let a : at + (i - 1) ≡ at + (i - 2) + 1 = omega arith in
-      let b : left % 10 ≡ left % 100 % 10 = omega arith in
-      let c : left / 10 % 10 ≡ left % 100 / 10 = omega arith in
-      let d : left / 10 / 10 ≡ left / 100 = omega arith in
-      let e : i - 1 - 1 ≡ i - 2 = omega arith in
-      subst (λ (y : ℕ). Two (at + (i - 2) + 1) (left % 100 % 10) (left % 100 / 10) (left / 100) y) e
-      (subst (λ (y : ℕ). Two (at + (i - 2) + 1) (left % 100 % 10) (left % 100 / 10) y (i - 1 - 1)) d
-      (subst (λ (y : ℕ). Two (at + (i - 2) + 1) (left % 100 % 10) y (left / 10 / 10) (i - 1 - 1)) c
-      (subst (λ (y : ℕ). Two (at + (i - 2) + 1) y (left / 10 % 10) (left / 10 / 10) (i - 1 - 1)) b
-      (subst (λ (y : ℕ). Two y (left % 10) (left / 10 % 10) (left / 10 / 10) (i - 1 - 1)) a two))))
-
-  pub fill_done : at + k ≤ length old → i < 1 → PutsTo old at (digits_of k n) out (at + k)
-  fill_done g h = fill_end p g (omega arith)
-
-  pub fill_last : at + k ≤ length old → i ≤ 1 → 1 ≤ i → PutsTo old at (digits_of k n) (set out at (48 + left % 10)) (at + k)
-  fill_last g h l =
-      let e : at + (i - 1) ≡ at = omega arith in
-      subst (λ (y : ℕ). PutsTo old at (digits_of k n) (set out y (48 + left % 10)) (at + k)) e (fill_end (fill_on p (omega arith)) g (omega arith))
 
 -- ---- all of them
 

@@ -6,8 +6,8 @@ use mathlib.Core.List.{List, [], ◌∷◌, ◌++◌, map, append-nil}
 use native.Mathlib.Omega.{arith}
 use native.Mathlib.Numerals.{add-one}
 use lib.Dec.{eqb}
-use lib.ListN.{length, take, drop, get_or, replicate, length-append, length-drop, length-map, get_or-map, drop_of_length-le}
-use lib.Seq.{drop-cons, get_or-take, length-take-le}
+use lib.ListN.{length, drop, get_or, replicate, length-append, length-drop, length-map, get_or-map, drop_of_length-le}
+use lib.Seq.{drop-cons, length-take-le}
 use borrow.Author.Tests.{eq-eqb, ne_eqb}
 use Rattle.rules.specs.Lists.{join}
 use Rattle.rules.specs.Bytes.{bytes_of}
@@ -18,8 +18,8 @@ use Rattle.layout.proofs.StoreLaws.{to_then}
 use Rattle.layout.proofs.PileLaws.{Piling, pile_start, pile_room, pile_again, pile_end}
 use Rattle.relation_rules.specs.Derived.{name_in, names_in}
 use Rattle.relations.specs.Assignments.{part_in}
-use Rattle.relations.specs.Names.{no_part, names_of}
-use Rattle.derive.specs.Written.{taken_by, PartIn, RoomFor, Few, Inside, SizeIs, NamesRoom}
+use Rattle.relations.specs.Names.{PartIn, names_of}
+use Rattle.derive.specs.Written.{no_part, taken_by, RoomFor, Few, Inside, SizeIs, NamesRoom}
 
 -- ---- one name
 
@@ -61,34 +61,33 @@ module _ {version : ℕ} {out : List ℕ} {at : ℕ} {t : List ℕ} {p : Part} (
 
 -- ---- one behind the other
 
-module _ (version : ℕ) (t : List ℕ) (parts : List Part) (n : ℕ) where
+module _ (version : ℕ) (t : List ℕ) (parts : List Part) where
   abbrev pub pieces : List (List ℕ)
-  pieces = map (name_in version) (names_of t parts n)
+  pieces = map (name_in version) (names_of t parts)
 
-  module _ (k : n ≤ length parts) where
-    pieces_count : length pieces ≡ n
-    pieces_count = length-map (names_of t parts n) (name_in version) ∙ length-map (take n parts) (part_in t) ∙ length-take-le n parts k
+  pieces_count : length pieces ≡ length parts
+  pieces_count = length-map (names_of t parts) (name_in version) ∙ length-map parts (part_in t)
 
-    -- the one with number i
-    piece_is : (i : ℕ) → i < n → get_or pieces i (name_in version (part_in t no_part)) ≡ name_in version (part_in t (get_or parts i no_part))
-    piece_is i h =
-        get_or-map (name_in version) (names_of t parts n) i (part_in t no_part)
-        ∙ ap (name_in version) (get_or-map (part_in t) (take n parts) i no_part ∙ ap (part_in t) (get_or-take n parts i no_part h))
+  -- the one with number i
+  piece_is : (i : ℕ) → get_or pieces i (name_in version (part_in t no_part)) ≡ name_in version (part_in t (get_or parts i no_part))
+  piece_is i =
+      get_or-map (name_in version) (names_of t parts) i (part_in t no_part)
+      ∙ ap (name_in version) (get_or-map (part_in t) parts i no_part)
 
 -- ---- their sizes
 
 -- the first i take so many bytes, and with what the others take that is all
-pub record Sizing (version : ℕ) (parts : List Part) (n size i : ℕ) : Type 0 where
-  pub on : i ≤ n
+pub record Sizing (version : ℕ) (parts : List Part) (size i : ℕ) : Type 0 where
+  pub on : i ≤ length parts
   pub most : size ≤ 23 * i
-  pub left : (t : List ℕ) → Inside t parts n → size + length (join (drop i (pieces version t parts n))) ≡ length (join (pieces version t parts n))
+  pub left : (t : List ℕ) → Inside t parts → size + length (join (drop i (pieces version t parts))) ≡ length (join (pieces version t parts))
 
-module _ (version : ℕ) (parts : List Part) (n : ℕ) where
-  pub sizes_start : Sizing version parts n 0 0
+module _ (version : ℕ) (parts : List Part) where
+  pub sizes_start : Sizing version parts 0 0
   sizes_start = record { on = omega arith; most = omega arith; left = λ t h. omega arith }
 
-  module _ {size i : ℕ} (s : Sizing version parts n size i) (few : Few parts n) where
-    module _ (h : i < n) where
+  module _ {size i : ℕ} (s : Sizing version parts size i) (few : Few parts) where
+    module _ (h : i < length parts) where
       pub sizes_short : (get_or parts i no_part).size ≤ 20
       sizes_short = few.short i h
 
@@ -96,17 +95,16 @@ module _ (version : ℕ) (parts : List Part) (n : ℕ) where
         pub sizes_fit : size + r < 18446744073709551616
         sizes_fit = omega (arith, s.most, one.below, few.few)
 
-        pub sizes_again : Sizing version parts n (size + r) (i + 1)
+        pub sizes_again : Sizing version parts (size + r) (i + 1)
         sizes_again = record {
           on = omega arith;
           most = omega (arith, s.most, one.below);
           left = λ t inside.
-              let k : n ≤ length parts = omega (arith, few.long, few.few) in
-              let all : List (List ℕ) = pieces version t parts n in
+              let all : List (List ℕ) = pieces version t parts in
               let here : List ℕ = name_in version (part_in t (get_or parts i no_part)) in
               let next : join (drop i all) ≡ here ++ join (drop (i + 1) all) =
-              ap join (drop-cons all i (name_in version (part_in t no_part)) (omega (arith, pieces_count version t parts n k)))
-              ∙ ap (λ (x : List ℕ). x ++ join (drop (suc i) all)) (piece_is version t parts n k i h)
+              ap join (drop-cons all i (name_in version (part_in t no_part)) (omega (arith, pieces_count version t parts)))
+              ∙ ap (λ (x : List ℕ). x ++ join (drop (suc i) all)) (piece_is version t parts i)
               ∙ ap (λ (j : ℕ). here ++ join (drop j all)) (sym (add-one i)) in
               omega (
                 arith,
@@ -118,12 +116,11 @@ module _ (version : ℕ) (parts : List Part) (n : ℕ) where
               );
         }
 
-    pub sizes_end : n ≤ i → SizeIs version parts n size
+    pub sizes_end : length parts ≤ i → SizeIs version parts size
     sizes_end h = record {
       is = λ t inside.
-          let k : n ≤ length parts = omega (arith, few.long, few.few) in
-          let all : List (List ℕ) = pieces version t parts n in
-          let over : length all ≤ i = omega (arith, pieces_count version t parts n k) in
+          let all : List (List ℕ) = pieces version t parts in
+          let over : length all ≤ i = omega (arith, pieces_count version t parts) in
           omega (arith, s.left t inside, ap (λ (l : List (List ℕ)). length (join l)) (drop_of_length-le all over));
       most = omega (arith, s.most, s.on);
     }
@@ -131,43 +128,40 @@ module _ (version : ℕ) (parts : List Part) (n : ℕ) where
 -- ---- their bytes
 
 -- i of them are there, and the next one belongs at `end`
-pub record Naming (old : List ℕ) (at version : ℕ) (t : List ℕ) (parts : List Part) (n : ℕ) (out : List ℕ) (end i : ℕ) : Type 0 where
-  pub piled : Piling old at (pieces version t parts n) out end i
-  pub few : Few parts n
-  pub inside : Inside t parts n
+pub record Naming (old : List ℕ) (at version : ℕ) (t : List ℕ) (parts : List Part) (out : List ℕ) (end i : ℕ) : Type 0 where
+  pub piled : Piling old at (pieces version t parts) out end i
+  pub few : Few parts
+  pub inside : Inside t parts
 
-module _ {old : List ℕ} {at version : ℕ} {t : List ℕ} {parts : List Part} {n : ℕ} where
-  pub names_start : Few parts n → Inside t parts n → NamesRoom old at version t parts n → Naming old at version t parts n old at 0
-  names_start few inside r = record { piled = pile_start old at (pieces version t parts n) r.room; few = few; inside = inside }
+module _ {old : List ℕ} {at version : ℕ} {t : List ℕ} {parts : List Part} where
+  pub names_start : Few parts → Inside t parts → NamesRoom old at version t parts → Naming old at version t parts old at 0
+  names_start few inside r = record { piled = pile_start old at (pieces version t parts) r.room; few = few; inside = inside }
 
-  module _ {out : List ℕ} {end i : ℕ} (inv : Naming old at version t parts n out end i) where
-    pub name_there : i < n → PartIn t (get_or parts i no_part)
+  module _ {out : List ℕ} {end i : ℕ} (inv : Naming old at version t parts out end i) where
+    pub name_there : i < length parts → PartIn t (get_or parts i no_part)
     name_there h = record { inside = inv.inside.inside i h; short = inv.few.short i h }
 
-    fits : n ≤ length parts
-    fits = omega (arith, inv.few.long, inv.few.few)
-
-    module _ (h : i < n) where
-      more : i < length (pieces version t parts n)
-      more = omega (arith, h, pieces_count version t parts n fits)
+    module _ (h : i < length parts) where
+      more : i < length (pieces version t parts)
+      more = omega (arith, h, pieces_count version t parts)
 
       pub name_room : RoomFor out end version (get_or parts i no_part).size
       name_room = record {
         room = omega (
           arith,
-          pile_room old at (pieces version t parts n) inv.piled more (name_in version (part_in t no_part)),
-          ap length (piece_is version t parts n fits i h),
+          pile_room old at (pieces version t parts) inv.piled more (name_in version (part_in t no_part)),
+          ap length (piece_is version t parts i),
           name_long version t (get_or parts i no_part) (inv.inside.inside i h),
         );
       }
 
-      pub name_put : {new : List ℕ} {r : ℕ} → PutsTo out end (name_in version (part_in t (get_or parts i no_part))) new r → Naming old at version t parts n new r (i + 1)
+      pub name_put : {new : List ℕ} {r : ℕ} → PutsTo out end (name_in version (part_in t (get_or parts i no_part))) new r → Naming old at version t parts new r (i + 1)
       name_put {new} {r} p = record {
-        piled = pile_again old at (pieces version t parts n) inv.piled more (name_in version (part_in t no_part))
-            (subst (λ (x : List ℕ). PutsTo out end x new r) (sym (piece_is version t parts n fits i h)) p);
+        piled = pile_again old at (pieces version t parts) inv.piled more (name_in version (part_in t no_part))
+            (subst (λ (x : List ℕ). PutsTo out end x new r) (sym (piece_is version t parts i)) p);
         few = inv.few;
         inside = inv.inside;
       }
 
-    pub names_end : n ≤ i → PutsTo old at (names_in version (names_of t parts n)) out end
-    names_end h = pile_end old at (pieces version t parts n) inv.piled (omega (arith, pieces_count version t parts n fits))
+    pub names_end : length parts ≤ i → PutsTo old at (names_in version (names_of t parts)) out end
+    names_end h = pile_end old at (pieces version t parts) inv.piled (omega (arith, pieces_count version t parts))

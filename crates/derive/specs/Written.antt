@@ -9,7 +9,7 @@ use Rattle.rules.specs.declared.PlacedAnswer.{PlacedAnswer}
 use Rattle.question.specs.Parts.{factor_size}
 use Rattle.relation_rules.specs.Derived.{grants_none, names_in}
 use Rattle.relation_rules.specs.Calls.{shown_derive, lent_after_derive}
-use Rattle.relations.specs.Names.{no_part, names_of}
+use Rattle.relations.specs.Names.{names_of}
 
 -- ---- a name
 
@@ -17,35 +17,33 @@ use Rattle.relations.specs.Names.{no_part, names_of}
 abbrev pub taken_by : ℕ → ℕ → ℕ
 taken_by version size = size + (1 + factor_size version)
 
--- the part lies in the text, and is no longer than a name
-pub record PartIn (t : List ℕ) (p : Part) : Type 0 where
-  pub inside : p.at + p.size ≤ length t
-  pub short : p.size ≤ 20
-
 -- there is room from `at` on for a name of this size
 pub record RoomFor (out : List ℕ) (at version size : ℕ) : Type 0 where
   pub room : at + taken_by version size ≤ length out
 
--- ---- the first n names
+-- ---- names
 
--- of 32 parts, and no longer than a name is
-pub record Few (parts : List Part) (n : ℕ) : Type 0 where
-  pub long : length parts ≡ 32
-  pub few : n ≤ 32
-  pub short : (i : ℕ) → i < n → (get_or parts i no_part).size ≤ 20
+-- what stands for a part behind the last one
+abbrev pub no_part : Part
+no_part = record { at = 0; size = 0 }
+
+-- 32 parts at most, and no longer than a name is
+pub record Few (parts : List Part) : Type 0 where
+  pub few : length parts ≤ 32
+  pub short : (i : ℕ) → i < length parts → (get_or parts i no_part).size ≤ 20
 
 -- and lie in the text
-pub record Inside (t : List ℕ) (parts : List Part) (n : ℕ) : Type 0 where
-  pub inside : (i : ℕ) → i < n → (get_or parts i no_part).at + (get_or parts i no_part).size ≤ length t
+pub record Inside (t : List ℕ) (parts : List Part) : Type 0 where
+  pub inside : (i : ℕ) → i < length parts → (get_or parts i no_part).at + (get_or parts i no_part).size ≤ length t
 
 -- `r` is how many bytes they take, whatever text they are parts of
-pub record SizeIs (version : ℕ) (parts : List Part) (n r : ℕ) : Type 0 where
-  pub is : (t : List ℕ) → Inside t parts n → r ≡ length (names_in version (names_of t parts n))
-  pub most : r ≤ 23 * n
+pub record SizeIs (version : ℕ) (parts : List Part) (r : ℕ) : Type 0 where
+  pub is : (t : List ℕ) → Inside t parts → r ≡ length (names_in version (names_of t parts))
+  pub most : r ≤ 23 * length parts
 
 -- there is room for them from `at` on
-pub record NamesRoom (out : List ℕ) (at version : ℕ) (t : List ℕ) (parts : List Part) (n : ℕ) : Type 0 where
-  pub room : at + length (names_in version (names_of t parts n)) ≤ length out
+pub record NamesRoom (out : List ℕ) (at version : ℕ) (t : List ℕ) (parts : List Part) : Type 0 where
+  pub room : at + length (names_in version (names_of t parts)) ≤ length out
 
 -- ---- the question with them
 
@@ -60,22 +58,22 @@ named_at at names s =
     bytes_of 4 (length s + length new) ++ (take (at - 4) (drop 4 s) ++ (length names ∷ (new ++ drop (at + 1) s)))
 
 -- the count stands at `at` in s, and the names can stand behind it
-pub record Fitting (s : List ℕ) (at : ℕ) (t : List ℕ) (parts : List Part) (n : ℕ) : Type 0 where
+pub record Fitting (s : List ℕ) (at : ℕ) (t : List ℕ) (parts : List Part) : Type 0 where
   pub low : 4 < at
   pub inside : at < length s
-  pub few : Few parts n
-  pub names : Inside t parts n
-  pub short : length s + length (names_in (get_or s 4 0) (names_of t parts n)) ≤ most_named
+  pub few : Few parts
+  pub names : Inside t parts
+  pub short : length s + length (names_in (get_or s 4 0) (names_of t parts)) ≤ most_named
 
 -- they take `size` bytes, and there is room for s with them
-pub record QuestionRoom (out s t : List ℕ) (parts : List Part) (n size : ℕ) : Type 0 where
-  pub size_is : size ≡ length (names_in (get_or s 4 0) (names_of t parts n))
+pub record QuestionRoom (out s t : List ℕ) (parts : List Part) (size : ℕ) : Type 0 where
+  pub size_is : size ≡ length (names_in (get_or s 4 0) (names_of t parts))
   pub room : length s + size ≤ length out
 
 -- ---- the call
 
 -- zeros beside the number and the place of a refusal
-pub record Refusal (number place : ℕ) (r : PlacedAnswer) : Type 0 where
+pub record RefusedWith (number place : ℕ) (r : PlacedAnswer) : Type 0 where
   pub is : r ≡ record { length = 0; place = place; number = number }
 
 -- s is a question that grants none, and their count stands at `at`
@@ -86,10 +84,9 @@ pub record GrantsNone (s : List ℕ) (at : ℕ) : Type 0 where
   pub stands : count_at question ≡ at
   pub inside : at < length s
 
--- `r` is that position; 0: it is none
-pub record CountIs (s : List ℕ) (r : ℕ) : Type 0 where
-  pub there : 0 < r → GrantsNone s r
-  pub not_there : r < 1 → (q : Question) → question_of s ≡ some q → grants_none q ≡ false
+-- s is no question, or one that grants names
+pub record NotAsked (s : List ℕ) : Type 0 where
+  pub grants : (q : Question) → question_of s ≡ some q → grants_none q ≡ false
 
 -- these bytes, or 7 if there is no room for them
 unfoldable pub if_room : ℕ → List ℕ → ResultAt (List ℕ)

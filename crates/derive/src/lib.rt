@@ -4,10 +4,11 @@
 
 mod names;
 
+ghost use Rattle.std.specs.Prelude.{MatchOption};
 ghost use Rattle.layout.specs.Ensures.{PutsTo};
 ghost use Rattle.relation_rules.specs.Calls.{DeriveIs};
 ghost use Rattle.relations.specs.Names.{names_of};
-ghost use Rattle.derive.specs.Written.{Refusal, CountIs, Fitting, QuestionRoom, named_at, PutIs};
+ghost use Rattle.derive.specs.Written.{NotAsked, GrantsNone, Fitting, QuestionRoom, named_at, PutIs};
 
 use crate::names::{names_size, put_names};
 use layout::numbers::put_four;
@@ -15,30 +16,20 @@ use layout::strings::{put_bytes, put_run};
 use property_list::properties_ok;
 use question::{ask_of, question_ok};
 use relations::names::names_of;
-use rules::{Part, PlacedAnswer};
+use rules::{Part, PlacedAnswer, Refusal};
 
-fn refusal(number: u8, place: usize) -> PlacedAnswer
-    ensures { Refusal number place result }
-{
-    PlacedAnswer {
-        length: 0,
-        place: place as u64,
-        number,
-    }
-}
-
-// Where the count of a question's granted names stands, if the bytes are a question and it is 0; else 0.
-fn count_position(question: &[u8]) -> usize
-    ensures { CountIs question.now result }
+// Where the count of a question's granted names stands, if the bytes are a question and it is 0.
+fn count_position(question: &[u8]) -> Option<usize>
+    ensures { MatchOption result (NotAsked question.now) (GrantsNone question.now) }
 {
     if !question_ok(question) {
-        return 0;
+        return None;
     }
     let ask = ask_of(question);
     if ask.conditions != 0 {
-        return 0;
+        return None;
     }
-    ask.granted - 1
+    Some(ask.granted - 1)
 }
 
 // All but length and count stays as it was; the names, which take `size` bytes, go behind their count, which stands at `at`.
@@ -47,18 +38,17 @@ fn put_question(
     question: &[u8],
     at: usize,
     text: &[u8],
-    names: [Part; 32],
-    n: usize,
+    names: &[Part],
     size: usize,
 ) -> usize
-    requires fitting { Fitting question.now at text.now names n }
-    requires question_room { QuestionRoom out.old question.now text.now names n size }
-    ensures { PutsTo out.old 0 (named_at at (names_of text.now names n) question.now) out.new result }
+    requires fitting { Fitting question.now at text.now names.now }
+    requires question_room { QuestionRoom out.old question.now text.now names.now size }
+    ensures { PutsTo out.old 0 (named_at at (names_of text.now names.now) question.now) out.new result }
 {
     put_four(out, 0, (question.len() + size) as u32);
     let count = put_bytes(out, 4, &question[4..at]);
-    let first = put_run(out, count, n as u8, 1);
-    let end = put_names(out, first, text, names, n, question[4]);
+    let first = put_run(out, count, names.len() as u8, 1);
+    let end = put_names(out, first, text, names, question[4]);
     let rest = at + 1;
     put_bytes(out, end, &question[rest..])
 }
@@ -69,17 +59,16 @@ fn put_if_room(
     question: &[u8],
     at: usize,
     text: &[u8],
-    names: [Part; 32],
-    n: usize,
+    names: &[Part],
 ) -> PlacedAnswer
-    requires { Fitting question.now at text.now names n }
-    ensures { PutIs (named_at at (names_of text.now names n) question.now) out.old result out.new }
+    requires { Fitting question.now at text.now names.now }
+    ensures { PutIs (named_at at (names_of text.now names.now) question.now) out.old result out.new }
 {
-    let size = names_size(names, n, question[4]);
+    let size = names_size(names, question[4]);
     if out.len() < question.len() + size {
-        return refusal(7, 0);
+        return PlacedAnswer::refused(Refusal::ShortOutput, 0);
     }
-    let length = put_question(out, question, at, text, names, n, size);
+    let length = put_question(out, question, at, text, names, size);
     PlacedAnswer {
         length: length as u64,
         place: 0,
@@ -91,17 +80,14 @@ fn put_if_room(
 pub fn derive(question: &[u8], properties: &[u8], relation: &[u8], out: &mut [u8]) -> PlacedAnswer
     ensures { DeriveIs question.now properties.now relation.now out.old result out.new }
 {
-    let at = count_position(question);
-    if at < 1 {
-        return refusal(2, 0);
-    }
+    let Some(at) = count_position(question) else {
+        return PlacedAnswer::refused(Refusal::BrokenQuestion, 0);
+    };
     if !properties_ok(properties) {
-        return refusal(2, 0);
+        return PlacedAnswer::refused(Refusal::BrokenQuestion, 0);
     }
-    let derived = names_of(relation, properties);
-    if derived.number != 0 {
-        return refusal(derived.number, derived.place);
+    match names_of(relation, properties) {
+        Ok(names) => put_if_room(out, question, at, relation, names.parts()),
+        Err(stop) => PlacedAnswer::refused(stop.refusal, stop.at + 1),
     }
-    let names = derived.names;
-    put_if_room(out, question, at, relation, names, derived.count)
 }

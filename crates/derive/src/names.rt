@@ -3,8 +3,8 @@ ghost use Rattle.std.specs.Prelude.{◌≤◌};
 ghost use Rattle.layout.specs.Ensures.{Number, PutsTo};
 ghost use Rattle.relation_rules.specs.Derived.{name_in, names_in};
 ghost use Rattle.relations.specs.Assignments.{part_in};
-ghost use Rattle.relations.specs.Names.{names_of};
-ghost use Rattle.derive.specs.Written.{taken_by, PartIn, RoomFor, Few, Inside, SizeIs, NamesRoom};
+ghost use Rattle.relations.specs.Names.{PartIn, names_of};
+ghost use Rattle.derive.specs.Written.{taken_by, RoomFor, Few, Inside, SizeIs, NamesRoom};
 
 use layout::numbers::put_two;
 use layout::strings::{put_bytes, put_run};
@@ -21,16 +21,13 @@ fn name_size(size: usize, version: u8) -> usize
     size + 1
 }
 
-pub fn names_size(names: [Part; 32], n: usize, version: u8) -> usize
-    requires { Few names n }
-    ensures { SizeIs version names n result }
+pub fn names_size(names: &[Part], version: u8) -> usize
+    requires { Few names.now }
+    ensures { SizeIs version names.now result }
 {
     let mut size = 0;
-    let mut i = 0;
-    while i < n {
-        let name = names[i];
+    for name in names {
         size += name_size(name.size, version);
-        i += 1;
     }
     size
 }
@@ -51,24 +48,15 @@ fn put_name(out: &mut [u8], at: usize, text: &[u8], name: Part, version: u8) -> 
     end
 }
 
-pub fn put_names(
-    out: &mut [u8],
-    at: usize,
-    text: &[u8],
-    names: [Part; 32],
-    n: usize,
-    version: u8,
-) -> usize
-    requires few { Few names n }
-    requires inside { Inside text.now names n }
-    requires names_room { NamesRoom out.old at version text.now names n }
-    ensures { PutsTo out.old at (names_in version (names_of text.now names n)) out.new result }
+pub fn put_names(out: &mut [u8], at: usize, text: &[u8], names: &[Part], version: u8) -> usize
+    requires few { Few names.now }
+    requires inside { Inside text.now names.now }
+    requires names_room { NamesRoom out.old at version text.now names.now }
+    ensures { PutsTo out.old at (names_in version (names_of text.now names.now)) out.new result }
 {
     let mut end = at;
-    let mut i = 0;
-    while i < n {
-        end = put_name(out, end, text, names[i], version);
-        i += 1;
+    for name in names {
+        end = put_name(out, end, text, *name, version);
     }
     end
 }

@@ -2,6 +2,8 @@
 use Rattle.std.specs.Prelude.{ℕ, ◌≡◌, List, pos, length}
 use Rattle.rules.specs.Book.{Record}
 use Rattle.rules.specs.Question.{no_currency}
+use Rattle.rules.specs.Reasons.{number_for}
+use Rattle.rules.specs.declared.Refusal.{Refusal}
 use Rattle.rules.specs.PlacedRefusals.{ResultAt, ◌>>=◌}
 use Rattle.rules.specs.Price.{Answer, in_room}
 use Rattle.rules.specs.declared.PriceAnswer.{PriceAnswer}
@@ -9,6 +11,11 @@ use Rattle.price.specs.Answered.{answered_to}
 use Rattle.relation_rules.specs.Derived.{unplaced}
 use Rattle.relation_rules.specs.Calls.{shown_derived, lent_after_derived}
 use Rattle.relation_rules.specs.declared.DerivedAnswer.{DerivedAnswer}
+use Rattle.derived_price.specs.declared.Refused.{Refused}
+
+-- a reason without a place
+pub record Unplaced (x : Refusal) (r : Refused) : Type 0 where
+  pub is : r ≡ record { number = number_for x; place = 0 }
 
 -- zeros beside the number and the place of a refusal
 abbrev pub refused_by : ℕ → ℕ → DerivedAnswer

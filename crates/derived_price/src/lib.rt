@@ -2,16 +2,18 @@
 // the question's article is what it has for the question with the names.
 #![tactic(auto)]
 
+ghost use Rattle.std.specs.Prelude.{MatchResult};
+ghost use Rattle.rules.specs.Reasons.{number_for};
 ghost use Rattle.layout.specs.Records.{records_left};
 ghost use Rattle.price.specs.Answered.{Ready};
 ghost use Rattle.relation_rules.specs.Calls.{DerivedIs};
-ghost use Rattle.derived_price.specs.Price.{RefusalIs, PlainIs, PricedIs};
+ghost use Rattle.derived_price.specs.Price.{Unplaced, refused_by, RefusalIs, without_place, PlainIs, PricedIs};
 
 use derive::derive;
 use layout::strings::put_bytes;
 use price::answered::answer_to;
 use relation_rules::DerivedAnswer;
-use rules::{LINE_SIZE, PriceAnswer};
+use rules::{LINE_SIZE, PriceAnswer, Refusal};
 use survey::Found;
 use survey::entrance::enter;
 
@@ -20,17 +22,35 @@ const QUESTION_SIZE: usize = 2_048;
 // The bytes of the most lines that a price has.
 const LINES_SIZE: usize = 1_584;
 
-fn refusal(number: u8, place: u64) -> DerivedAnswer
-    ensures { RefusalIs number place result }
+// Why there is no price: the number of the refusal, and the place in the text that it has, or 0. The derivation hands out both as numbers.
+#[derive(Drop)]
+struct Refused {
+    number: u8,
+    place: u64,
+}
+
+impl From<Refusal> for Refused {
+    ghost from_gives = { Unplaced };
+
+    fn from(reason: Refusal) -> Refused {
+        Refused {
+            number: u8::from(reason),
+            place: 0,
+        }
+    }
+}
+
+fn refusal(refused: Refused) -> DerivedAnswer
+    ensures { RefusalIs refused.number refused.place result }
 {
     DerivedAnswer {
         unit: 0,
         total: 0,
         lines: 0,
-        place,
+        place: refused.place,
         unused: 0,
         unused_count: 0,
-        number,
+        number: refused.number,
         currency: [0, 0, 0],
     }
 }
@@ -52,23 +72,55 @@ fn plain(answer: PriceAnswer) -> DerivedAnswer
     }
 }
 
-// The price of an accepted question by what was found for it: refusals 3 to 7. Its lines are kept here until it is known that there is room for them.
-fn priced(book: &[u8], question: &[u8], found: Found, lines: &mut [u8]) -> DerivedAnswer
+// The answer to an accepted question by what was found for it, refusals 3 to 6 or the price; 7 if its lines have no room. They are kept here until
+// that is known.
+fn priced(
+    book: &[u8],
+    question: &[u8],
+    found: Found,
+    lines: &mut [u8],
+) -> Result<PriceAnswer, Refusal>
     requires { Ready book.now question.now found }
-    ensures { PricedIs (records_left book.now 5) question.now lines.old result lines.new }
+    ensures { MatchResult result (λ a. PricedIs (records_left book.now 5) question.now lines.old (without_place a) lines.new)
+        (λ x. PricedIs (records_left book.now 5) question.now lines.old (refused_by (number_for x) 0) lines.new) }
 {
     let mut kept = [0u8; LINES_SIZE];
-    let told = answer_to(book, question, found, &mut kept, 0);
+    let told = answer_to(book, question, found, &mut kept, Some(0));
     let answer = told.answer;
     let size = LINE_SIZE * answer.lines as usize;
     if lines.len() < size {
-        return refusal(7, 0);
+        return Err(Refusal::ShortOutput);
     }
     put_bytes(lines, 0, &kept[..size]);
-    plain(answer)
+    Ok(answer)
 }
 
 // No byte is written before every refusal is tested.
+fn derived(
+    book: &[u8],
+    question: &[u8],
+    properties: &[u8],
+    relation: &[u8],
+    lines: &mut [u8],
+) -> Result<PriceAnswer, Refused>
+    ensures { MatchResult result (λ a. DerivedIs book.now question.now properties.now relation.now lines.old (without_place a) lines.new)
+        (λ x. DerivedIs book.now question.now properties.now relation.now lines.old (refused_by x.number x.place) lines.new) }
+{
+    let entered = enter(book, question)?;
+    let mut asked = [0u8; QUESTION_SIZE];
+    let written = derive(question, properties, relation, &mut asked);
+    if written.number != 0 {
+        return Err(Refused {
+            number: written.number,
+            place: written.place,
+        });
+    }
+    let n = written.length as usize;
+    let granting = &asked[..n];
+    let answer = priced(book, granting, entered.found, lines)?;
+    Ok(answer)
+}
+
 pub fn price_derived(
     book: &[u8],
     question: &[u8],
@@ -78,17 +130,8 @@ pub fn price_derived(
 ) -> DerivedAnswer
     ensures { DerivedIs book.now question.now properties.now relation.now lines.old result lines.new }
 {
-    let entered = enter(book, question);
-    if entered.number != 0 {
-        return refusal(entered.number, 0);
+    match derived(book, question, properties, relation, lines) {
+        Ok(answer) => plain(answer),
+        Err(refused) => refusal(refused),
     }
-    let mut asked = [0u8; QUESTION_SIZE];
-    let derived = derive(question, properties, relation, &mut asked);
-    if derived.number != 0 {
-        return refusal(derived.number, derived.place);
-    }
-    let found = entered.found;
-    let n = derived.length as usize;
-    let granting = &asked[..n];
-    priced(book, granting, found, lines)
 }

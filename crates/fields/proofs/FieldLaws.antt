@@ -1,102 +1,88 @@
 -- A cut at a byte, spaces, and a field of either kind.
-use Prim.Native.Nat.{ℕ, ◌+◌, ◌-◌, ◌≤◌, ◌<◌}
-use mathlib.Core.Path.{◌≡◌, refl, sym, ◌∙◌, ap, subst}
+use Prim.Native.Nat.{ℕ, suc, ◌+◌, ◌-◌, ◌≤◌, ◌<◌}
+use mathlib.Core.Path.{◌≡◌, refl, sym, ◌∙◌, ap, ap₂, subst}
 use mathlib.Core.Logic.{inl, inr}
-use mathlib.Core.Bool.{true, false, ◌&&◌, ◌||◌, cond}
-use mathlib.Core.List.{List, [], ◌∷◌, ◌++◌, append-nil, append_assoc}
-use mathlib.Core.Option.{Option, some, none}
+use mathlib.Core.Bool.{Bool, true, false, not, ◌||◌, cond}
+use mathlib.Core.List.{List, [], ◌∷◌}
+use mathlib.Core.Option.{Option, some}
 use native.Mathlib.Omega.{arith}
-use lib.ListN.{length, drop, get_or, drop_of_length-le}
-use borrow.Author.Tests.{eq-eqb, ne_eqb, lt-ltb, le-ltb}
+use lib.Dec.{eqb}
+use lib.ListN.{length, take, drop, get_or, drop_of_length-le, length-drop}
+use Rattle.std.specs.Option.{MatchOption}
+use Rattle.std.specs.declared.option.Option.{Option as Found}
+use Rattle.std.specs.List.{prefix_len}
+use Rattle.std.specs.Prelude.{◌==◌, Some, None}
+use Rattle.std.proofs.lemmas.List.Sums.{prefix_len-le-length}
+use lib.Seq.{drop-drop}
+use borrow.Author.Tests.{eq-eqb, ne_eqb, eqb-true, eqb-false, lt-ltb, le-ltb}
 use Rattle.rules.specs.Lists.{all, if_some}
 use Rattle.rules.specs.Bytes.{name_byte}
-use Rattle.file_rules.specs.Fields.{semicolon, quote, starts_with, cut, inside, past_spaces, spaced, field_by, field, next_field}
+use Rattle.file_rules.specs.Fields.{semicolon, quote, starts_with, onto, cut, inside, past_spaces, spaced, field_by, field, next_field}
 use Rattle.file_rules.proofs.FieldLaws.{cut_on, cut_at, past_on, past_at}
 use Rattle.layout.proofs.PartLaws.{part_length}
-use Rattle.layout.specs.Reads.{only, part}
-use Rattle.layout.proofs.LayoutLaws.{then_reads, then_broken, one_of_at, one_of_cut, reads_as}
+use Rattle.layout.specs.Reads.{part}
+use Rattle.layout.proofs.LayoutLaws.{part_is, then_broken, then_rest, one_of_at, one_of_cut}
 use Rattle.fields.specs.declared.field.Field.{Field}
 use Rattle.fields.specs.declared.field.Closed.{Closed}
-use Rattle.fields.specs.Field.{Stands, Closing, CutAt, PastSpaces, Bare, Opened, inside_text, no_field, NoField, text_of, TextIs, FieldIs, NextIs}
-use Rattle.fields.proofs.PartLaws.{next_byte, part_none, part_more}
+use Rattle.fields.specs.Given.{GivesNone}
+use Rattle.fields.specs.Field.{Stands, Closing, CutAt, PastSpaces, Bare, Opened, inside_text, text_of, FieldIs, NextIs}
+use Rattle.fields.proofs.PartLaws.{next_byte, rest_is}
 
--- ---- up to a byte
+-- ---- up to a byte, and behind spaces
 
-abbrev put : List ℕ → List ℕ × List ℕ → List ℕ × List ℕ
-put v p = (v ++ p.0, p.1)
+abbrev other : ℕ → ℕ → Bool
+other c b = not (b == c)
 
-pub record CutTo (c : ℕ) (s : List ℕ) (at i : ℕ) : Type 0 where
-  pub is : cut c (drop at s) ≡ put (part s at i) (cut c (drop i s))
-  pub low : at ≤ i
-  pub fits : i ≤ length s
+abbrev split : ℕ → List ℕ → List ℕ × List ℕ
+split n s = (take n s, drop n s)
 
-module _ {c : ℕ} {s : List ℕ} {at : ℕ} where
-  pub cut_start : at ≤ length s → CutTo c s at at
-  cut_start h = record { is = sym (ap (λ (t : List ℕ). put t (cut c (drop at s))) (part_none s at)); low = omega arith; fits = h }
+cut_first : (c : ℕ) (s : List ℕ) → cut c s ≡ split (prefix_len (other c) s) s
+unfolding cut
+cut_first c [] = refl
+cut_first c (b ∷ s) = by (eqb c b) refl (cut_first c s)
+  where
+    by : (t : Bool) → eqb c b ≡ t → cut c s ≡ split (prefix_len (other c) s) s → cut c (b ∷ s) ≡ split (prefix_len (other c) (b ∷ s)) (b ∷ s)
+    by true e i =
+        cut_at c b s e ∙ sym (ap (λ (t : Bool). split (cond (not t) (1 + prefix_len (other c) s) 0) (b ∷ s)) (eq-eqb b c (sym (eqb-true c b e))))
+    by false e i =
+        let k : suc (prefix_len (other c) s) ≡ 1 + prefix_len (other c) s = omega arith in
+        cut_on c b s e ∙ (ap (onto b) i ∙ (ap (λ (n : ℕ). split n (b ∷ s)) k
+        ∙ sym (ap (λ (t : Bool). split (cond (not t) (1 + prefix_len (other c) s) 0) (b ∷ s)) (ne_eqb b c (λ f. eqb-false c b e (sym f))))))
 
-  module _ {i : ℕ} (p : CutTo c s at i) where
-    pub cut_again : i < length s → (get_or s i 0 ≡ c → ⊥) → CutTo c s at (i + 1)
-    cut_again l n =
-        let t : List ℕ = part s at i in
-        let b : ℕ = get_or s i 0 in
-        let d : List ℕ × List ℕ = cut c (drop (i + 1) s) in
-        record {
-          is = p.is ∙ (ap (λ u. put t (cut c u)) (next_byte s i l) ∙ (ap (put t) (cut_on c b (drop (i + 1) s) (ne_eqb c b (λ e. n (sym e))))
-              ∙ (ap (λ (u : List ℕ). (u, d.1)) (sym (append_assoc t (b ∷ []) d.0))
-              ∙ ap (λ (u : List ℕ). put u d) (sym (part_more s at i p.low l)))));
-          low = omega (arith, p.low);
-          fits = omega arith;
-        }
+spaces_first : (s : List ℕ) → past_spaces s ≡ drop (prefix_len (λ b. b == 32) s) s
+unfolding past_spaces
+spaces_first [] = refl
+spaces_first (b ∷ s) = by (eqb b 32) refl (spaces_first s)
+  where
+    by : (t : Bool) → eqb b 32 ≡ t → past_spaces s ≡ drop (prefix_len (λ b. b == 32) s) s
+        → past_spaces (b ∷ s) ≡ drop (prefix_len (λ b. b == 32) (b ∷ s)) (b ∷ s)
+    by true e i =
+        let k : suc (prefix_len (λ b. b == 32) s) ≡ 1 + prefix_len (λ b. b == 32) s = omega arith in
+        past_on b s e ∙ (i ∙ (ap (λ (n : ℕ). drop n (b ∷ s)) k ∙ sym (ap (λ (t : Bool). drop (cond t (1 + prefix_len (λ b. b == 32) s) 0) (b ∷ s)) e)))
+    by false e i = past_at b s e ∙ sym (ap (λ (t : Bool). drop (cond t (1 + prefix_len (λ b. b == 32) s) 0) (b ∷ s)) e)
 
-    ends : cut c (drop i s) ≡ ([], drop i s) → CutAt c s at i
-    ends e =
-        record {
-          is = p.is
-              ∙ (ap (put (part s at i)) e ∙ ap (λ (u : List ℕ). (u, drop i s)) (append-nil (part s at i)));
-          low = p.low;
-          fits = p.fits;
-        }
+module _ (s : List ℕ) (at : ℕ) (h : at ≤ length s) where
+  prefix_rest : (p : ℕ → Bool) {n : ℕ} → n ≡ prefix_len p (take (length s - at) (drop at s))
+      → (n ≡ prefix_len p (drop at s)) × (at + n ≤ length s)
+  prefix_rest p {n = n} e =
+      let f : n ≡ prefix_len p (drop at s) = e ∙ ap (prefix_len p) (rest_is at s) in
+      (f, omega (arith, prefix_len-le-length p (drop at s), length-drop at s))
 
-    pub cut_here : i < length s → get_or s i 0 ≡ c → CutAt c s at i
-    cut_here l e =
-        ends (ap (cut c) (next_byte s i l)
-        ∙ (cut_at c (get_or s i 0) (drop (i + 1) s) (eq-eqb c (get_or s i 0) (sym e)) ∙ ap (λ (u : List ℕ). ([], u)) (sym (next_byte s i l))))
+  pub cut_is : (c : ℕ) {n : ℕ} → n ≡ prefix_len (other c) (take (length s - at) (drop at s)) → CutAt c s at (at + n)
+  cut_is c {n = n} e =
+      let x = prefix_rest (other c) e in
+      record {
+        is =
+            cut_first c (drop at s)
+            ∙ (ap (λ (k : ℕ). split k (drop at s)) (sym x.0) ∙ ap₂ (λ (x y : List ℕ). (x, y)) (sym (part_is s at n)) (drop-drop n at s));
+        low = omega arith;
+        fits = x.1;
+      }
 
-    pub cut_last : length s ≤ i → CutAt c s at i
-    unfolding cut
-    cut_last g = ends (ap (cut c) (drop_of_length-le s {i = i} g) ∙ ap (λ (u : List ℕ). ([], u)) (sym (drop_of_length-le s {i = i} g)))
-
--- ---- spaces
-
-pub record SpacesTo (s : List ℕ) (at i : ℕ) : Type 0 where
-  pub is : past_spaces (drop at s) ≡ past_spaces (drop i s)
-  pub fits : i ≤ length s
-
-module _ {s : List ℕ} {at : ℕ} where
-  pub spaces_start : at ≤ length s → SpacesTo s at at
-  spaces_start h = record { is = refl; fits = h }
-
-  module _ {i : ℕ} (p : SpacesTo s at i) where
-    pub spaces_on : i < length s → get_or s i 0 ≡ 32 → SpacesTo s at (i + 1)
-    spaces_on l e =
-        record {
-          is = p.is
-              ∙ (ap past_spaces (next_byte s i l) ∙ past_on (get_or s i 0) (drop (i + 1) s) (eq-eqb (get_or s i 0) 32 e));
-          fits = omega arith;
-        }
-
-    pub spaces_here : i < length s → (get_or s i 0 ≡ 32 → ⊥) → PastSpaces s at i
-    spaces_here l n =
-        record {
-          is = p.is
-              ∙ (ap past_spaces (next_byte s i l)
-              ∙ (past_at (get_or s i 0) (drop (i + 1) s) (ne_eqb (get_or s i 0) 32 n) ∙ sym (next_byte s i l)));
-          fits = p.fits;
-        }
-
-    pub spaces_last : length s ≤ i → PastSpaces s at i
-    unfolding past_spaces
-    spaces_last g = record { is = p.is ∙ (ap past_spaces (drop_of_length-le s {i = i} g) ∙ sym (drop_of_length-le s {i = i} g)); fits = p.fits }
+  pub spaces_are : {n : ℕ} → n ≡ prefix_len (λ b. b == 32) (take (length s - at) (drop at s)) → PastSpaces s at (at + n)
+  spaces_are {n = n} e =
+      let x = prefix_rest (λ b. b == 32) e in
+      record { is = spaces_first (drop at s) ∙ (ap (λ (k : ℕ). drop k (drop at s)) (sym x.0) ∙ drop-drop n at s); fits = x.1 }
 
 -- ---- which kind a field is of
 
@@ -110,51 +96,32 @@ module _ {s : List ℕ} {at : ℕ} where
   pub opened_here : at < length s → get_or s at 0 ≡ 34 → Opened s at
   opened_here h e = record { fits = h; quoted = e }
 
--- ---- a field that is none
+-- ---- a field behind a semicolon
 
 module _ (s : List ℕ) (at : ℕ) where
-  empty_text : text_of s (no_field at) ≡ []
-  unfolding text_of
-  empty_text = ap (λ b. cond b (inside_text (drop at s)) (part s at at)) (le-ltb 0 (at - at) (omega arith)) ∙ part_none s at
-
-module _ {s : List ℕ} {at : ℕ} where
-  none_text : at ≤ length s → TextIs s (no_field at)
-  none_text h = record {
-    low = omega arith;
-    fits = h;
-    next_fits = h;
-    count = ap length (empty_text s at);
-    names = ap (all name_byte) (empty_text s at ∙ sym (part_none s at));
-    stands = inl (empty_text s at ∙ sym (part_none s at));
-    closes = λ l. absurd (omega arith);
-  }
-
-  none_next : {f : Field} → NoField at f → at ≤ length s → next_field (drop at s) ≡ none → NextIs s at f
-  none_next p h e = subst (NextIs s at) (sym p.is) (record { reads = record { is = e }; text = none_text h })
-
-  pub next_end : {f : Field} → NoField at f → at ≤ length s → length s ≤ at → NextIs s at f
+  pub next_end : length s ≤ at → GivesNone (next_field (drop at s))
   unfolding next_field
-  next_end p h g = none_next p h (then_broken _ _ (one_of_cut s at (semicolon ∷ []) g) refl)
+  next_end g = record { is = then_broken _ _ (one_of_cut s at (semicolon ∷ []) g) refl }
 
-  pub next_other : {f : Field} → NoField at f → at < length s → (get_or s at 0 ≡ 59 → ⊥) → NextIs s at f
+  pub next_other : at < length s → (get_or s at 0 ≡ 59 → ⊥) → GivesNone (next_field (drop at s))
   unfolding next_field
-  next_other p h n =
-      none_next p (omega arith) (then_broken _ _ (one_of_at s at (semicolon ∷ []) h) (ap (λ b. b || false) (ne_eqb (get_or s at 0) 59 n)))
+  next_other h n =
+      record { is = then_broken _ _ (one_of_at s at (semicolon ∷ []) h) (ap (λ b. b || false) (ne_eqb (get_or s at 0) 59 n)) }
 
-  pub next_is : {f : Field} → at < length s → get_or s at 0 ≡ 59 → FieldIs s (at + 1) f → NextIs s at f
+  behind : at < length s → get_or s at 0 ≡ 59 → next_field (drop at s) ≡ field (drop (at + 1) s)
   unfolding next_field
-  next_is {f} h e p =
-      record {
-        reads = reads_as (then_reads _ _ (one_of_at s at (semicolon ∷ []) h) p.reads)
-            (ap (λ b. (b || false) && f.good) (eq-eqb (get_or s at 0) 59 e)) refl;
-        text = p.text;
-      }
+  behind h e = then_rest _ _ (one_of_at s at (semicolon ∷ []) h) (ap (λ b. b || false) (eq-eqb (get_or s at 0) 59 e))
+
+  pub next_by : at < length s → get_or s at 0 ≡ 59 → (r : Found Field)
+      → MatchOption r (GivesNone (field (drop (at + 1) s))) (FieldIs s (at + 1)) → MatchOption r (GivesNone (next_field (drop at s))) (NextIs s at)
+  next_by h e None p = record { is = behind h e ∙ p.is }
+  next_by h e (Some f) p = record { reads = record { is = behind h e ∙ p.reads.is }; text = p.text }
 
 -- ---- a field without quotes around it
 
 module _ {s : List ℕ} {at to : ℕ} (k : Bare s at) (p : CutAt semicolon s at to) where
   abbrev bare : Field
-  bare = record { from = at; to = to; count = to - at; next = to; good = true }
+  bare = record { from = at; to = to; count = to - at; next = to }
 
   bare_text : text_of s bare ≡ part s at to
   unfolding text_of
@@ -183,29 +150,19 @@ opened_field s at o =
     ap (λ u. field_by (starts_with quote u) u) (next_byte s at o.fits)
     ∙ ap (λ b. field_by b (get_or s at 0 ∷ drop (at + 1) s)) (eq-eqb (get_or s at 0) 34 o.quoted)
 
+pub quoted_open : {s : List ℕ} {at : ℕ} → Opened s at → GivesNone (inside (drop (at + 1) s)) → GivesNone (field (drop at s))
+quoted_open {s} {at} o p = record { is = opened_field s at o ∙ ap spaced p.is }
+
 module _ {s : List ℕ} {at : ℕ} (o : Opened s at) {c : Closed} (p : Closing s (at + 1) c) where
-  pub quoted_open : {f : Field} → c.good ≡ false → NoField at f → FieldIs s at f
-  quoted_open e n =
-      subst (FieldIs s at) (sym n.is) (record {
-        reads = record {
-          is = opened_field s at o
-              ∙ ap spaced (p.is ∙ ap (λ b. only b (p.text, drop (c.to + 1) s)) e);
-        };
-        text = none_text (omega (arith, o.fits));
-      })
+  pub behind_closed : c.to + 1 ≤ length s
+  behind_closed = omega (arith, p.within)
 
-  pub behind_closed : c.good ≡ true → c.to + 1 ≤ length s
-  behind_closed e = omega (arith, p.within e)
-
-  module _ (e : c.good ≡ true) {next : ℕ} (q : PastSpaces s (c.to + 1) next) where
+  module _ {next : ℕ} (q : PastSpaces s (c.to + 1) next) where
     abbrev quoted : Field
-    quoted = record { from = at + 1; to = c.to; count = c.count; next = next; good = true }
-
-    inner : inside (drop (at + 1) s) ≡ some (p.text, drop (c.to + 1) s)
-    inner = p.is ∙ ap (λ b. only b (p.text, drop (c.to + 1) s)) e
+    quoted = record { from = at + 1; to = c.to; count = c.count; next = next }
 
     long : length (part s (at + 1) c.to) ≡ c.to - (at + 1)
-    long = part_length s (at + 1) c.to p.fits
+    long = part_length s (at + 1) c.to (omega (arith, p.within))
 
     quoted_text : text_of s quoted ≡ p.text
     unfolding text_of
@@ -218,22 +175,22 @@ module _ {s : List ℕ} {at : ℕ} (o : Opened s at) {c : Closed} (p : Closing s
         by (inr d) =
             ap (λ b. cond b (inside_text (drop (at + 1) s)) (part s (at + 1) c.to))
             (lt-ltb c.count (c.to - (at + 1)) (omega (arith, d.shorter, p.count, long)))
-            ∙ ap (λ (r : Option (List ℕ × List ℕ)). if_some r [] (λ x. x.0)) inner
+            ∙ ap (λ (r : Option (List ℕ × List ℕ)). if_some r [] (λ x. x.0)) p.is
 
     pub quoted_is : FieldIs s at quoted
     quoted_is = record {
       reads =
           record {
             is = opened_field s at o
-                ∙ (ap spaced inner ∙ (ap (λ (u : List ℕ). some (p.text, u)) q.is ∙ sym (ap (λ (t : List ℕ). some (t, drop next s)) quoted_text)));
+                ∙ (ap spaced p.is ∙ (ap (λ (u : List ℕ). some (p.text, u)) q.is ∙ sym (ap (λ (t : List ℕ). some (t, drop next s)) quoted_text)));
           };
       text = record {
         low = p.low;
-        fits = p.fits;
+        fits = omega (arith, p.within);
         next_fits = q.fits;
         count = ap length quoted_text ∙ p.count;
         names = ap (all name_byte) quoted_text ∙ p.names;
         stands = subst (λ (t : List ℕ). Stands t (part s (at + 1) c.to)) (sym quoted_text) p.stands;
-        closes = λ l. (drop (c.to + 1) s, inner ∙ sym (ap (λ (t : List ℕ). some (t, drop (c.to + 1) s)) quoted_text));
+        closes = λ l. (drop (c.to + 1) s, p.is ∙ sym (ap (λ (t : List ℕ). some (t, drop (c.to + 1) s)) quoted_text));
       };
     }

@@ -1,3 +1,4 @@
+pub mod GivenLaws
 pub mod PartLaws
 pub mod QuoteLaws
 pub mod FieldLaws

@@ -1,11 +1,12 @@
 -- Blank lines and remarks.
-use Prim.Native.Nat.{ℕ, ◌+◌, ◌≤◌, ◌<◌}
+use Prim.Native.Nat.{ℕ, ◌+◌, ◌<◌}
 use mathlib.Core.Path.{◌≡◌, refl, sym, ◌∙◌, ap}
 use mathlib.Core.Bool.{Bool, true, false, ◌&&◌, ◌||◌}
 use mathlib.Core.List.{List, [], ◌∷◌}
-use native.Mathlib.Omega.{arith}
 use lib.Dec.{eqb}
-use lib.ListN.{length, drop, get_or, drop_of_length-le}
+use lib.ListN.{length, drop, get_or}
+use Rattle.std.specs.List.{list_all}
+use Rattle.rules.specs.Lists.{all}
 use Rattle.file_rules.specs.Fields.{is_blank, is_remark, cut, lines_of, onto_first}
 use Rattle.file_rules.proofs.PriceFileLaws.{lines_on, lines_end}
 use Rattle.file_rules.proofs.FieldLaws.{cut_on, cut_at}
@@ -16,48 +17,18 @@ use Rattle.layout.specs.Reads.{part}
 use lib.Seq.{drop-drop}
 use borrow.Author.Tests.{eq-eqb, ne_eqb, eqb-true, eqb-false}
 
--- what is left decides whether the line is blank
-pub record BlankTo (s : List ℕ) (i : ℕ) : Type 0 where
-  pub is : is_blank s ≡ is_blank (drop i s)
-  pub fits : i ≤ length s
+all_is : (p : ℕ → Bool) (s : List ℕ) → list_all p s ≡ all p s
+all_is p [] = refl
+all_is p (b ∷ s) = ap (λ (t : Bool). p b && t) (all_is p s)
 
-module _ {s : List ℕ} where
-  pub blank_start : BlankTo s 0
-  blank_start = record { is = refl; fits = omega arith }
+abbrev pub blank : ℕ → Bool
+blank b = eqb b 32 || eqb b 9
 
-  module _ {i : ℕ} (p : BlankTo s i) where
-    abbrev is_space : ℕ → Bool
-    is_space b = eqb b 32 || eqb b 9
+pub blank_is : (s : List ℕ) {r : Bool} → r ≡ list_all blank s → Says (is_blank s) r
+blank_is s e = record { is = sym (e ∙ all_is blank s) }
 
-    first_of : i < length s → is_blank s ≡ (is_space (get_or s i 0) && is_blank (drop (i + 1) s))
-    first_of l = p.is ∙ ap is_blank (next_byte s i l)
-
-    pub blank_on : i < length s → is_space (get_or s i 0) ≡ true → BlankTo s (i + 1)
-    blank_on l e = record { is = first_of l ∙ ap (λ b. b && is_blank (drop (i + 1) s)) e; fits = omega arith }
-
-    pub blank_not : i < length s → is_space (get_or s i 0) ≡ false → Says (is_blank s) false
-    blank_not l e = record { is = first_of l ∙ ap (λ b. b && is_blank (drop (i + 1) s)) e }
-
-    pub blank_end : length s ≤ i → Says (is_blank s) true
-    blank_end g = record { is = p.is ∙ ap is_blank (drop_of_length-le s {i = i} g) }
-
-module _ (s : List ℕ) where
-  pub remark_empty : length s < 1 → Says (is_remark s) false
-  remark_empty h = record { is = go s h }
-    where
-      go : (s : List ℕ) → length s < 1 → is_remark s ≡ false
-      go [] h = refl
-      go (b ∷ s) h = absurd (omega arith)
-
-  pub remark_is : 1 ≤ length s → Says (is_remark s) (eqb (get_or s 0 0) 35)
-  remark_is h = record { is = go s h }
-    where
-      go : (s : List ℕ) → 1 ≤ length s → is_remark s ≡ eqb (get_or s 0 0) 35
-      go [] h = absurd (omega arith)
-      go (b ∷ s) h = refl
-
-  pub nothing_is : {a b : Bool} → Says (is_blank s) a → Says (is_remark s) b → Says (is_blank s || is_remark s) (a || b)
-  nothing_is {a} p q = record { is = ap (λ t. t || is_remark s) p.is ∙ ap (λ t. a || t) q.is }
+pub nothing_is : (s : List ℕ) {a b : Bool} → Says (is_blank s) a → Says (is_remark s) b → Says (is_blank s || is_remark s) (a || b)
+nothing_is s {a} p q = record { is = ap (λ t. t || is_remark s) p.is ∙ ap (λ t. a || t) q.is }
 
 -- ---- where a line ends
 

@@ -2,7 +2,7 @@
 use Prim.Native.Nat.{ℕ, suc, ◌+◌, ◌-◌, ◌≤◌, ◌<◌}
 use mathlib.Core.Path.{◌≡◌, refl, sym, ◌∙◌, ap, subst}
 use mathlib.Core.Logic.{inl}
-use mathlib.Core.Bool.{Bool, true, false, ◌&&◌, false≢true}
+use mathlib.Core.Bool.{Bool, true, false, ◌&&◌}
 use mathlib.Core.List.{List, [], ◌∷◌, ◌++◌, append-nil}
 use mathlib.Core.Option.{Option, some, none}
 use native.Mathlib.Omega.{arith}
@@ -16,6 +16,7 @@ use Rattle.file_rules.specs.Fields.{inside, starts_with, quote}
 use Rattle.rules.proofs.ListLaws.{all_append}
 use Rattle.file_rules.proofs.FieldLaws.{inside_other, inside_two, inside_last}
 use Rattle.layout.specs.Reads.{part}
+use Rattle.fields.specs.Given.{GivesNone}
 use Rattle.fields.specs.Field.{Closing, Stands}
 use Rattle.fields.proofs.PartLaws.{next_byte, part_none, part_more, part_two, stands_more, stands_pair}
 
@@ -110,7 +111,7 @@ module _ {s : List ℕ} {at : ℕ} where
           stands = subst (Stands (p.text ++ (quote ∷ []))) (sym two) (stands_pair p.stands);
         }
 
-    closes : i < length s → get_or s i 0 ≡ 34 → starts_with quote (drop (i + 1) s) ≡ false → Closing s at (record { to = i; count = n; good = true })
+    closes : i < length s → get_or s i 0 ≡ 34 → starts_with quote (drop (i + 1) s) ≡ false → Closing s at (record { to = i; count = n })
     closes l e f = record {
       text = p.text;
       is =
@@ -119,29 +120,19 @@ module _ {s : List ℕ} {at : ℕ} where
           ∙ (ap (ahead p.text) (inside_last (get_or s i 0) (drop (i + 1) s) (eq-eqb (get_or s i 0) 34 e) f)
           ∙ (ahead_some p.text [] (drop (i + 1) s) ∙ ap (λ (t : List ℕ). some (t, drop (i + 1) s)) (append-nil p.text))));
       low = p.low;
-      fits = p.fits;
-      within = λ _. l;
+      within = l;
       count = p.count;
       names = p.names;
       stands = p.stands;
     }
 
-    pub closes_last : i < length s → get_or s i 0 ≡ 34 → length s - i < 2 → Closing s at (record { to = i; count = n; good = true })
+    pub closes_last : i < length s → get_or s i 0 ≡ 34 → length s - i < 2 → Closing s at (record { to = i; count = n })
     closes_last l e g = closes l e (ap (starts_with quote) (drop_of_length-le s {i = i + 1} (omega arith)))
 
     pub closes_here : i < length s → get_or s i 0 ≡ 34 → 2 ≤ length s - i → (get_or s (i + 1) 0 ≡ 34 → ⊥)
-        → Closing s at (record { to = i; count = n; good = true })
+        → Closing s at (record { to = i; count = n })
     closes_here l e g k = closes l e (ap (starts_with quote) (second g) ∙ ne_eqb (get_or s (i + 1) 0) 34 k)
 
-    pub never_closes : length s ≤ i → Closing s at (record { to = at; count = 0; good = false })
+    pub never_closes : length s ≤ i → GivesNone (inside (drop at s))
     unfolding inside
-    never_closes g = record {
-      text = [];
-      is = p.is ∙ (ap (λ u. ahead p.text (inside u)) (drop_of_length-le s g) ∙ ahead_none p.text);
-      low = omega arith;
-      fits = omega (arith, p.low, p.fits);
-      within = λ h. absurd (false≢true h);
-      count = refl;
-      names = sym (ap (all name_byte) (part_none s at));
-      stands = inl (sym (part_none s at));
-    }
+    never_closes g = record { is = p.is ∙ (ap (λ u. ahead p.text (inside u)) (drop_of_length-le s g) ∙ ahead_none p.text) }

@@ -4,7 +4,7 @@ use Rattle.std.proofs.Math.Option.{some}
 use Rattle.rules.specs.Lists.{all, any, keep, if_some}
 use Rattle.rules.specs.Bytes.{name_byte}
 use Rattle.file_rules.specs.Fields.{quote, starts_with, inside, cut, past_spaces, field, next_field}
-use Rattle.layout.specs.Reads.{Reads, only, part}
+use Rattle.layout.specs.Reads.{Reads, part}
 use Rattle.fields.specs.declared.field.Field.{Field}
 use Rattle.fields.specs.declared.field.Closed.{Closed}
 
@@ -24,10 +24,9 @@ Stands text bytes = (text ≡ bytes) ⊎ Doubled text bytes
 -- the quoted field that goes on at `at`, and its closing quote
 pub record Closing (line : List ℕ) (at : ℕ) (r : Closed) : Type 0 where
   pub text : List ℕ
-  pub is : inside (drop at line) ≡ only r.good (text, drop (r.to + 1) line)
+  pub is : inside (drop at line) ≡ some (text, drop (r.to + 1) line)
   pub low : at ≤ r.to
-  pub fits : r.to ≤ length line
-  pub within : r.good ≡ true → r.to < length line
+  pub within : r.to < length line
   pub count : length text ≡ r.count
   pub names : all name_byte text ≡ all name_byte (part line at r.to)
   pub stands : Stands text (part line at r.to)
@@ -56,13 +55,6 @@ pub record Opened (line : List ℕ) (at : ℕ) : Type 0 where
 abbrev pub inside_text : List ℕ → List ℕ
 inside_text s = if_some (inside s) [] (λ p. p.0)
 
--- none at all
-abbrev pub no_field : ℕ → Field
-no_field at = record { from = at; to = at; count = 0; next = at; good = false }
-
-pub record NoField (at : ℕ) (f : Field) : Type 0 where
-  pub is : f ≡ no_field at
-
 -- its text
 unfoldable pub text_of : List ℕ → Field → List ℕ
 text_of line f = cond (ltb f.count (f.to - f.from)) (inside_text (drop f.from line)) (part line f.from f.to)
@@ -79,9 +71,9 @@ pub record TextIs (line : List ℕ) (f : Field) : Type 0 where
 
 -- the field that starts at `at`, and the one behind the semicolon at `at`
 pub record FieldIs (line : List ℕ) (at : ℕ) (f : Field) : Type 0 where
-  pub reads : Reads field line at f.good (text_of line f) f.next
+  pub reads : Reads field line at true (text_of line f) f.next
   pub text : TextIs line f
 
 pub record NextIs (line : List ℕ) (at : ℕ) (f : Field) : Type 0 where
-  pub reads : Reads next_field line at f.good (text_of line f) f.next
+  pub reads : Reads next_field line at true (text_of line f) f.next
   pub text : TextIs line f

@@ -22,12 +22,10 @@ fn put_inner(out: &mut [u8], at: usize, line: &[u8], from: usize, count: usize) 
     ensures { PutsInner out.old at line.now from out.new result }
 {
     let mut i = from;
-    let mut n = 0;
-    while n < count {
+    for n in 0..count {
         let byte = line[i];
         out[at + n] = byte;
         i += step_over(byte);
-        n += 1;
     }
     at + count
 }
@@ -68,15 +66,13 @@ fn same_from(line: &[u8], f: Field, other: &[u8], g: Field) -> bool
 {
     let mut i = f.from;
     let mut j = g.from;
-    let mut n = 0;
     let mut ok = true;
-    while n < f.count {
+    for _n in 0..f.count {
         let a = line[i];
         let b = other[j];
         ok = ok & (a == b);
         i += step_in(f, a);
         j += step_in(g, b);
-        n += 1;
     }
     ok
 }

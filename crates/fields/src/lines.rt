@@ -6,24 +6,13 @@ ghost use Rattle.layout.specs.Ensures.{Says};
 fn is_blank(line: &[u8]) -> bool
     ensures { Says (is_blank line.now) result }
 {
-    let mut i = 0;
-    while i < line.len() {
-        if (line[i] == b' ') | (line[i] == b'\t') {
-            i += 1;
-        } else {
-            return false;
-        }
-    }
-    true
+    line.iter().all(|b| (*b == b' ') | (*b == b'\t'))
 }
 
 fn is_remark(line: &[u8]) -> bool
     ensures { Says (is_remark line.now) result }
 {
-    if line.len() < 1 {
-        return false;
-    }
-    line[0] == b'#'
+    line.starts_with(b"#")
 }
 
 pub fn brings_nothing(line: &[u8]) -> bool

@@ -1,28 +1,34 @@
 -- Amounts: whole ones, a point and decimals, of which all behind the second are 0.
 use Prim.Native.Nat.{ℕ, zero, suc, ◌+◌, ◌*◌, ◌-◌, ◌≤◌, ◌<◌}
-use mathlib.Core.Path.{◌≡◌, refl, sym, ◌∙◌, ap}
-use mathlib.Core.Bool.{Bool, true, false, ◌&&◌}
+use mathlib.Core.Path.{◌≡◌, refl, sym, ◌∙◌, ap, ap₂}
+use mathlib.Core.Bool.{Bool, true, false, ◌&&◌, cond}
 use mathlib.Core.List.{List, [], ◌∷◌, ◌++◌}
-use mathlib.Core.Option.{Option, some, none, none-ne-some, some-injective}
+use mathlib.Core.Option.{Option, some, none}
 use native.Mathlib.Omega.{arith}
+use mir.Val.{bool_byte}
 use lib.Dec.{eqb, leb}
+use lib.IntN.{pos}
 use lib.ListN.{length, take, drop, get_or, drop_of_length-le, length-append, length-drop}
 use lib.Seq.{drop-drop}
-use borrow.Author.Tests.{le-leb, lt-leb, leb-false, eq-eqb, ne_eqb, eqb-true}
+use borrow.Author.Tests.{le-leb, lt-leb, leb-false, eq-eqb, ne_eqb, eqb-true, eqb-false}
 use Rattle.rules.specs.Lists.{all, if_some}
 use Rattle.rules.specs.Bytes.{either_side}
 use Rattle.file_rules.specs.Fields.{starts_with}
-use Rattle.file_rules.specs.Decimals.{is_digit, tens_from, tens, cents_of, cents_in, value_by, value_in}
+use Rattle.file_rules.specs.Decimals.{is_digit, tens_from, tens, cents_of, cents_in, minus, value_by, value_in}
 use Rattle.rules.proofs.ListLaws.{all_append}
 use Rattle.rules.proofs.TestLaws.{and_false}
 use Rattle.layout.proofs.PartLaws.{part_length}
 use Rattle.layout.specs.Reads.{only, when, part}
-use Rattle.layout.specs.Ensures.{Number, Says}
-use Rattle.figures.specs.declared.Amount.{Amount}
+use Rattle.layout.specs.Ensures.{Says}
+use Rattle.std.specs.List.{list_all}
+use Rattle.std.specs.Prelude.{◌==◌}
+use Rattle.std.specs.declared.option.Option.{Option as Returned}
+use Rattle.fields.specs.Given.{Gives, GivesNone, Agrees}
 use Rattle.fields.specs.Field.{CutAt}
-use Rattle.figures.specs.Figures.{one_digit, up_to, tens_in, DigitsTo, OneByte, zeros_behind, PointAt, most_cents, CentsFrom, CentsIs, signed_by, AmountOf, near, AmountIs}
-use Rattle.fields.proofs.PartLaws.{next_byte, rest_is}
-use Rattle.figures.proofs.DigitLaws.{over_none, digit_step}
+use Rattle.figures.specs.Figures.{one_digit, up_to, tens_in, OneByte, zeros_behind, PointAt, most_cents, behind, signed_by, near, AmountIs}
+use Rattle.fields.proofs.PartLaws.{rest_is}
+use Rattle.fields.proofs.GivenLaws.{agrees_as}
+use Rattle.figures.proofs.DigitLaws.{over_none, digit_step, step_on, step_none, digit_below, given_below}
 
 -- ---- the parts of an amount
 
@@ -49,27 +55,16 @@ module _ {s : List ℕ} {k : ℕ} where
   pub point_none : k ≤ length s → length s ≤ k → PointAt s k k
   point_none h g = record { is = ap (drop 1) (drop_of_length-le s {i = k} g) ∙ sym (drop_of_length-le s {i = k} g); fits = h }
 
-pub record ZerosTo (s : List ℕ) (i : ℕ) : Type 0 where
-  pub is : zeros_behind s ≡ all (eqb 48) (drop i s)
+all_zeros : (s : List ℕ) → list_all (λ b. b == 48) s ≡ all (eqb 48) s
+all_zeros [] = refl
+all_zeros (b ∷ s) = ap₂ ◌&&◌ (by (eqb 48 b) refl) (all_zeros s)
+  where
+    by : (x : Bool) → eqb 48 b ≡ x → eqb b 48 ≡ eqb 48 b
+    by true e = eq-eqb b 48 (sym (eqb-true 48 b e)) ∙ sym e
+    by false e = ne_eqb b 48 (λ f. eqb-false 48 b e (sym f)) ∙ sym e
 
-module _ {s : List ℕ} where
-  pub zeros_start : ZerosTo s 2
-  zeros_start = record { is = refl }
-
-  module _ {i : ℕ} (p : ZerosTo s i) where
-    pub zeros_on : i < length s → get_or s i 0 ≡ 48 → ZerosTo s (i + 1)
-    zeros_on l e =
-        record { is = p.is ∙ (ap (all (eqb 48)) (next_byte s i l) ∙ ap (λ b. b && all (eqb 48) (drop (i + 1) s)) (eq-eqb 48 (get_or s i 0) (sym e))) }
-
-    pub zeros_not : i < length s → (get_or s i 0 ≡ 48 → ⊥) → Says (zeros_behind s) false
-    zeros_not l n =
-        record {
-          is = p.is
-              ∙ (ap (all (eqb 48)) (next_byte s i l) ∙ ap (λ b. b && all (eqb 48) (drop (i + 1) s)) (ne_eqb 48 (get_or s i 0) (λ e. n (sym e))));
-        }
-
-    pub zeros_end : length s ≤ i → Says (zeros_behind s) true
-    zeros_end g = record { is = p.is ∙ ap (all (eqb 48)) (drop_of_length-le s {i = i} g) }
+pub zeros_are : (s : List ℕ) {r : Bool} → r ≡ list_all (λ b. b == 48) (drop 2 s) → Says (zeros_behind s) r
+zeros_are s e = record { is = sym (e ∙ all_zeros (drop 2 s)) }
 
 -- ---- an amount without its sign
 
@@ -130,9 +125,9 @@ in_a_row w ds =
     split true false false x t = refl
     split false d b x t = refl
 
-tens_row : (most : ℕ) (w : List ℕ) (n a b : ℕ) → DigitsTo most w n
-    → up_to most (tens_in 0 (w ++ (a ∷ b ∷ []))) ≡ up_to most (tens_in (one_digit most (one_digit most n a) b) [])
-tens_row most w n a b p = from 0 w ∙ (go (all is_digit w) (tens w) p.is ∙ (digit_step most n a (b ∷ []) ∙ digit_step most (one_digit most n a) b []))
+tens_row : (most : ℕ) (w : List ℕ) (a b : ℕ)
+    → up_to most (tens_in 0 (w ++ (a ∷ b ∷ []))) ≡ if_some (up_to most (tens_in 0 w)) none (λ (m : ℕ). up_to most (tens_in m (a ∷ b ∷ [])))
+tens_row most w a b = from 0 w ∙ go (all is_digit w) (tens w)
   where
     from : (k : ℕ) (w : List ℕ)
         → up_to most (tens_in k (w ++ (a ∷ b ∷ []))) ≡ if_some (only (all is_digit w) (tens_from k w)) none (λ (m : ℕ). up_to most (tens_in m (a ∷ b ∷ [])))
@@ -147,134 +142,122 @@ tens_row most w n a b p = from 0 w ∙ (go (all is_digit w) (tens w) p.is ∙ (d
         by true i = i
         by false i = refl
 
-    -- the number of w is n, or both are above the greatest
-    go : (x : Bool) (t : ℕ) → up_to most (only x t) ≡ only (leb n most) n
-        → if_some (only x t) none (λ (m : ℕ). up_to most (tens_in m (a ∷ b ∷ []))) ≡ up_to most (tens_in n (a ∷ b ∷ []))
-    go true t e = same (leb t most) (leb n most) refl refl e
+    -- above the greatest the two digits do not bring it back
+    go : (x : Bool) (t : ℕ)
+        → if_some (only x t) none (λ (m : ℕ). up_to most (tens_in m (a ∷ b ∷ [])))
+        ≡ if_some (up_to most (only x t)) none (λ (m : ℕ). up_to most (tens_in m (a ∷ b ∷ [])))
+    go true t = by (leb t most) refl
       where
-        same : (y z : Bool) → leb t most ≡ y → leb n most ≡ z → only y t ≡ only z n
-            → up_to most (tens_in t (a ∷ b ∷ [])) ≡ up_to most (tens_in n (a ∷ b ∷ []))
-        same true true f g h = ap (λ (m : ℕ). up_to most (tens_in m (a ∷ b ∷ []))) (some-injective t n h)
-        same true false f g h = absurd (none-ne-some t (sym h))
-        same false true f g h = absurd (none-ne-some n h)
-        same false false f g h = over_none most t (a ∷ b ∷ []) (leb-false t most f) ∙ sym (over_none most n (a ∷ b ∷ []) (leb-false n most g))
-    go false t e = sym (over_none most n (a ∷ b ∷ []) (above (leb n most) refl e))
-      where
-        above : (z : Bool) → leb n most ≡ z → none ≡ only z n → most < n
-        above true g h = absurd (none-ne-some n h)
-        above false g h = leb-false n most g
-
--- what stands from d on
-abbrev rest : List ℕ → ℕ → List ℕ
-rest s d = take (length s - d) (drop d s)
+        by : (y : Bool) → leb t most ≡ y
+            → up_to most (tens_in t (a ∷ b ∷ [])) ≡ if_some (only y t) none (λ (m : ℕ). up_to most (tens_in m (a ∷ b ∷ [])))
+        by true e = refl
+        by false e = over_none most t (a ∷ b ∷ []) (leb-false t most e)
+    go false t = refl
 
 module _ (s : List ℕ) (p d : ℕ) (hp : p ≤ length s) (hd : d ≤ length s) where
-  length_rest : length (rest s d) ≡ length s - d
+  abbrev two : List ℕ
+  two = get_or (behind s d) 0 48 ∷ get_or (behind s d) 1 48 ∷ []
+
+  abbrev cents : Option ℕ
+  cents = up_to most_cents (cents_of (part s 0 p) (behind s d))
+
+  length_rest : length (behind s d) ≡ length s - d
   length_rest = ap length (rest_is d s) ∙ length-drop d s
 
-  sum_of : length (part s 0 p ++ rest s d) ≡ p + (length s - d)
-  sum_of = length-append (part s 0 p) (rest s d) ∙ omega (arith, part_length s 0 p hp, length_rest)
+  sum_of : length (part s 0 p ++ behind s d) ≡ p + (length s - d)
+  sum_of = length-append (part s 0 p) (behind s d) ∙ omega (arith, part_length s 0 p hp, length_rest)
 
-  pub cents_none : p + length (rest s d) < 1 → CentsFrom s p d 100000001
+  pub cents_none : p + length (behind s d) < 1 → GivesNone (up_to most_cents (cents_of (part s 0 p) (behind s d)))
   cents_none h =
       record {
-        is = ap (up_to most_cents) (in_a_row (part s 0 p) (rest s d)
-            ∙ ap (λ (b : Bool). when b (when (zeros_behind (rest s d)) (tens_in 0 (part s 0 p ++ (get_or (rest s d) 0 48 ∷ get_or (rest s d) 1 48 ∷ [])))))
-            (lt-leb 1 (length (part s 0 p ++ rest s d)) (omega (arith, sum_of, length_rest))));
+        is = ap (up_to most_cents) (in_a_row (part s 0 p) (behind s d)
+            ∙ ap (λ (b : Bool). when b (when (zeros_behind (behind s d)) (tens_in 0 (part s 0 p ++ two))))
+            (lt-leb 1 (length (part s 0 p ++ behind s d)) (omega (arith, sum_of, length_rest))));
       }
 
-  module _ (h : 1 ≤ p + length (rest s d)) {z : Bool} (q : Says (zeros_behind (rest s d)) z) where
-    some_digit : cents_of (part s 0 p) (rest s d) ≡ when z (tens_in 0 (part s 0 p ++ (get_or (rest s d) 0 48 ∷ get_or (rest s d) 1 48 ∷ [])))
-    some_digit = in_a_row (part s 0 p) (rest s d)
-        ∙ (ap (λ (b : Bool). when b (when (zeros_behind (rest s d)) (tens_in 0 (part s 0 p ++ (get_or (rest s d) 0 48 ∷ get_or (rest s d) 1 48 ∷ [])))))
-        (le-leb 1 (length (part s 0 p ++ rest s d)) (omega (arith, sum_of, length_rest)))
-        ∙ ap (λ (b : Bool). when b (tens_in 0 (part s 0 p ++ (get_or (rest s d) 0 48 ∷ get_or (rest s d) 1 48 ∷ [])))) q.is)
+  module _ (h : 1 ≤ p + length (behind s d)) {z : Bool} (q : Says (zeros_behind (behind s d)) z) where
+    some_digit : cents_of (part s 0 p) (behind s d) ≡ when z (tens_in 0 (part s 0 p ++ two))
+    some_digit = in_a_row (part s 0 p) (behind s d)
+        ∙ (ap (λ (b : Bool). when b (when (zeros_behind (behind s d)) (tens_in 0 (part s 0 p ++ two))))
+        (le-leb 1 (length (part s 0 p ++ behind s d)) (omega (arith, sum_of, length_rest)))
+        ∙ ap (λ (b : Bool). when b (tens_in 0 (part s 0 p ++ two))) q.is)
 
-    pub cents_more : z ≡ false → CentsFrom s p d 100000001
-    cents_more e =
-        record {
-          is = ap (up_to most_cents) (some_digit
-              ∙ ap (λ (b : Bool). when b (tens_in 0 (part s 0 p ++ (get_or (rest s d) 0 48 ∷ get_or (rest s d) 1 48 ∷ [])))) e);
-        }
+    pub cents_more : z ≡ false → GivesNone (up_to most_cents (cents_of (part s 0 p) (behind s d)))
+    cents_more e = record { is = ap (up_to most_cents) (some_digit ∙ ap (λ (b : Bool). when b (tens_in 0 (part s 0 p ++ two))) e) }
 
-    pub cents_two : z ≡ true → {w a b t r : ℕ} → DigitsTo 100000000 (part s 0 p) w → OneByte (rest s d) 0 a
-        → Number (one_digit 100000000 w a) 100000002 t → OneByte (rest s d) 1 b → Number (one_digit 100000000 t b) 100000002 r → CentsFrom s p d r
-    cents_two e {w} {a} {b} {t} {r} k x y u v = record {
-      is =
-          ap (up_to most_cents) (some_digit ∙ ap (λ (b : Bool). when b (tens_in 0 (part s 0 p ++ (get_or (rest s d) 0 48 ∷ get_or (rest s d) 1 48 ∷ [])))) e)
-          ∙ (tens_row most_cents (part s 0 p) w (get_or (rest s d) 0 48) (get_or (rest s d) 1 48) k
-          ∙ sym (ap (λ (m : ℕ). only (leb m most_cents) m) (v.is
-          ∙ (ap (λ (m : ℕ). one_digit most_cents m b) (y.is ∙ ap (one_digit most_cents w) x.is)
-          ∙ ap (one_digit most_cents (one_digit most_cents w (get_or (rest s d) 0 48))) u.is))));
-    }
+    module _ (e : z ≡ true) where
+      in_row : cents ≡ if_some (up_to most_cents (tens_in 0 (part s 0 p))) none (λ (m : ℕ). up_to most_cents (tens_in m two))
+      in_row =
+          ap (up_to most_cents) (some_digit ∙ ap (λ (b : Bool). when b (tens_in 0 (part s 0 p ++ two))) e)
+          ∙ tens_row most_cents (part s 0 p) (get_or (behind s d) 0 48) (get_or (behind s d) 1 48)
+
+      pub cents_whole : GivesNone (up_to 100000000 (tens_in 0 (part s 0 p))) → GivesNone (up_to most_cents (cents_of (part s 0 p) (behind s d)))
+      cents_whole k = record { is = in_row ∙ ap (λ (o : Option ℕ). if_some o none (λ (m : ℕ). up_to most_cents (tens_in m two))) k.is }
+
+      module _ {w : ℕ} (k : Gives (up_to 100000000 (tens_in 0 (part s 0 p))) w) {a : ℕ} (x : OneByte (behind s d) 0 a) where
+        in_digits : cents ≡ up_to most_cents (tens_in w (a ∷ get_or (behind s d) 1 48 ∷ []))
+        in_digits =
+            in_row ∙ (ap (λ (o : Option ℕ). if_some o none (λ (m : ℕ). up_to most_cents (tens_in m two))) k.is
+            ∙ ap (λ (n : ℕ). up_to most_cents (tens_in w (n ∷ get_or (behind s d) 1 48 ∷ []))) (sym x.is))
+
+        pub cents_tenths : GivesNone (one_digit 100000000 w a) → GivesNone (up_to most_cents (cents_of (part s 0 p) (behind s d)))
+        cents_tenths y = record { is = in_digits ∙ step_none most_cents w a (get_or (behind s d) 1 48 ∷ []) y }
+
+        pub cents_two : {t b : ℕ} → Gives (one_digit 100000000 w a) t → OneByte (behind s d) 1 b → (r : Returned ℕ)
+            → Agrees (one_digit 100000000 t b) r → Agrees (up_to most_cents (cents_of (part s 0 p) (behind s d))) r
+        cents_two {t} {b} y u r = agrees_as (in_digits ∙ (step_on most_cents w a (get_or (behind s d) 1 48 ∷ []) y
+            ∙ (ap (λ (n : ℕ). up_to most_cents (tens_in t (n ∷ []))) (sym u.is) ∙ (digit_step most_cents t b [] ∙ last (one_digit most_cents t b) refl)))) r
+          where
+            last : (o : Option ℕ) → one_digit most_cents t b ≡ o → if_some o none (λ (m : ℕ). up_to most_cents (tens_in m [])) ≡ o
+            last none e = refl
+            last (some m) e = ap (λ (x : Bool). only x m) (le-leb m most_cents (digit_below most_cents t b (record { is = e })))
 
 module _ {s : List ℕ} where
-  pub cents_are : {p d r : ℕ} → CutAt 46 s 0 p → PointAt s p d → CentsFrom s p d r → CentsIs s r
-  cents_are {p} {d} c q f =
-      record {
-        is = ap (up_to most_cents) (ap (λ (x : List ℕ × List ℕ). cents_of x.0 (drop 1 x.1)) c.is
-            ∙ ap (cents_of (part s 0 p)) (q.is ∙ sym (rest_is d s))) ∙ f.is;
-      }
+  pub cents_are : {p d : ℕ} → CutAt 46 s 0 p → PointAt s p d → (r : Returned ℕ)
+      → Agrees (up_to most_cents (cents_of (part s 0 p) (behind s d))) r → Agrees (up_to most_cents (cents_in s)) r
+  cents_are {p} {d} c q r =
+      agrees_as (ap (up_to most_cents) (ap (λ (x : List ℕ × List ℕ). cents_of x.0 (drop 1 x.1)) c.is
+      ∙ ap (cents_of (part s 0 p)) (q.is ∙ sym (rest_is d s)))) r
 
 -- ---- its sign
-
-module _ {n : ℕ} {b : Bool} where
-  pub amount_far : 100000000 < n → AmountOf n b (record { hundredths = 0; minus = false; good = false })
-  amount_far h =
-      record { good = sym (lt-leb n most_cents h); is = ap (λ (t : Bool). only t (signed_by b n)) (lt-leb n most_cents h); below = omega arith }
-
-  pub amount_near : n ≤ 100000000 → AmountOf n b (record { hundredths = n; minus = b; good = true })
-  amount_near h = record { good = sym (le-leb n most_cents h); is = ap (λ (t : Bool). only t (signed_by b n)) (le-leb n most_cents h); below = h }
 
 either : (b : Bool) (n : ℕ) → either_side most_cents (signed_by b n) ≡ leb n most_cents
 either true zero = refl
 either true (suc n) = refl
 either false n = refl
 
-by_sign : (b : Bool) (o : Option ℕ) (n : ℕ) → up_to most_cents o ≡ only (leb n most_cents) n
-    → near (if_some o none (λ (k : ℕ). some (signed_by b k))) ≡ only (leb n most_cents) (signed_by b n)
-by_sign b none n e = none_too (leb n most_cents) e
+by_sign : (b : Bool) (o : Option ℕ)
+    → near (if_some o none (λ (k : ℕ). some (signed_by b k))) ≡ if_some (up_to most_cents o) none (λ (n : ℕ). some (signed_by b n))
+by_sign b none = refl
+by_sign b (some m) = ap (λ (x : Bool). only x (signed_by b m)) (either b m) ∙ by (leb m most_cents)
   where
-    none_too : (x : Bool) → none ≡ only x n → none ≡ only x (signed_by b n)
-    none_too true h = absurd (none-ne-some n h)
-    none_too false h = refl
-by_sign b (some m) n e = ap (λ (x : Bool). only x (signed_by b m)) (either b m) ∙ same (leb m most_cents) (leb n most_cents) e
-  where
-    same : (y z : Bool) → only y m ≡ only z n → only y (signed_by b m) ≡ only z (signed_by b n)
-    same true true h = ap (λ (k : ℕ). some (signed_by b k)) (some-injective m n h)
-    same true false h = absurd (none-ne-some m (sym h))
-    same false true h = absurd (none-ne-some n h)
-    same false false h = refl
+    by : (y : Bool) → only y (signed_by b m) ≡ if_some (only y m) none (λ (n : ℕ). some (signed_by b n))
+    by true = refl
+    by false = refl
 
-module _ {s : List ℕ} {n : ℕ} {r : Amount} where
-  plus : starts_with 45 s ≡ false → CentsIs s n → AmountOf n false r → AmountIs s r
+module _ (s : List ℕ) {b : Bool} (q : Says (starts_with 45 s) b) where
+  by_value : near (value_in s) ≡ if_some (up_to most_cents (cents_in (behind s (cond b 1 0)))) none (λ (n : ℕ). some (signed_by b n))
   unfolding value_in
-  plus e c a = record { is = ap (λ (b : Bool). near (value_by b s)) e ∙ (by_sign false (cents_in s) n c.is ∙ a.is); below = a.below }
-
-  pub amount_empty : length s < 1 → CentsIs s n → AmountOf n false r → AmountIs s r
-  amount_empty h = plus (by s h)
+  by_value = ap (λ (t : Bool). near (value_by t s)) q.is ∙ (by b ∙ by_sign b (cents_in (behind s (cond b 1 0))))
     where
-      by : (s : List ℕ) → length s < 1 → starts_with 45 s ≡ false
-      by [] h = refl
-      by (b ∷ s) h = absurd (omega arith)
+      by : (b : Bool) → near (value_by b s) ≡ near (if_some (cents_in (behind s (cond b 1 0))) none (λ (n : ℕ). some (signed_by b n)))
+      by true = ap (λ (t : List ℕ). near (if_some (cents_in t) none (λ (n : ℕ). some (minus n)))) (sym (rest_is 1 s))
+      by false = ap (λ (t : List ℕ). near (if_some (cents_in t) none (λ (n : ℕ). some (pos n)))) (sym (rest_is 0 s))
 
-  pub amount_plus : 1 ≤ length s → (get_or s 0 0 ≡ 45 → ⊥) → CentsIs s n → AmountOf n false r → AmountIs s r
-  amount_plus h k = plus (by s h k)
-    where
-      by : (s : List ℕ) → 1 ≤ length s → (get_or s 0 0 ≡ 45 → ⊥) → starts_with 45 s ≡ false
-      by [] h k = refl
-      by (b ∷ s) h k = ne_eqb b 45 k
+  module _ {k : ℕ} (e : k ≡ bool_byte b) where
+    from_k : near (value_in s) ≡ if_some (up_to most_cents (cents_in (behind s k))) none (λ (n : ℕ). some (signed_by b n))
+    from_k = by_value ∙ ap (λ (j : ℕ). if_some (up_to most_cents (cents_in (behind s j))) none (λ (n : ℕ). some (signed_by b n))) (by b ∙ sym e)
+      where
+        by : (b : Bool) → cond b 1 0 ≡ bool_byte b
+        by true = refl
+        by false = refl
 
-  pub amount_minus : 1 ≤ length s → get_or s 0 0 ≡ 45 → CentsIs (take (length s - 1) (drop 1 s)) n → AmountOf n true r → AmountIs s r
-  unfolding value_in
-  amount_minus h k c a =
-      record {
-        is = ap (λ (b : Bool). near (value_by b s)) (by s h k)
-            ∙ (by_sign true (cents_in (drop 1 s)) n (sym (ap (λ (t : List ℕ). up_to most_cents (cents_in t)) (rest_is 1 s)) ∙ c.is)
-            ∙ a.is);
-        below = a.below;
-      }
-    where
-      by : (s : List ℕ) → 1 ≤ length s → get_or s 0 0 ≡ 45 → starts_with 45 s ≡ true
-      by [] h k = absurd (omega arith)
-      by (b ∷ s) h k = eq-eqb b 45 k
+    pub amount_is : {n : ℕ} → Gives (up_to most_cents (cents_in (behind s k))) n → AmountIs s (record { hundredths = n; minus = b })
+    amount_is p =
+        record {
+          is = from_k ∙ ap (λ (o : Option ℕ). if_some o none (λ (n : ℕ). some (signed_by b n))) p.is;
+          below = given_below (cents_in (behind s k)) p.is;
+        }
+
+    pub amount_none : GivesNone (up_to most_cents (cents_in (behind s k))) → GivesNone (near (value_in s))
+    amount_none p = record { is = from_k ∙ ap (λ (o : Option ℕ). if_some o none (λ (n : ℕ). some (signed_by b n))) p.is }

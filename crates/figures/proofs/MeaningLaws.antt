@@ -1,7 +1,7 @@
 -- Numbers, dates, amounts and letters are read from the bytes between a field's quotes: where quotes in these stand twice, text and bytes are bad
 -- alike.
 use Prim.Native.Nat.{ℕ}
-use mathlib.Core.Path.{◌≡◌, refl, sym, ◌∙◌, ap, subst}
+use mathlib.Core.Path.{◌≡◌, refl, sym, ◌∙◌, ap}
 use mathlib.Core.Logic.{inl, inr}
 use mathlib.Core.Bool.{Bool, true, false, ◌&&◌, ◌||◌, false≢true}
 use mathlib.Core.List.{List, [], ◌∷◌, ◌++◌}
@@ -18,12 +18,7 @@ use Rattle.rules.proofs.TestLaws.{and_false}
 use Rattle.file_rules.proofs.FieldLaws.{cut_on, cut_at}
 use Rattle.layout.specs.Reads.{only, part}
 use Rattle.fields.specs.declared.field.Field.{Field}
-use Rattle.figures.specs.declared.Figure.{Figure}
-use Rattle.figures.specs.declared.Amount.{Amount}
-use Rattle.figures.specs.declared.Letter.{Letter}
-use Rattle.figures.specs.declared.Capitals.{Capitals}
 use Rattle.fields.specs.Field.{Stands, text_of, TextIs}
-use Rattle.figures.specs.Figures.{QuantityIs, DateIs, near, signed_by, AmountIs, LetterIs, CapitalsAre}
 
 -- ---- a quote breaks each of them
 
@@ -112,25 +107,29 @@ both_none f h t r (inl e) = ap f e
 both_none f h t r (inr d) = h t d.quotes ∙ sym (h r d.double)
 
 module _ {line : List ℕ} {f : Field} (t : TextIs line f) where
-  pub quantity_text : {r : Figure} → QuantityIs (part line f.from f.to) r → quantity_in (text_of line f) ≡ only r.good r.value
-  quantity_text p = both_none quantity_in quantity_quote (text_of line f) (part line f.from f.to) t.stands ∙ p.is
+  pub quantity_text : quantity_in (text_of line f) ≡ quantity_in (part line f.from f.to)
+  quantity_text = both_none quantity_in quantity_quote (text_of line f) (part line f.from f.to) t.stands
 
-  pub date_text : {r : Figure} → DateIs (part line f.from f.to) r → date_in (text_of line f) ≡ only r.good r.value
-  date_text p = both_none date_in date_quote (text_of line f) (part line f.from f.to) t.stands ∙ p.is
+  pub date_text : date_in (text_of line f) ≡ date_in (part line f.from f.to)
+  date_text = both_none date_in date_quote (text_of line f) (part line f.from f.to) t.stands
 
-  pub letter_text : {few : List ℕ} {r : Letter} → any (eqb 34) few ≡ false → LetterIs few (part line f.from f.to) r
-      → letter_in few (text_of line f) ≡ only r.good r.byte
-  letter_text {few} h p = both_none (letter_in few) (λ s e. letter_quote few s h e) (text_of line f) (part line f.from f.to) t.stands ∙ p.is
+  pub letter_text : (few : List ℕ) → any (eqb 34) few ≡ false → letter_in few (text_of line f) ≡ letter_in few (part line f.from f.to)
+  letter_text few h = both_none (letter_in few) (λ s e. letter_quote few s h e) (text_of line f) (part line f.from f.to) t.stands
 
-  pub amount_text : {r : Amount} → AmountIs (part line f.from f.to) r
-      → near (value_in (text_of line f)) ≡ only r.good (signed_by r.minus r.hundredths)
-  amount_text p = ap near (both_none value_in value_quote (text_of line f) (part line f.from f.to) t.stands) ∙ p.is
+  pub value_text : value_in (text_of line f) ≡ value_in (part line f.from f.to)
+  value_text = both_none value_in value_quote (text_of line f) (part line f.from f.to) t.stands
 
-  pub capitals_text : {r : Capitals} → CapitalsAre (part line f.from f.to) r → CapitalsAre (text_of line f) r
-  capitals_text {r} p = by t.stands
+  pub currency_text : is_currency (text_of line f) ≡ is_currency (part line f.from f.to)
+  currency_text = by t.stands
     where
-      by : Stands (text_of line f) (part line f.from f.to) → CapitalsAre (text_of line f) r
-      by (inl e) = subst (λ (s : List ℕ). CapitalsAre s r) (sym e) p
-      by (inr d) =
-          let bad : r.good ≡ false = sym p.good ∙ currency_quote (part line f.from f.to) d.double in
-          record { good = currency_quote (text_of line f) d.quotes ∙ sym bad; is = λ g. absurd (false≢true (sym bad ∙ g)) }
+      by : Stands (text_of line f) (part line f.from f.to) → is_currency (text_of line f) ≡ is_currency (part line f.from f.to)
+      by (inl e) = ap is_currency e
+      by (inr d) = currency_quote (text_of line f) d.quotes ∙ sym (currency_quote (part line f.from f.to) d.double)
+
+  -- a text that is a currency has no quote in it, so it is its bytes
+  pub capitals_text : is_currency (part line f.from f.to) ≡ true → text_of line f ≡ part line f.from f.to
+  capitals_text g = by t.stands
+    where
+      by : Stands (text_of line f) (part line f.from f.to) → text_of line f ≡ part line f.from f.to
+      by (inl e) = e
+      by (inr d) = absurd (false≢true (sym (currency_quote (part line f.from f.to) d.double) ∙ g))

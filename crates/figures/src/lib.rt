@@ -1,122 +1,76 @@
-// What the bytes of a field mean: a quantity, a date, an amount, one letter of a few, a currency.
+// What the bytes of a field mean: a quantity, a date, an amount, one letter of a few, a currency. `None` where they are no such thing.
 #![tactic(auto)]
 
-ghost use Rattle.std.specs.Prelude.{◌+◌, ◌≤◌, [], ◌∷◌, length, ◌≡◌};
-ghost use Rattle.layout.specs.Ensures.{Says, Number};
-ghost use Rattle.figures.specs.Figures.{one_digit, zeros_behind, DigitsTo, QuantityIs, DateIs, PointAt, CentsFrom, CentsIs, AmountOf, AmountIs, no_letter, LetterIs, CapitalsAre, OneByte};
+ghost use Rattle.std.specs.Prelude.{◌≤◌, false, length, MatchOption};
+ghost use Rattle.file_rules.specs.Decimals.{cents_of, cents_in, date_in, quantity_in, value_in};
+ghost use Rattle.file_rules.specs.Fields.{starts_with};
+ghost use Rattle.file_rules.specs.PriceLine.{is_currency, letter_in};
+ghost use Rattle.layout.specs.Ensures.{Says};
+ghost use Rattle.layout.specs.Reads.{part};
+ghost use Rattle.fields.specs.Given.{Agrees, GivesNone};
+ghost use Rattle.figures.specs.Figures.{one_digit, up_to, tens_in, zeros_behind, OneByte, PointAt, most_cents, behind, near, AmountIs, CapitalsAre};
 
 use fields::field::cut_at;
-use layout::numbers::{is_capital, is_either, is_of_three};
+use layout::numbers::is_capital;
 use rules::Currency;
 
-// A number, where there is one.
-#[derive(Clone, Copy)]
-pub struct Figure {
-    pub value: u32,
-    pub good: bool,
-}
+// No price has more hundredths.
+const MOST_CENTS: u32 = 100_000_000;
 
 // Hundredths, and whether a minus stands before them.
-#[derive(Clone, Copy)]
+#[derive(Clone, Copy, PartialEq, Eq)]
 pub struct Amount {
     pub hundredths: u32,
     pub minus: bool,
-    pub good: bool,
-}
-
-// One letter.
-#[derive(Clone, Copy)]
-pub struct Letter {
-    pub byte: u8,
-    pub good: bool,
-}
-
-// A currency's three.
-#[derive(Clone, Copy)]
-pub struct Capitals {
-    pub currency: Currency,
-    pub good: bool,
 }
 
 // ---- digits
 
-// One digit more behind those of n. Whatever is no digit, or goes above the greatest number, is one more than that, and stays so.
-fn add_digit(n: u64, byte: u8, most: u64) -> u64
-    requires n_bound { n ≤ most + 1 }
-    requires most_bound { most ≤ 4294967295 }
-    ensures { Number (one_digit most n byte) (most + 2) result }
+// One digit more behind those of n; none, where it is no digit, or the number goes above the greatest.
+fn add_digit(n: u32, byte: u8, most: u32) -> Option<u32>
+    ensures { Agrees (one_digit most n byte) result }
 {
     if byte < b'0' {
-        return most + 1;
+        return None;
     }
     if b'9' < byte {
-        return most + 1;
+        return None;
     }
-    let m = n * 10 + (byte - b'0') as u64;
-    if m <= most { m } else { most + 1 }
+    let m = n as u64 * 10 + (byte - b'0') as u64;
+    if m <= most as u64 {
+        return Some(m as u32);
+    }
+    None
 }
 
-// The number that the digits make, or one more than the greatest.
-fn digits_to(s: &[u8], most: u64) -> u64
-    requires { most ≤ 4294967295 }
-    ensures { DigitsTo most s.now result }
+// The number that the digits make, if it is not above the greatest.
+fn digits_to(s: &[u8], most: u32) -> Option<u32>
+    ensures { Agrees (up_to most (tens_in 0 s.now)) result }
 {
     let mut n = 0;
-    let mut i = 0;
-    while i < s.len() {
-        n = add_digit(n, s[i], most);
-        i += 1;
+    for byte in s {
+        n = add_digit(n, *byte, most)?;
     }
-    n
+    Some(n)
 }
 
-pub fn quantity_in(s: &[u8]) -> Figure
-    ensures { QuantityIs s.now result }
+pub fn quantity_in(s: &[u8]) -> Option<u32>
+    ensures { Agrees (quantity_in s.now) result }
 {
-    let n = digits_to(s, 4294967295);
-    if s.len() < 1 {
-        return Figure {
-            value: 0,
-            good: false,
-        };
+    if s.is_empty() {
+        return None;
     }
-    if 4294967295 < n {
-        return Figure {
-            value: 0,
-            good: false,
-        };
-    }
-    Figure {
-        value: n as u32,
-        good: true,
-    }
+    digits_to(s, 4294967295)
 }
 
-pub fn date_in(s: &[u8]) -> Figure
-    ensures { DateIs s.now result }
+// 0 where the bytes are blank.
+pub fn date_in(s: &[u8]) -> Option<u32>
+    ensures { Agrees (date_in s.now) result }
 {
-    if s.len() < 1 {
-        return Figure {
-            value: 0,
-            good: true,
-        };
-    }
-    let n = digits_to(s, 99999999);
-    if s.len() != 8 {
-        return Figure {
-            value: 0,
-            good: false,
-        };
-    }
-    if 99999999 < n {
-        return Figure {
-            value: 0,
-            good: false,
-        };
-    }
-    Figure {
-        value: n as u32,
-        good: true,
+    match s.len() {
+        0 => Some(0),
+        8 => digits_to(s, 99999999),
+        _ => None,
     }
 }
 
@@ -126,24 +80,14 @@ pub fn date_in(s: &[u8]) -> Figure
 fn decimal_at(s: &[u8], k: usize) -> u8
     ensures { OneByte s.now k result }
 {
-    if k < s.len() {
-        return s[k];
-    }
-    b'0'
+    if k < s.len() { s[k] } else { b'0' }
 }
 
 // Whether nothing but 0 stands behind the second decimal.
 fn zeros_behind(s: &[u8]) -> bool
     ensures { Says (zeros_behind s.now) result }
 {
-    let mut i = 2;
-    while i < s.len() {
-        if s[i] != b'0' {
-            return false;
-        }
-        i += 1;
-    }
-    true
+    s.iter().skip(2).all(|b| *b == b'0')
 }
 
 // Behind the point at p, if there is one.
@@ -154,105 +98,70 @@ fn behind_point(s: &[u8], p: usize) -> usize
     if p < s.len() { p + 1 } else { p }
 }
 
-// Hundredths, of which the whole ones stand up to p and the decimals from d on; 100,000,001 where there are none, or more than any price has.
-fn cents_from(s: &[u8], p: usize, d: usize) -> u64
+// Hundredths, of which the whole ones stand up to p and the decimals from d on, if they are not more than any price has.
+fn cents_from(s: &[u8], p: usize, d: usize) -> Option<u32>
     requires p_in_bounds { p ≤ length s.now }
     requires d_in_bounds { d ≤ length s.now }
-    ensures { CentsFrom s.now p d result }
+    ensures { Agrees (up_to most_cents (cents_of (part s.now 0 p) (behind s.now d))) result }
 {
     let decimals = &s[d..];
     if p + decimals.len() < 1 {
-        return 100000001;
+        return None;
     }
     if zeros_behind(decimals) {
-        let whole = digits_to(&s[0..p], 100000000);
-        let tenths = add_digit(whole, decimal_at(decimals, 0), 100000000);
-        return add_digit(tenths, decimal_at(decimals, 1), 100000000);
+        let whole = digits_to(&s[0..p], MOST_CENTS)?;
+        let tenths = add_digit(whole, decimal_at(decimals, 0), MOST_CENTS)?;
+        return add_digit(tenths, decimal_at(decimals, 1), MOST_CENTS);
     }
-    100000001
+    None
 }
 
-fn cents_in(s: &[u8]) -> u64
-    ensures { CentsIs s.now result }
+fn cents_in(s: &[u8]) -> Option<u32>
+    ensures { Agrees (up_to most_cents (cents_in s.now)) result }
 {
     let p = cut_at(s, 0, b'.');
     let d = behind_point(s, p);
     cents_from(s, p, d)
 }
 
-// The amount, where it is not more than any price has.
-fn amount_of(n: u64, minus: bool) -> Amount
-    ensures { AmountOf n minus result }
+fn is_negative(s: &[u8]) -> bool
+    ensures { Says (starts_with 45 s.now) result }
 {
-    if 100000000 < n {
-        return Amount {
-            hundredths: 0,
-            minus: false,
-            good: false,
-        };
-    }
-    Amount {
-        hundredths: n as u32,
-        minus,
-        good: true,
-    }
+    s.starts_with(b"-")
 }
 
-pub fn amount_in(s: &[u8]) -> Amount
-    ensures { AmountIs s.now result }
+// The amount, where it is not more than any price has.
+pub fn amount_in(s: &[u8]) -> Option<Amount>
+    ensures { MatchOption result (GivesNone (near (value_in s.now))) (AmountIs s.now) }
 {
-    if s.len() < 1 {
-        return amount_of(cents_in(s), false);
-    }
-    if s[0] == b'-' {
-        return amount_of(cents_in(&s[1..]), true);
-    }
-    amount_of(cents_in(s), false)
+    let minus = is_negative(s);
+    let hundredths = cents_in(&s[usize::from(minus)..])?;
+    Some(Amount { hundredths, minus })
 }
 
 // ---- letters
 
-fn no_letter() -> Letter
-    ensures { result ≡ no_letter }
+// One letter, of a few.
+pub fn one_of(s: &[u8], letters: &[u8]) -> Option<u8>
+    ensures { Agrees (letter_in letters.now s.now) result }
 {
-    Letter {
-        byte: 0,
-        good: false,
+    let [letter] = s else {
+        return None;
+    };
+    if letters.contains(letter) {
+        return Some(*letter);
     }
+    None
 }
 
-// One letter, of two or three.
-pub fn one_of_two(s: &[u8], x: u8, y: u8) -> Letter
-    ensures { LetterIs (x ∷ y ∷ []) s.now result }
+pub fn currency_in(s: &[u8]) -> Option<Currency>
+    ensures { MatchOption result (Says (is_currency s.now) false) (CapitalsAre s.now) }
 {
-    if s.len() == 1 {
-        let good = is_either(s[0], x, y);
-        return Letter { byte: s[0], good };
+    let [a, b, c] = s else {
+        return None;
+    };
+    if is_capital(*a) & is_capital(*b) & is_capital(*c) {
+        return Some(Currency(*a, *b, *c));
     }
-    no_letter()
-}
-
-pub fn one_of_three(s: &[u8], x: u8, y: u8, z: u8) -> Letter
-    ensures { LetterIs (x ∷ y ∷ z ∷ []) s.now result }
-{
-    if s.len() == 1 {
-        let good = is_of_three(s[0], x, y, z);
-        return Letter { byte: s[0], good };
-    }
-    no_letter()
-}
-
-pub fn currency_in(s: &[u8]) -> Capitals
-    ensures { CapitalsAre s.now result }
-{
-    if s.len() == 3 {
-        let good = is_capital(s[0]) & is_capital(s[1]) & is_capital(s[2]);
-        let currency = Currency(s[0], s[1], s[2]);
-        return Capitals { currency, good };
-    }
-    let currency = Currency(0, 0, 0);
-    Capitals {
-        currency,
-        good: false,
-    }
+    None
 }

@@ -1,14 +1,18 @@
 -- With the base number in front of the properties' values the whole number.
 use Prim.Native.Nat.{ℕ, ◌+◌, ◌*◌, ◌≤◌}
-use mathlib.Core.Path.{◌≡◌, refl, sym, ◌∙◌, ap, subst}
+use mathlib.Core.Path.{◌≡◌, sym, ◌∙◌, ap, subst}
 use mathlib.Core.Bool.{true, false}
 use mathlib.Core.List.{List, [], ◌∷◌, ◌++◌, append-nil, append_assoc}
 use mathlib.Core.Option.{Option, some, none}
+use Rattle.std.specs.Prelude.{Some, None}
 use native.Mathlib.Omega.{arith}
 use lib.ListN.{length}
 use Rattle.rules.specs.Lists.{join_with, gather, if_some}
 use Rattle.rules.specs.Book.{Record, Article, Scheme, scheme_of, as_scheme}
 use Rattle.rules.specs.Question.{Property, Question}
+use Rattle.rules.specs.Layout.{whole}
+use Rattle.rules.specs.BookLayout.{kinded}
+use Rattle.rules.specs.declared.Part.{Part}
 use Rattle.rules.specs.FinalNumber.{shown_of, separator_of, behind, number_by, final_number_of}
 use Rattle.layout.specs.Ensures.{PutsTo}
 use Rattle.layout.proofs.StoreLaws.{to_then}
@@ -18,10 +22,10 @@ use Rattle.records.specs.declared.schemes.SchemeParts.{SchemeParts}
 use Rattle.properties.specs.Properties.{properties_at}
 use Rattle.question.specs.declared.Ask.{Ask}
 use Rattle.question.specs.Asked.{AskIs, ask_in}
-use Rattle.lookup.specs.Ensures.{scheme_held}
+use Rattle.lookup.specs.Ensures.{Stands}
 use Rattle.values.specs.Values.{most, led_all, brought_all}
 use Rattle.values.proofs.ValueLaws.{part_long}
-use Rattle.final_number.specs.Ensures.{longest, SchemeOrNone, number_in}
+use Rattle.final_number.specs.Ensures.{longest, number_in}
 
 -- ---- the whole number
 
@@ -48,28 +52,25 @@ base_first_lem book q a = go (scheme_of book a.scheme)
     go none = ([], sym (append-nil q.article))
     go (some s) = (brought_all s q.properties, number_led q.article q.properties s)
 
-module _ (q : List ℕ) (ask : Ask) (t : List ℕ) where
-  -- no record, no scheme
-  pub number_base : {old new : List ℕ} {r : ℕ} → length t ≡ 0 → PutsTo old 0 (bytes_in q ask.article) new r → PutsTo old 0 (number_in t (ask_in q ask)) new r
+module _ (q : List ℕ) (ask : Ask) (b : List ℕ) where
+  -- no scheme
+  pub number_base : {old new : List ℕ} {r : ℕ} → PutsTo old 0 (bytes_in q ask.article) new r → PutsTo old 0 (number_in b None (ask_in q ask)) new r
   unfolding number_in
-  number_base {old} {new} {r} e p = subst (λ (x : List ℕ). PutsTo old 0 (if_some (scheme_held x) (ask_in q ask).article (number_by (ask_in q ask).article (ask_in q ask).properties)) new r) (sym (empty t e)) p
-    where
-      empty : (xs : List ℕ) → length xs ≡ 0 → xs ≡ []
-      empty [] e = refl
-      empty (x ∷ xs) e = absurd (omega arith)
-
-  pub number_kind : SchemeOrNone t → (length t ≡ 0 → ⊥) → OfKind 5 t
-  number_kind k n = k.kind (omega arith)
+  number_base p = p
 
   pub number_room : AskIs q ask → {old new : List ℕ} {base : ℕ} → longest ≤ length old → PutsTo old 0 (bytes_in q ask.article) new base → base + most * ask.count ≤ length new
   number_room is h p = omega (arith, is.short, is.count, p.ends, p.puts.long, part_long q ask.article is.inside)
 
-  pub number_by_lem : (scheme : SchemeParts) → SchemeIs t scheme → {a b c : List ℕ} {base r : ℕ} → PutsTo a 0 (bytes_in q ask.article) b base
-      → PutsTo b base (brought_all (scheme_in t scheme) (properties_at q ask.properties ask.count)) c r
-      → PutsTo a 0 (number_in t (ask_in q ask)) c r
-  unfolding number_in
-  number_by_lem scheme is {a} {c = c} {r = r} p v =
-      let e : number_in t (ask_in q ask) ≡ bytes_in q ask.article ++ brought_all (scheme_in t scheme) (properties_at q ask.properties ask.count) =
-      ap (λ (o : Option Record). if_some (if_some o none as_scheme) (ask_in q ask).article (number_by (ask_in q ask).article (ask_in q ask).properties)) is.is
-      ∙ number_led (ask_in q ask).article (ask_in q ask).properties (scheme_in t scheme) in
-      subst (λ (x : List ℕ). PutsTo a 0 x c r) (sym e) (to_then p v)
+  module _ {part : Part} (stands : Stands b 5 part) {t : List ℕ} (e : t ≡ bytes_in b part) where
+    pub number_kind : OfKind 5 t
+    number_kind = rw e stands.kind_is
+
+    pub number_by_lem : (scheme : SchemeParts) → SchemeIs t scheme → {a x c : List ℕ} {base r : ℕ} → PutsTo a 0 (bytes_in q ask.article) x base
+        → PutsTo x base (brought_all (scheme_in t scheme) (properties_at q ask.properties ask.count)) c r
+        → PutsTo a 0 (number_in b (Some part) (ask_in q ask)) c r
+    unfolding number_in
+    number_by_lem scheme is {a} {c = c} {r = r} p v =
+        let f : number_in b (Some part) (ask_in q ask) ≡ bytes_in q ask.article ++ brought_all (scheme_in t scheme) (properties_at q ask.properties ask.count) =
+        ap (λ (o : Option Record). if_some (if_some o none as_scheme) (ask_in q ask).article (number_by (ask_in q ask).article (ask_in q ask).properties)) (ap (whole kinded) (sym e) ∙ is.is)
+        ∙ number_led (ask_in q ask).article (ask_in q ask).properties (scheme_in t scheme) in
+        subst (λ (x : List ℕ). PutsTo a 0 x c r) (sym f) (to_then p v)

@@ -1,15 +1,17 @@
 -- A table's bytes and the names that it holds: a name looked up, and a name that comes in.
-use Prim.Native.Nat.{ℕ, suc, ◌+◌, ◌-◌, ◌*◌, ◌<◌, ◌≤◌}
+use Prim.Native.Nat.{ℕ, suc, ◌+◌, ◌-◌, ◌*◌, ◌≤◌}
 use mathlib.Core.Path.{◌≡◌, refl, sym, ◌∙◌, ap, ap₂}
-use mathlib.Core.Bool.{Bool, true, false, ◌||◌, cond, false≢true}
+use mathlib.Core.Bool.{Bool, true, false, ◌||◌, not, cond, false≢true, true≢false}
 use mathlib.Core.List.{List, [], ◌∷◌, ◌++◌, map, append_assoc}
 use native.Mathlib.Omega.{arith}
 use native.Mathlib.Numerals.{add-one}
 use native.Mathlib.Nat.{add-zero}
 use lib.Dec.{eqb, ltb}
-use lib.ListN.{length, get_or, take, drop, set, replicate, length-append, length-map, length-set, length-take, length-replicate}
+use lib.ListN.{length, get_or, take, drop, set, replicate, length-append, length-map, length-set, length-replicate}
 use lib.Seq.{sets, take_at, drop_at, drop-drop, get_or-drop}
 use borrow.Author.Tests.{eqb-true, eqb-false, lt-ltb, le-ltb}
+use Rattle.std.specs.Prelude.{Option, Some, None}
+use Rattle.std.specs.Option.{is_some, unwrap_or}
 use Rattle.rules.specs.Lists.{same, any}
 use Rattle.rules.specs.Bytes.{bytes_of, raise}
 use Rattle.rules.specs.Question.{Granted}
@@ -80,25 +82,21 @@ found_hits i (m ∷ ms) c h = go (same m.name c) (found_hits (i + 1) ms c (omega
 
 -- ---- a name that comes in
 
--- what is looked up is the raised name
-raised_is : {old new : List ℕ} (name : List ℕ) → Puts old 0 (map raise name) new → take (length name - 0) (drop 0 new) ≡ map raise name
-raised_is name p =
-    let e : length name - 0 ≡ length name = omega arith in
-    rw e (puts_there p (length name) (length-map name raise))
+-- a name that is not found is nowhere
+pub nowhere_found : (o : Option ℕ) {t : Bool} → is_some o ≡ not t → t ≡ true → 33 ≤ unwrap_or o 33
+nowhere_found None e f = omega arith
+nowhere_found (Some p) e f = absurd (true≢false (e ∙ ap not f))
 
-module _ (t : List ℕ) (k : ℕ) (name : List ℕ) (factor : ℕ) {old raised : List ℕ} (p : Puts old 0 (map raise name) raised) {r : ℕ} (f : Number (look_from t 0 k (take (length name - 0) (drop 0 raised))) 34 r) where
+-- what is looked up is the raised name
+raised_is : {old new : List ℕ} (name : List ℕ) → Puts old 0 (map raise name) new → take (length name) new ≡ map raise name
+raised_is name p = puts_there p (length name) (length-map name raise)
+
+module _ (t : List ℕ) (k : ℕ) (name : List ℕ) (factor : ℕ) {old raised : List ℕ} (p : Puts old 0 (map raise name) raised) {r : ℕ} (f : Number (look_from t 0 k (take (length name) raised)) 34 r) where
   looked : r ≡ look_from t 0 k (map raise name)
   looked = f.is ∙ ap (look_from t 0 k) (raised_is name p)
 
-  pub entered_again : r < 33 → Entered t k name factor t
-  entered_again h =
-      record {
-        new = λ e. absurd (false≢true (sym e ∙ lt-ltb (look_from t 0 k (map raise name)) 33 (omega (arith, looked))));
-        again = λ e. refl;
-      }
-
   pub entered_new : {mid new : List ℕ} {end : ℕ} → 33 ≤ r → Puts (set t (23 * k) (length name)) (23 * k + 1) (bytes_of 2 factor) mid
-      → PutsTo mid (23 * k + 3) (take (length name - 0) (drop 0 raised)) new end → Entered t k name factor new
+      → PutsTo mid (23 * k + 3) (take (length name) raised) new end → Entered t k name factor new
   entered_new {new = new} h two put =
       let rest : List ℕ = bytes_of 2 factor ++ map raise name in
       let q : Puts (set t (23 * k) (length name)) (23 * k + 1) rest new = puts_then two (omega arith) (rw (raised_is name p) at put.puts) in
@@ -108,16 +106,3 @@ module _ (t : List ℕ) (k : ℕ) (name : List ℕ) (factor : ℕ) {old raised :
             (sets_of q ∙ ap (λ (i : ℕ). sets (set t (23 * k) (length name)) i rest) (add-one (23 * k)));
         again = λ e. absurd (false≢true (sym (le-ltb (look_from t 0 k (map raise name)) 33 (omega (arith, looked))) ∙ e));
       }
-
--- there is room for it
-pub factor_room : (t : List ℕ) (k v : ℕ) → k < 32 → length t ≡ 736 → 23 * k + 1 + 2 ≤ length (set t (23 * k) v)
-factor_room t k v h e = omega (arith, length-set t (23 * k) v)
-
-pub entry_room : (t : List ℕ) (k v n : ℕ) (raised : List ℕ) {bytes mid : List ℕ} → k < 32 → n ≤ 20 → length t ≡ 736 → Puts (set t (23 * k) v) (23 * k + 1) bytes mid
-    → 23 * k + 3 + length (take (n - 0) (drop 0 raised)) ≤ length mid
-entry_room t k v n raised h l e p = omega (arith, p.long, length-set t (23 * k) v, length-take (n - 0) (drop 0 raised))
-
--- and the table stays as long as it is
-pub entry_stays : (t : List ℕ) (i v : ℕ) {at at' : ℕ} {bytes mid bytes' new : List ℕ} {end : ℕ} → Puts (set t i v) at bytes mid → PutsTo mid at' bytes' new end
-    → length new ≡ length t
-entry_stays t i v two put = put.puts.long ∙ two.long ∙ length-set t i v

@@ -3,3 +3,4 @@ pub mod Places
 pub mod PlaceSet
 pub mod Idle
 pub mod Asks
+pub mod Asking

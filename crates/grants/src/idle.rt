@@ -11,10 +11,7 @@ fn after(set: Places, place: u8, comes: bool) -> Places
     requires { Above set.0 place }
     ensures { SetAfter set.0 place comes result.0 }
 {
-    if comes {
-        return set.with(place);
-    }
-    set
+    if comes { set.with(place) } else { set }
 }
 
 // The granted places that no line has brought, by a flag for each place. A name that is granted again counts at its first place alone.
@@ -23,12 +20,10 @@ pub fn idle_places(g: &[u8], brought: [bool; 256]) -> Places
     ensures { IdleIs g.now brought result.0 }
 {
     let mut set = Places::NONE;
-    let mut passed = 0;
-    while passed < MOST {
+    for passed in 0..MOST {
         let place = passed + 1;
         let idle = is_first(g, place) & !brought[place];
         set = after(set, place as u8, idle);
-        passed = place;
     }
     set
 }

@@ -3,11 +3,12 @@
 // last name, is all zeros.
 #![tactic(auto)]
 
+pub mod asking;
 pub mod idle;
 pub mod places;
 pub mod terms;
 
-ghost use Rattle.std.specs.Prelude.{◌≤◌, ◌<◌, ◌≡◌, length};
+ghost use Rattle.std.specs.Prelude.{◌≤◌, ◌<◌, ◌≡◌, length, unwrap_or, IfSome};
 ghost use Rattle.layout.specs.Ensures.{Says, Number};
 ghost use Rattle.question.specs.Parts.{NamesStand, names_at};
 ghost use Rattle.grants.specs.Table.{table_size, GrantsAre, entry_is, look_from, Entered};
@@ -27,7 +28,8 @@ const LONGEST: usize = 20;
 const ENTRY: usize = 23;
 
 pub const TABLE: usize = 736;
-// One past the last place: none.
+// One past the last place: none. A number, not an `Option`: what is kept for each place has a last slot that nobody reads, so that a
+// walk over a book stores without a branch.
 pub const NOWHERE: usize = 33;
 
 // Whether the entry behind i others is that of the name. The lengths first, then the bytes.
@@ -46,21 +48,20 @@ fn is_entry(g: &[u8], i: usize, name: &[u8]) -> bool
     same_bytes(&g[from..end], name)
 }
 
-// The place of the first of n entries that is that of the name, or 33.
-fn look(g: &[u8], n: usize, name: &[u8]) -> usize
+// The place of the first of n entries that is that of the name.
+fn look(g: &[u8], n: usize, name: &[u8]) -> Option<usize>
     requires g_len { length g.now ≡ table_size }
     requires n_bound { n ≤ 32 }
     requires name_len_bound { length name.now ≤ 20 }
-    ensures { Number (look_from g.now 0 n name.now) 34 result }
+    ensures is { Number (look_from g.now 0 n name.now) 34 (unwrap_or result 33) }
+    ensures place { IfSome result (λ p. p ≤ 32) }
 {
-    let mut i = 0;
-    while i < n {
+    for i in 0..n {
         if is_entry(g, i, name) {
-            return i + 1;
+            return Some(i + 1);
         }
-        i += 1;
     }
-    NOWHERE
+    None
 }
 
 // A name more comes into the table behind k entries, raised, with its factor. One that is among them leaves it as it is, whatever its factor.
@@ -73,11 +74,11 @@ fn enter(table: &mut [u8], k: usize, name: &[u8], factor: u16)
     let size = name.len();
     let mut raised = [0u8; LONGEST];
     put_raised(&mut raised, 0, name);
-    if NOWHERE <= look(table, k, &raised[0..size]) {
+    if look(table, k, &raised[..size]).is_none() {
         let at = ENTRY * k;
         table[at] = size as u8;
         put_two(table, at + 1, factor);
-        put_bytes(table, at + 3, &raised[0..size]);
+        put_bytes(table, at + 3, &raised[..size]);
     }
 }
 
@@ -89,14 +90,11 @@ pub fn grants_of(q: &[u8], at: usize, n: usize, version: u8) -> [u8; TABLE]
 {
     let mut table = [0u8; TABLE];
     let mut here = at;
-    let mut k = 0;
-    while k < n {
+    for k in 0..n {
         let stop = name_stop(q, here, version);
         let factor = factor_of(q, here, version);
-        let from = here + 1;
-        enter(&mut table, k, &q[from..stop], factor);
+        enter(&mut table, k, &q[here + 1..stop], factor);
         here = next_name(q, here, version);
-        k += 1;
     }
     table
 }
@@ -107,14 +105,13 @@ pub fn place_of(g: &[u8], n: usize, condition: &[u8]) -> usize
     requires n_bound { n ≤ 32 }
     ensures { PlaceIs g.now n condition.now result }
 {
-    let size = condition.len();
-    if size < 1 {
+    if condition.is_empty() {
         return 0;
     }
-    if LONGEST < size {
+    if LONGEST < condition.len() {
         return NOWHERE;
     }
-    look(g, n, condition)
+    look(g, n, condition).unwrap_or(NOWHERE)
 }
 
 // Whether the name at a place, from 1, is named there first.
@@ -124,8 +121,7 @@ pub fn is_first(g: &[u8], place: usize) -> bool
     requires place_bound { place ≤ 32 }
     ensures { FirstIs g.now place result }
 {
-    let at = ENTRY * (place - 1);
-    0 < g[at]
+    0 < g[ENTRY * (place - 1)]
 }
 
 // The factor of a place: 1,000 where no condition is, else that of the name at it, from 1.
@@ -135,9 +131,8 @@ pub fn factor_at(g: &[u8], place: usize) -> u16
     requires granting { Granting g.now }
     ensures { FactorAt g.now place result }
 {
-    if place < 1 {
+    if place == 0 {
         return PLAIN_FACTOR;
     }
-    let at = ENTRY * (place - 1) + 1;
-    two_at(g, at) as u16
+    two_at(g, ENTRY * (place - 1) + 1) as u16
 }

@@ -8,6 +8,7 @@ use question::Ask;
 use rules::Currency;
 
 // `names` is how many are granted.
+// As it is: sort and currency are the question's, as in `Ask`.
 #[derive(Clone, Copy)]
 pub struct Terms {
     pub sort: u8,
@@ -17,6 +18,7 @@ pub struct Terms {
     pub names: usize,
 }
 
+// The granted names and the terms of a question, made once for a call.
 #[derive(Drop)]
 pub struct Wanted {
     pub table: [u8; TABLE],
@@ -26,12 +28,10 @@ pub struct Wanted {
 fn terms_of(ask: Ask) -> Terms
     ensures { TermsAre ask result }
 {
-    let currency = ask.currency;
-    let date = ask.date;
     Terms {
         sort: ask.sort,
-        currency,
-        date,
+        currency: ask.currency,
+        date: ask.date,
         quantity: ask.quantity,
         names: ask.conditions,
     }

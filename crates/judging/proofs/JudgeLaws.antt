@@ -12,50 +12,46 @@ use borrow.Author.Tests.{le-leb, lt-leb, leb-true, leb-false}
 use Rattle.rules.specs.RowBytes.{rows_bytes}
 use Rattle.file_rules.specs.Fields.{is_blank, is_remark, lines_of}
 use Rattle.rules.specs.PlacedRefusals.{ResultAt, Done, RefusedAt, ◌>>=◌, or_refuse_at, unless_so, place_at, number_at, or_zero_at}
-use Rattle.file_rules.specs.PriceLine.{NamedRow, alone, brought_by, brought}
+use Rattle.file_rules.specs.PriceLine.{NamedRow, alone, brought_by, brought, price_line}
 use Rattle.file_rules.specs.PriceFile.{lines_from, numbered, read_file, shown_read}
 use Rattle.rules.specs.declared.PlacedAnswer.{PlacedAnswer}
-use Rattle.layout.specs.Reads.{only, part}
+use Rattle.layout.specs.Reads.{part}
 use Rattle.layout.specs.Ensures.{Says}
+use Rattle.std.specs.Prelude.{Some, None, is_some}
+use Rattle.std.specs.declared.option.Option.{Option as Returned}
+use Rattle.std.specs.Option.{unwrap_or}
+use Rattle.rules.specs.Layout.{whole}
+use Rattle.rules.specs.declared.Refusal.TheVariants.{BadRow, ShortOutput}
+use Rattle.fields.specs.Given.{GivesNone}
 use Rattle.fields.specs.Field.{CutAt}
 use Rattle.fields.proofs.LineLaws.{line_at}
 use Rattle.price_line.specs.declared.PriceLine.{PriceLine}
-use Rattle.judging.specs.declared.Brought.{Brought}
 use Rattle.price_line.specs.Line.{row_on, LineIs}
-use Rattle.judging.specs.Judge.{SizeIs, sizes, BroughtIs, Less, bad_line, BadLine, all_good, AllGood, judged, Judging, AnswerIs}
+use Rattle.judging.specs.Judge.{sizes, BroughtIs, Less, refused, judged, Judging, AnswerIs}
 use Rattle.judging.proofs.SizeLaws.{numbered_length, sizes_none, sizes_one, sizes_append}
 
 -- ---- a line
 
 module _ (line : List ℕ) {t : Bool} (s : Says (is_blank line || is_remark line) t) where
-  pub brings_none : t ≡ true → BroughtIs line (record { size = 0; good = true })
+  pub brings_none : t ≡ true → BroughtIs line 0
   unfolding brought
-  brings_none e = record { rows = []; is = ap (λ (b : Bool). brought_by b line) (s.is ∙ e); size = λ _. sizes_none }
+  brings_none e = record { rows = []; is = ap (λ (b : Bool). brought_by b line) (s.is ∙ e); long = sizes_none }
 
-  pub brings_row : {r : PriceLine} {n : ℕ} → t ≡ false → LineIs line r → SizeIs r.article r.condition n
-      → BroughtIs line (record { size = n; good = r.good })
-  unfolding brought row_on
-  brings_row {r} {n} e p q = record {
-    rows = row_on line r ∷ [];
-    is = ap (λ (b : Bool). brought_by b line) (s.is ∙ e) ∙ (ap alone p.is ∙ by r.good);
-    size = λ g. sizes_one (row_on line r) ∙ so g;
-  }
-    where
-      by : (b : Bool) → alone (only b (row_on line r)) ≡ only b (row_on line r ∷ [])
-      by true = refl
-      by false = refl
+  by_row : t ≡ false → brought line ≡ alone (whole price_line line)
+  unfolding brought
+  by_row e = ap (λ (b : Bool). brought_by b line) (s.is ∙ e)
 
-      so : r.good ≡ true
-          → 31 + length (row_on line r).row.article + length (row_on line r).row.condition + length (row_on line r).row.currency ≡ n
-      so g = omega (arith, p.article.count, p.condition.count, q.is (p.short g).0 (p.short g).1)
+  pub brings_bad : t ≡ false → GivesNone (whole price_line line) → GivesNone (brought line)
+  brings_bad e p = record { is = by_row e ∙ ap alone p.is }
 
--- ---- the ways out
-
-pub good_fits : {b : Bool} {n : ℕ} → b ≡ true → AllGood b n (record { length = n; place = 0; number = 0 })
-good_fits {n = n} e = record { is = sym (ap (λ (x : Bool). all_good x n) e) }
-
-pub good_not : {b : Bool} {n : ℕ} → b ≡ false → AllGood b n (record { length = 0; place = 0; number = 7 })
-good_not {n = n} e = record { is = sym (ap (λ (x : Bool). all_good x n) e) }
+  pub brings_row : {r : PriceLine} {n : ℕ} → t ≡ false → LineIs line r → n ≡ 34 + r.article.count + r.condition.count → BroughtIs line n
+  unfolding row_on
+  brings_row {r} {n} e p q =
+      record {
+        rows = row_on line r ∷ [];
+        is = by_row e ∙ ap alone p.is;
+        long = sizes_one (row_on line r) ∙ omega (arith, p.article.count, p.condition.count);
+      }
 
 -- ---- line by line
 
@@ -122,54 +118,66 @@ answer_of file room = by (lines_from 1 (lines_of file))
             (sym (ap (λ (k : ℕ). leb k room) (numbered_length ls)) ∙ e))
 
 module _ {file : List ℕ} {room : ℕ} where
-  pub judge_start : Judging file room 0 0 room true
+  pub judge_start : Judging file room 0 0 (Some room)
   judge_start = record { is = refl; low = omega arith; within = omega arith; few = omega arith }
 
-  module _ {at n left : ℕ} {fits : Bool} (p : Judging file room at n left fits) where
-    module _ (l : at < length file) {end : ℕ} (c : CutAt 10 file at end) {b : Brought} (q : BroughtIs (part file at end) b) where
-      lines : judged fits left (lines_from (suc n) (lines_of (drop at file)))
-          ≡ judged fits left (lines_from (suc n) (part file at end ∷ lines_of (drop (end + 1) file)))
-      lines = ap (λ (ss : List (List ℕ)). judged fits left (lines_from (suc n) ss)) (line_at c l)
+  module _ {at n : ℕ} {left : Returned ℕ} (p : Judging file room at n left) where
+    abbrev fits : Bool
+    fits = is_some left
 
-      pub judge_on : b.good ≡ true → {r : ℕ} → Less left b.size r → Judging file room (end + 1) (n + 1) r (fits && leb b.size left)
-      judge_on g {r} k = record {
+    abbrev rest : ℕ
+    rest = unwrap_or left 0
+
+    module _ (l : at < length file) {end : ℕ} (c : CutAt 10 file at end) where
+      lines : judged fits rest (lines_from (suc n) (lines_of (drop at file)))
+          ≡ judged fits rest (lines_from (suc n) (part file at end ∷ lines_of (drop (end + 1) file)))
+      lines = ap (λ (ss : List (List ℕ)). judged fits rest (lines_from (suc n) ss)) (line_at c l)
+
+      pub judge_on : {size : ℕ} → BroughtIs (part file at end) size → {r : Returned ℕ} → Less left size r → Judging file room (end + 1) (n + 1) r
+      judge_on {size = size} q {r = r} k = record {
         is =
             p.is
             ∙ (lines
-            ∙ (judged_on fits left (suc n) (part file at end) (lines_of (drop (end + 1) file)) q.rows (q.is
-            ∙ ap (λ (x : Bool). only x q.rows) g)
-            ∙ (ap (λ (m : ℕ). judged (fits && leb m left) (left - m) (lines_from (suc (suc n)) (lines_of (drop (end + 1) file)))) (q.size g)
-            ∙ ap₂ (λ (x m : ℕ). judged (fits && leb b.size left) x (lines_from (suc m) (lines_of (drop (end + 1) file)))) (sym k.is)
-            (sym (add-one n)))));
+            ∙ (judged_on fits rest (suc n) (part file at end) (lines_of (drop (end + 1) file)) q.rows q.is
+            ∙ (ap (λ (m : ℕ). judged (fits && leb m rest) (rest - m) (lines_from (suc (suc n)) (lines_of (drop (end + 1) file)))) q.long
+            ∙ (ap₂ (λ (b : Bool) (x : ℕ). judged b x (lines_from (suc (suc n)) (lines_of (drop (end + 1) file)))) (sym k.fits) (sym k.is)
+            ∙ ap (λ (m : ℕ). judged (is_some r) (unwrap_or r 0) (lines_from (suc m) (lines_of (drop (end + 1) file)))) (sym (add-one n))))));
         low = omega (arith, p.low, c.low);
         within = omega (arith, c.fits);
-        few = omega (arith, p.few, k.low);
+        few = omega (arith, p.few, k.is);
       }
 
-      pub judge_bad : b.good ≡ false → {r : PlacedAnswer} → BadLine (n + 1) r → AnswerIs file room r
+      pub judge_bad : GivesNone (brought (part file at end)) → {r : PlacedAnswer} → r ≡ refused BadRow (n + 1) → AnswerIs file room r
       unfolding shown
-      judge_bad g e = record {
+      judge_bad q e = record {
         is =
-            e.is
-            ∙ (ap bad_line (add-one n)
+            e
+            ∙ (ap (refused BadRow) (add-one n)
             ∙ sym (answer_of file room
             ∙ ap (shown room) (p.is
             ∙ (lines
-            ∙ judged_bad fits left (suc n) (part file at end) (lines_of (drop (end + 1) file)) (q.is ∙ ap (λ (x : Bool). only x q.rows) g)))));
+            ∙ judged_bad fits rest (suc n) (part file at end) (lines_of (drop (end + 1) file)) q.is))));
       }
 
-    pub judge_end : length file ≤ at → {r : PlacedAnswer} → AllGood fits (room - left) r → AnswerIs file room r
-    unfolding shown lines_from lines_of
-    judge_end h {r} e =
+    ends : length file ≤ at → shown_read (read_file file room) ≡ shown room (judged fits rest (Done []))
+    unfolding lines_from lines_of
+    ends h =
+        answer_of file room
+        ∙ ap (shown room) (p.is ∙ ap (λ (s : List ℕ). judged fits rest (lines_from (suc n) (lines_of s))) (drop_of_length-le file {i = at} h))
+
+    pub judge_fits : {k : ℕ} → left ≡ Some k → length file ≤ at → AnswerIs file room (record { length = room - k; place = 0; number = 0 })
+    unfolding shown
+    judge_fits {k = k} e h =
         record {
-          is = e.is
-              ∙ (by fits
-              ∙ sym (answer_of file room
-              ∙ ap (shown room) (p.is ∙ ap (λ (s : List ℕ). judged fits left (lines_from (suc n) (lines_of s))) (drop_of_length-le file {i = at} h))));
+          is = sym (ends h
+              ∙ (ap (λ (o : Returned ℕ). shown room (judged (is_some o) (unwrap_or o 0) (Done []))) e
+              ∙ ap₂ (λ (b : Bool) (m : ℕ). shown room (unless_so 7 b >>= λ _. Done m)) (le-leb (sizes []) k (omega (arith, sizes_none)))
+              (omega (arith, sizes_none))));
         }
-      where
-        by : (x : Bool) → all_good x (room - left) ≡ shown room (judged x left (Done []))
-        by false = refl
-        by true =
-            sym (ap₂ (λ (b : Bool) (k : ℕ). shown room (unless_so 7 b >>= λ _. Done k)) (le-leb (sizes []) left (omega (arith, sizes_none)))
-            (omega (arith, sizes_none)))
+
+    pub judge_short : left ≡ None → length file ≤ at → {r : PlacedAnswer} → r ≡ refused ShortOutput 0 → AnswerIs file room r
+    unfolding shown
+    judge_short e h f =
+        record {
+          is = f ∙ sym (ends h ∙ ap (λ (o : Returned ℕ). shown room (judged (is_some o) (unwrap_or o 0) (Done []))) e);
+        }

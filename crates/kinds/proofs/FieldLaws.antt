@@ -1,12 +1,12 @@
 -- Tests of single fields: what the code makes of a byte or two is what the definitions ask.
 use Prim.Native.Nat.{ℕ, zero, suc, ◌+◌, ◌-◌, ◌≤◌, ◌<◌}
-use mathlib.Core.Path.{◌≡◌, refl, sym, ◌∙◌, ap}
-use mathlib.Core.Bool.{Bool, false, ◌||◌, not, or-false, and-true, and-false}
+use mathlib.Core.Path.{◌≡◌, refl, sym, ◌∙◌}
+use mathlib.Core.Bool.{Bool, false, ◌||◌, not, or-false, and-false}
 use mathlib.Core.List.{List, [], ◌∷◌}
 use native.Mathlib.Omega.{arith}
 use native.Mathlib.Decide.{dec_lt}
 use lib.Dec.{eqb}
-use lib.ListN.{length, drop, get_or, length-drop}
+use lib.ListN.{length, drop, length-drop}
 use lib.Seq.{length-take-le}
 use borrow.Author.Tests.{eq-eqb, ne_eqb}
 use Rattle.rules.specs.Lists.{same}
@@ -16,26 +16,13 @@ use Rattle.layout.specs.Reads.{part}
 use Rattle.layout.specs.Ensures.{Number, Says, NameEnd}
 use Rattle.kinds.specs.Ensures.{trim_ok}
 
-pub or_says : {a b x y : Bool} → Says a x → Says b y → Says (a || b) (x || y)
-or_says p q = record { is = rw (p.is, q.is) }
-
 -- ---- a price's value
-
-pub percent_is : (fixed n : ℕ) {r : Bool} → Says (either_side 100_000 (signed_of 4 n)) r → fixed ≡ 0 → Says (in_bounds (value_of fixed (signed_of 4 n))) r
-percent_is fixed n p e = record { is = ap (λ k. in_bounds (value_of k (signed_of 4 n))) e ∙ p.is }
 
 pub fixed_is : (fixed n : ℕ) {r : Bool} → Says (either_side 100_000_000 (signed_of 4 n)) r → (fixed ≡ 0 → ⊥) → Says (in_bounds (value_of fixed (signed_of 4 n))) r
 fixed_is zero n p e = absurd (e refl)
 fixed_is (suc fixed) n p e = record { is = p.is }
 
 -- ---- a scheme's characters
-
-pub given_none : (d c : ℕ) → d < 256 → c ≡ 0 → Number (given d c) 256 d
-given_none d c h e = record { is = sym (ap (given d) e); below = h }
-
-pub given_some : (d c : ℕ) → c < 256 → (c ≡ 0 → ⊥) → Number (given d c) 256 c
-given_some d zero h e = absurd (e refl)
-given_some d (suc c) h e = record { is = refl; below = h }
 
 -- ---- a scheme's separator
 
@@ -47,14 +34,6 @@ module _ (s : List ℕ) (c : ℕ) where
       go [] n = refl
       go (x ∷ []) n = absurd (n refl)
       go (x ∷ (y ∷ s)) n = and-false (eqb x c)
-
-  pub one_byte_is : length s ≡ 1 → Says (same s (c ∷ [])) (eqb (get_or s 0 0) c)
-  one_byte_is e = record { is = go s e }
-    where
-      go : (s : List ℕ) → length s ≡ 1 → same s (c ∷ []) ≡ eqb (get_or s 0 0) c
-      go [] e = absurd (omega arith)
-      go (x ∷ []) e = and-true (eqb x c)
-      go (x ∷ (y ∷ s)) e = absurd (omega arith)
 
 same_empty : (s : List ℕ) → same s [] ≡ eqb (length s) 0
 same_empty [] = refl

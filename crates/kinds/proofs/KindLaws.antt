@@ -16,9 +16,9 @@ use Rattle.rules.specs.BookLayout.{article_body, price_body, rounding_body, sche
 use Rattle.layout.specs.Reads.{Reads, part, name_stop}
 use Rattle.layout.specs.Ensures.{Accepts, Number, Says, NameEnd}
 use Rattle.layout.proofs.LayoutLaws.{then_reads, such_reads, give_reads, if_reads, number_at_lem, one_of_at, byte_reads, bytes_reads, number_reads, signed_reads, one_of_reads, body_as, taken_are, not_sized, sized_then, sized_give, sized_if, sized_such, sized_byte, sized_bytes, sized_number, sized_signed, sized_one_of}
-use Rattle.layout.proofs.NameLaws.{name_rest, no_first, after_name}
+use Rattle.layout.proofs.NameLaws.{name_rest}
 use Rattle.pairs.specs.Pairs.{Named}
-use Rattle.pairs.proofs.PairLaws.{shorter, too_long}
+use Rattle.pairs.proofs.PairLaws.{shorter}
 use Rattle.kinds.specs.Fields.{number_at, signed_at, article_at, row_at, rounding_at, scheme_at}
 use Rattle.kinds.specs.Ensures.{trim_ok}
 
@@ -153,9 +153,6 @@ module _ {s : List ℕ} {at a : ℕ} (p : NameEnd 1 20 s at a) (h : 1 ≤ a) {b 
 
 -- behind both names, where the first has at most 20 bytes and the second at most 8
 module _ {s : List ℕ} {b : ℕ} (p : Named s 1 b) where
-  pub scheme_id : 20 < get_or s 1 0 → Accepts (whole scheme_body (drop 1 s)) false
-  scheme_id h = no_first (too_long p.first (omega arith) 20 h) _ (omega arith)
-
   module _ (h : get_or s 1 0 ≤ 20) {w : ℕ} (size : Number (get_or s 1 0) 256 w) where
     id_there : NameEnd 1 20 s 1 (name_stop s 1)
     id_there = shorter p.first (omega arith) 20 h
@@ -163,22 +160,11 @@ module _ {s : List ℕ} {b : ℕ} (p : Named s 1 b) where
     second_byte : get_or s (2 + w) 0 ≡ get_or s (name_stop s 1) 0
     second_byte = ap (λ x. get_or s (2 + x) 0) size.is
 
-    pub scheme_numbers : 8 < get_or s (2 + w) 0 → Accepts (whole scheme_body (drop 1 s)) false
-    scheme_numbers k = after_name id_there _ (omega arith) (no_first (too_long p.second (omega (arith, p.low)) 8 (omega (arith, second_byte))) _ (omega arith))
-
     module _ (k : get_or s (2 + w) 0 ≤ 8) {c : ℕ} (r : NameEnd 0 8 s b c) where
       numbers_there : NameEnd 0 8 s (name_stop s 1) b
       numbers_there = shorter p.second (omega (arith, p.low)) 8 (omega (arith, second_byte))
 
-      -- a name that is there ends behind its place
-      pub scheme_values : c ≤ b → Accepts (whole scheme_body (drop 1 s)) false
-      scheme_values l = after_name id_there _ (omega arith) (after_name numbers_there _ (omega (arith, p.low)) (no_first r _ (go (dec_lt 0 c))))
-        where
-          go : Dec (0 < c) → c < 1
-          go (yes g) = absurd (omega (arith, r.low g))
-          go (no g) = omega arith
-
-      module _ (l : b < c) where
+      module _ (l : 0 < c) where
         pub scheme_size : (length s - c ≡ 4 → ⊥) → Accepts (whole scheme_body (drop 1 s)) false
         scheme_size = scheme_no id_there (omega arith) numbers_there (omega (arith, p.low)) r (omega arith)
 

@@ -1,27 +1,25 @@
 -- The body of a packaging record at a place: its values, its units, and the whole.
-use Prim.Native.Nat.{ℕ, zero, suc, ◌+◌, ◌*◌, ◌-◌, ◌/◌, ◌%◌, ◌≤◌, ◌<◌}
+use Prim.Native.Nat.{ℕ, zero, suc, ◌+◌, ◌*◌, ◌-◌, ◌/◌, ◌%◌, ◌≤◌}
 use mathlib.Core.Path.{◌≡◌, refl, sym, ◌∙◌, ap}
-use mathlib.Core.Bool.{Bool, true, false, ◌&&◌, ◌||◌, not, cond, or-false, or_assoc, and-true, and-false, and_assoc}
+use mathlib.Core.Bool.{Bool, true, false, ◌&&◌, ◌||◌, not, cond, and-true, and-false, and_assoc}
 use mathlib.Core.List.{List, [], ◌∷◌, ◌++◌}
 use native.Mathlib.Omega.{arith}
-use native.Mathlib.Decide.{ℕ_discrete}
 use lib.Dec.{eqb, ltb}
 use lib.ListN.{length, take, drop, get_or}
 use lib.IntN.{ℤ, pos, negsuc}
-use borrow.Author.Tests.{lt-ltb, le-ltb, le-leb, lt-leb, eq-eqb, ne_eqb}
-use Rattle.rules.specs.Lists.{all, is_some, same}
-use Rattle.rules.specs.Letters.{text}
+use borrow.Author.Tests.{lt-ltb, le-ltb, le-leb, lt-leb}
+use Rattle.rules.specs.Lists.{all, any, is_some, same}
 use Rattle.rules.specs.Layout.{◌such◌, bytes, whole, times}
 use Rattle.rules.specs.Bytes.{signed, signed_of, either_side}
 use Rattle.rules.specs.Book.{PackagingRecord}
 use Rattle.rules.specs.BookLayout.{packaging_body, zero_unless_present, has, length_units, volume_units, weight_units, no_unit, star}
 use Rattle.layout.specs.Reads.{Reads, part, positions_at}
 use Rattle.layout.specs.Ensures.{Accepts, Number, Says, NameEnd}
-use Rattle.layout.proofs.LayoutLaws.{then_reads, such_reads, give_reads, if_reads, byte_at, bytes_reads, signed_reads, times_reads, body_as, taken_are, not_sized, sized_then, sized_give, sized_if, sized_such, sized_byte, sized_bytes, sized_signed, sized_times}
+use Rattle.layout.proofs.LayoutLaws.{then_reads, such_reads, give_reads, if_reads, byte_at, bytes_reads, signed_reads, times_reads, body_as, not_sized, sized_then, sized_give, sized_if, sized_such, sized_byte, sized_bytes, sized_signed, sized_times}
 use Rattle.layout.proofs.NameLaws.{name_rest}
 use Rattle.kinds.specs.Fields.{number_at, signed_at, values_at, pack_at}
 use Rattle.pairs.specs.Pairs.{Named}
-use Rattle.kinds.specs.Ensures.{Letters, present_ok, values_ok, unit_ok, units_ok}
+use Rattle.kinds.specs.Ensures.{present_ok, values_ok, unit_ok, units_ok}
 use Rattle.kinds.proofs.FieldLaws.{name_empty}
 
 -- ---- values
@@ -39,12 +37,6 @@ present_is s at most present {bound} {v} {r} b n p = record { is = go present (r
     go : (t : Bool) → either_side (cond t most 0) (signed_at s at) ≡ r → present_ok t most (signed_at s at) ≡ r
     go true e = and-true (either_side most (signed_at s at)) ∙ e
     go false e = zero_near most (signed_at s at) ∙ e
-
-pub bound_most : (present : Bool) (most : ℕ) {r : Bool} → most < 2147483648 → Says present r → r ≡ true → Number (cond present most 0) 2147483648 most
-bound_most present most h p e = record { is = sym (ap (λ t. cond t most 0) (p.is ∙ e)); below = h }
-
-pub bound_none : (present : Bool) (most : ℕ) {r : Bool} → Says present r → r ≡ false → Number (cond present most 0) 2147483648 0
-bound_none present most p e = record { is = sym (ap (λ t. cond t most 0) (p.is ∙ e)); below = omega arith }
 
 -- two tests of each of two things, in either order
 and_mix : (a x b y : Bool) → ((a && x) && (b && y)) ≡ ((a && b) && (x && y))
@@ -97,48 +89,8 @@ module _ (s : List ℕ) (p : ℕ) where
 
 -- ---- units
 
-pub letters_are : {x y z a b c : ℕ} → Number x 256 a → Number y 256 b → Number z 256 c → Letters x y z (a * 65536 + b * 256 + c)
-letters_are p q r = record {
-  is = omega (arith, p.is, q.is, r.is);
-  first = omega (arith, p.is, p.below);
-  second = omega (arith, q.is, q.below);
-  third = omega (arith, r.is, r.below);
-}
-
--- numbers of three bytes are the same where the bytes are
-three_same : (a b c x y z : ℕ) {m n : ℕ} → Letters a b c m → Letters x y z n → (eqb a x && (eqb b y && (eqb c z && true))) ≡ eqb m n
-three_same a b c x y z {m} {n} p q = go (ℕ_discrete a x) (ℕ_discrete b y) (ℕ_discrete c z)
-  where
-    other : (m ≡ n → ⊥) → eqb m n ≡ false
-    other f = ne_eqb m n f
-
-    go : Dec (a ≡ x) → Dec (b ≡ y) → Dec (c ≡ z) → (eqb a x && (eqb b y && (eqb c z && true))) ≡ eqb m n
-    go (yes d) (yes e) (yes f) =
-        rw (eq-eqb a x d, eq-eqb b y e, eq-eqb c z f, eq-eqb m n (omega (arith, p.is, q.is)))
-    go (no d) e f = rw (ne_eqb a x d, other (λ i. d (omega (arith, p.is, q.is, p.second, p.third, q.second, q.third))))
-    go (yes d) (no e) f =
-        rw (ne_eqb b y e, other (λ i. e (omega (arith, p.is, q.is, p.second, p.third, q.second, q.third)))) (and-false (eqb a x))
-    go (yes d) (yes e) (no f) =
-        rw (ne_eqb c z f, other (λ i. f (omega (arith, p.is, q.is)))) (ap (λ t. eqb a x && t) (and-false (eqb b y)) ∙ and-false (eqb a x))
-
-pub is_unit_lem : (s : List ℕ) (at x y z : ℕ) {m n : ℕ} → at + 3 ≤ length s → Letters (get_or s at 0) (get_or s (at + 1) 0) (get_or s (at + 2) 0) m → Letters x y z n
-    → Says (same (take 3 (drop at s)) (x ∷ y ∷ z ∷ [])) (eqb m n)
-is_unit_lem s at x y z h p q =
-    let e : at + 0 ≡ at = omega arith in
-    record {
-      is =
-          ap (λ t. same t (x ∷ y ∷ z ∷ [])) (rw e at (taken_are s at 3 0 (omega arith)))
-          ∙ three_same (get_or s at 0) (get_or s (at + 1) 0) (get_or s (at + 2) 0) x y z p q;
-    }
-
-module _ (u : List ℕ) (needed : Bool) {a b c n : Bool} where
-  pub unit_is : (x y z : List ℕ) → Says (same u x) a → Says (same u y) b → Says (same u z) c → Says (same u no_unit) n
-      → Says (unit_ok needed (x ∷ y ∷ z ∷ []) u) (a || b || c || (n && not needed))
-  unit_is x y z a b c n = record { is = rw (a.is, b.is, c.is, n.is) (simp (or_assoc, or-false)) }
-
-  pub length_unit_is : {d e : Bool} → Says (same u (text "CMT")) a → Says (same u (text "FOT")) b → Says (same u (text "INH")) c → Says (same u (text "MMT")) d
-      → Says (same u (text "MTR")) e → Says (same u no_unit) n → Says (unit_ok needed length_units u) (a || b || c || d || e || (n && not needed))
-  length_unit_is a b c d e n = record { is = rw (a.is, b.is, c.is, d.is, e.is, n.is) (simp (or_assoc, or-false)) }
+pub unit_is : (u : List ℕ) (needed : Bool) (units : List (List ℕ)) {r n : Bool} → Says (any (same u) units) r → Says (same u no_unit) n → Says (unit_ok needed units u) (r || (n && not needed))
+unit_is u needed units e n = record { is = rw (e.is, n.is) }
 
 pub units_are : (s : List ℕ) (p x : ℕ) {b₀ b₁ b₂ b₃ b₄ b₅ t₁ t₂ t₃ : Bool}
     → Says (eqb (x / 1 % 2) 1) b₀ → Says (eqb (x / 2 % 2) 1) b₁ → Says (eqb (x / 4 % 2) 1) b₂ → Says (eqb (x / 8 % 2) 1) b₃ → Says (eqb (x / 16 % 2) 1) b₄ → Says (eqb (x / 32 % 2) 1) b₅

@@ -11,31 +11,15 @@ use Rattle.rules.specs.BookLayout.{kinded, body}
 use Rattle.layout.specs.Ensures.{Accepts}
 use Rattle.pairs.specs.Pairs.{Names}
 use Rattle.pairs.proofs.PairLaws.{no_names}
-use Rattle.layout.proofs.LayoutLaws.{then_rest, then_broken, byte_at, byte_cut}
+use Rattle.layout.proofs.LayoutLaws.{then_rest, byte_at}
 
 module _ (s : List ℕ) where
-  pub kind_empty : length s < 1 → Accepts (whole kinded s) false
-  kind_empty h = record { is = ap (λ o. is_some (wholly o)) (then_broken byte body (byte_cut s 0 (omega arith)) refl) }
-
   module _ (h : 1 ≤ length s) where
     pub kind_is : (k : ℕ) → get_or s 0 0 ≡ k → whole kinded s ≡ whole (body k) (drop 1 s)
     kind_is k e = ap wholly (then_rest byte body (byte_at s 0 (omega arith)) refl) ∙ ap (λ (k : ℕ). whole (body k) (drop 1 s)) e
 
     pub kind_any : (k : ℕ) {r : Bool} → get_or s 0 0 ≡ k → Accepts (whole (body k) (drop 1 s)) r → Accepts (whole kinded s) r
     kind_any k e p = record { is = ap is_some (kind_is k e) ∙ p.is }
-
-    pub kind_none : (get_or s 0 0 ≡ 3 → ⊥) → ((((Unit {0}) × (get_or s 0 0 ≡ 1 → ⊥)) × (get_or s 0 0 ≡ 2 → ⊥)) × (get_or s 0 0 ≡ 4 → ⊥)) × (get_or s 0 0 ≡ 5 → ⊥)
-        → Accepts (whole kinded s) false
-    kind_none three n = go (get_or s 0 0) refl
-      where
-        go : (k : ℕ) → get_or s 0 0 ≡ k → Accepts (whole kinded s) false
-        go zero e = record { is = ap is_some (kind_is 0 e) }
-        go (suc zero) e = absurd (n.0.0.0.1 e)
-        go (suc (suc zero)) e = absurd (n.0.0.1 e)
-        go (suc (suc (suc zero))) e = absurd (three e)
-        go (suc (suc (suc (suc zero)))) e = absurd (n.0.1 e)
-        go (suc (suc (suc (suc (suc zero))))) e = absurd (n.1 e)
-        go (suc (suc (suc (suc (suc (suc k)))))) e = record { is = ap is_some (kind_is (suc (suc (suc (suc (suc (suc k)))))) e) }
 
     -- every kind but a rounding begins with two names, a scheme with short ones
     pub kind_nameless : {r : ℕ} → (get_or s 0 0 ≡ 3 → ⊥) → Names s 1 r → r < 1 → Accepts (whole kinded s) false

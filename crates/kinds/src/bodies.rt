@@ -10,7 +10,7 @@ ghost use Rattle.pairs.specs.Pairs.{Named};
 ghost use Rattle.kinds.specs.Ensures.{trim_ok};
 
 use layout::names::{is_name_byte, name_end};
-use layout::numbers::{four_at, is_capital, is_either, is_of_three, near_zero, two_at, wide};
+use layout::numbers::{four_at, is_capital, is_one_of, near_zero, two_at, wide};
 
 pub fn article_ok(s: &[u8], end: usize) -> bool
     requires { Named s.now 1 end }
@@ -37,10 +37,10 @@ pub fn price_ok(s: &[u8], terms: usize) -> bool
     if s.len() - terms != 29 {
         return false;
     }
-    is_either(s[terms], b'S', b'P')
-        & is_of_three(s[terms + 1], b'B', b'X', b'D')
-        & is_either(s[terms + 2], 1, 2)
-        & is_either(s[terms + 7], 0, 1)
+    is_one_of(s[terms], &[b'S', b'P'])
+        & is_one_of(s[terms + 1], &[b'B', b'X', b'D'])
+        & is_one_of(s[terms + 2], &[1, 2])
+        & is_one_of(s[terms + 7], &[0, 1])
         & value_ok(s[terms + 7], four_at(s, terms + 8))
         & is_capital(s[terms + 12])
         & is_capital(s[terms + 13])
@@ -56,7 +56,7 @@ pub fn rounding_ok(s: &[u8], at: usize) -> bool
     }
     let step = four_at(s, at + 3);
     (1 <= two_at(s, at))
-        & is_of_three(s[at + 2], 0, 1, 2)
+        & is_one_of(s[at + 2], &[0, 1, 2])
         & (1 <= step)
         & (step <= 1_000_000)
         & near_zero(four_at(s, at + 7), 1_000_000)
@@ -108,10 +108,9 @@ pub fn scheme_ok(s: &[u8], values: usize) -> bool
     if 8 < s[numbers] {
         return false;
     }
-    let choices = name_end(s, values, 0, 8);
-    if choices <= values {
+    let Some(choices) = name_end(s, values, 0, 8) else {
         return false;
-    }
+    };
     if s.len() - choices != 4 {
         return false;
     }
@@ -119,9 +118,9 @@ pub fn scheme_ok(s: &[u8], values: usize) -> bool
     let unselected = s[choices + 2];
     let trim = s[choices + 3];
     let separator = values + 1;
-    is_either(s[choices], 0, 1)
+    is_one_of(s[choices], &[0, 1])
         & character_ok(hidden)
         & character_ok(unselected)
-        & is_either(trim, 0, 1)
+        & is_one_of(trim, &[0, 1])
         & trim_ok(&s[separator..choices], hidden, unselected, trim)
 }

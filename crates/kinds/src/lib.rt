@@ -27,10 +27,10 @@ pub fn record_ok(s: &[u8], rest: &[u8]) -> bool
     if kind == 3 {
         return rounding_ok(s, 1);
     }
-    let end = names_end(s, rest, 1);
-    if end < 1 {
+    let Some(end) = names_end(s, rest, 1) else {
         return false;
-    }
+    };
+    // The byte is told apart here and handed on to nobody; an enum would have a rounding among these, an arm that is never taken.
     match kind {
         1 => article_ok(s, end),
         2 => price_ok(s, end),

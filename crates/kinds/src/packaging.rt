@@ -2,7 +2,7 @@
 ghost use Rattle.std.specs.Prelude.{◌+◌, ◌/◌, ◌%◌, ◌≤◌, ◌<◌, cond, [], ◌∷◌, eqb, length, take, drop, get_or};
 ghost use Rattle.rules.specs.Lists.{same};
 ghost use Rattle.rules.specs.Layout.{whole};
-ghost use Rattle.rules.specs.BookLayout.{packaging_body, length_units, volume_units, weight_units};
+ghost use Rattle.rules.specs.BookLayout.{packaging_body};
 ghost use Rattle.layout.specs.Ensures.{Accepts, Number, Says};
 ghost use Rattle.pairs.specs.Pairs.{Named};
 ghost use Rattle.kinds.specs.Fields.{signed_at};
@@ -59,44 +59,28 @@ fn letters(x: u8, y: u8, z: u8) -> usize
     wide(x) * 65536 + wide(y) * 256 + wide(z)
 }
 
-fn is_unit(s: &[u8], at: usize, x: u8, y: u8, z: u8) -> bool
+fn is_unit(s: &[u8], at: usize, unit: &[u8; 3]) -> bool
     requires { at + 3 ≤ length s.now }
-    ensures { Says (same (take 3 (drop at s.now)) (x ∷ y ∷ z ∷ [])) result }
+    ensures { Says (same (take 3 (drop at s.now)) unit.now) result }
 {
-    letters(s[at], s[at + 1], s[at + 2]) == letters(x, y, z)
+    letters(s[at], s[at + 1], s[at + 2]) == letters(unit[0], unit[1], unit[2])
 }
+
+const LENGTH_UNITS: [[u8; 3]; 5] = [*b"CMT", *b"FOT", *b"INH", *b"MMT", *b"MTR"];
+
+const VOLUME_UNITS: [[u8; 3]; 3] = [*b"INQ", *b"LTR", *b"MTQ"];
+
+const WEIGHT_UNITS: [[u8; 3]; 3] = [*b"KGM", *b"LBR", *b"MGM"];
 
 // One of the units, or none where no value needs one.
-fn length_unit_ok(s: &[u8], at: usize, needed: bool) -> bool
+fn unit_ok(s: &[u8], at: usize, units: &[[u8; 3]], needed: bool) -> bool
     requires { at + 3 ≤ length s.now }
-    ensures { Says (unit_ok needed length_units (take 3 (drop at s.now))) result }
+    ensures { Says (unit_ok needed units.now (take 3 (drop at s.now))) result }
 {
-    is_unit(s, at, b'C', b'M', b'T')
-        | is_unit(s, at, b'F', b'O', b'T')
-        | is_unit(s, at, b'I', b'N', b'H')
-        | is_unit(s, at, b'M', b'M', b'T')
-        | is_unit(s, at, b'M', b'T', b'R')
-        | (is_unit(s, at, 0, 0, 0) & !needed)
-}
-
-fn volume_unit_ok(s: &[u8], at: usize, needed: bool) -> bool
-    requires { at + 3 ≤ length s.now }
-    ensures { Says (unit_ok needed volume_units (take 3 (drop at s.now))) result }
-{
-    is_unit(s, at, b'I', b'N', b'Q')
-        | is_unit(s, at, b'L', b'T', b'R')
-        | is_unit(s, at, b'M', b'T', b'Q')
-        | (is_unit(s, at, 0, 0, 0) & !needed)
-}
-
-fn weight_unit_ok(s: &[u8], at: usize, needed: bool) -> bool
-    requires { at + 3 ≤ length s.now }
-    ensures { Says (unit_ok needed weight_units (take 3 (drop at s.now))) result }
-{
-    is_unit(s, at, b'K', b'G', b'M')
-        | is_unit(s, at, b'L', b'B', b'R')
-        | is_unit(s, at, b'M', b'G', b'M')
-        | (is_unit(s, at, 0, 0, 0) & !needed)
+    let one_of_them = units
+        .iter()
+        .fold(false, |found, unit| found | is_unit(s, at, unit));
+    one_of_them | (is_unit(s, at, &[0, 0, 0]) & !needed)
 }
 
 // Whether the units behind the presence byte at p and its values go with the byte.
@@ -108,9 +92,9 @@ fn units_ok(s: &[u8], p: usize) -> bool
     let of_length = is_present(present, 1) | (is_present(present, 2) | is_present(present, 4));
     let of_volume = is_present(present, 8);
     let of_weight = is_present(present, 16) | is_present(present, 32);
-    length_unit_ok(s, p + 33, of_length)
-        & volume_unit_ok(s, p + 36, of_volume)
-        & weight_unit_ok(s, p + 39, of_weight)
+    unit_ok(s, p + 33, &LENGTH_UNITS, of_length)
+        & unit_ok(s, p + 36, &VOLUME_UNITS, of_volume)
+        & unit_ok(s, p + 39, &WEIGHT_UNITS, of_weight)
 }
 
 pub fn packaging_ok(s: &[u8], presence: usize) -> bool

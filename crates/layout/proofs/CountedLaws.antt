@@ -81,6 +81,12 @@ module _ {A : Type 0} (m : Layout A) (value : List ℕ → ℕ → A) (stop : Li
       rest = λ ok r. reads_as (then_reads _ _ (such_reads byte (between 0 32) (byte_at s at h)) (rw is.is at r)) (ap (λ (b : Bool). b && ok) (is_between 0 32 (get_or s at 0) (omega arith) (omega (arith, is.is)))) refl;
     }
 
+    -- none of them passed
+    pub count_first : n ≤ 32 → Left m value stop s at (at + 1) (n - 0)
+    count_first g =
+        let e : n - 0 ≡ n = omega arith in
+        rw e (count_start g)
+
 module _ {A : Type 0} {m : Layout A} {value : List ℕ → ℕ → A} {stop : List ℕ → ℕ → ℕ} {s : List ℕ} {at end : ℕ} where
   pub count_end : {n : ℕ} → Left m value stop s at end n → n ≤ 0 → Ends (counted m) (counted_at value stop) (counted_stop stop) s at end
   unfolding values_at stop_after
@@ -108,6 +114,12 @@ module _ {A : Type 0} {m : Layout A} {value : List ℕ → ℕ → A} {stop : Li
         ends = inv.ends;
         rest = λ ok q. inv.rest ok (reads_as (times_step n p.reads q) (rw (lt-ltb 0 r h)) refl);
       })
+
+  -- the next of n values, i of which are passed
+  pub count_next : {n i r : ℕ} → Left m value stop s at end (n - i) → i < n → Ends m value stop s end r → 0 < r → Left m value stop s at r (n - (i + 1))
+  count_next {n} {i} inv g p h =
+      let e : n - i - 1 ≡ n - (i + 1) = omega arith in
+      rw e at (count_again inv (omega arith) p h)
 
 -- ---- of an accepted count: every value is there
 
@@ -197,6 +209,12 @@ module _ {A : Type 0} {m : Layout A} {value : List ℕ → ℕ → A} {stop : Li
   pass_again {n = suc n} p h e =
       let f : suc n - 1 ≡ n = omega arith in
       rw (e, f) (record { left = rw f at (walk_step p.left h).rest; ends = p.ends })
+
+  -- the next of n values, i of which are passed
+  pub pass_next : {at n i end r : ℕ} → Passing m value stop s at (n - i) end → i < n → r ≡ stop s at → Passing m value stop s r (n - (i + 1)) end
+  pass_next {n} {i} p h e =
+      let f : n - i - 1 ≡ n - (i + 1) = omega arith in
+      rw f at (pass_again p (omega arith) e)
 
   pub pass_end : {at n end : ℕ} → Passing m value stop s at n end → n ≤ 0 → at ≡ end
   unfolding stop_after

@@ -15,7 +15,7 @@ use Rattle.rules.specs.Bytes.{number, head_of, head, big}
 use Rattle.rules.specs.BookLayout.{most_bytes}
 use Rattle.rules.specs.Question.{versions}
 use Rattle.layout.specs.Reads.{only, when, Reads}
-use Rattle.layout.specs.Ensures.{Says, Number, head_in, question_head_ok, head_ok, book_head_ok}
+use Rattle.layout.specs.Ensures.{Says, head_in, question_head_ok, head_ok, book_head_ok}
 use Rattle.layout.proofs.LayoutLaws.{then_reads, then_broken, then_when, if_reads, such_reads, reads_as, number_at_lem, number_cut, one_of_at, one_of_cut}
 use Rattle.layout.proofs.SequenceLaws.{repeated_step, repeated_broken}
 
@@ -25,15 +25,6 @@ module _ (s : List ℕ) where
   -- in fewer bytes no version is read
   pub head_short : length s < 5 → head_ok s ≡ false
   head_short h = rw (get_or-eq_default s 0 {n = 4} (omega arith)) (and-false (eqb (length s) (big (take 4 s))))
-
-  pub no_head : length s < 5 → Says (head_ok s) false
-  no_head h = record { is = head_short h }
-
-  pub head_is : {n top : ℕ} → Number (big (take 4 (drop 0 s))) top n → Says (head_ok s) (eqb (length s) n && eqb (get_or s 4 0) 1)
-  head_is p = record { is = rw p.is }
-
-  pub book_head_is : {r : Bool} → Says (head_ok s) r → Says (book_head_ok s) (leb (length s) 4_194_304 && r)
-  book_head_is p = record { is = rw p.is }
 
   pub head_long : head_ok s ≡ true → 5 ≤ length s
   head_long e = go (dec_lt (length s) 5)
@@ -69,10 +60,6 @@ module _ (s : List ℕ) where
 
   pub no_question_head : length s < 5 → Says (question_head_ok s) false
   no_question_head h = record { is = head_in_short versions refl h }
-
-  pub question_head_is : {n top : ℕ} {r : Bool} → Number (big (take 4 (drop 0 s))) top n → Says (any (eqb (get_or s 4 0)) (1 ∷ 2 ∷ [])) r
-      → Says (question_head_ok s) (eqb (length s) n && r)
-  question_head_is p q = record { is = rw (p.is, q.is) }
 
   -- a book, or a text book, is a head and what is behind it
   pub behind_head : {A : Type 0} (m : Layout A) → whole (must (leb (length s) most_bytes) >>= λ _. head (length s) >>= λ _. m) s ≡ when (book_head_ok s) (whole m (drop 5 s))

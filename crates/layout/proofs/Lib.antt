@@ -9,3 +9,4 @@ pub mod FromLaws
 pub mod ReadingLaws
 pub mod CountedLaws
 pub mod NameEndLaws
+pub mod EndLaws

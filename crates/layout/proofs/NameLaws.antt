@@ -6,12 +6,11 @@ use mathlib.Core.List.{List, [], ◌∷◌, map}
 use mathlib.Core.Option.{Option, none}
 use mathlib.Core.Logic.{◌⊎◌, inl, inr}
 use native.Mathlib.Omega.{arith}
-use native.Mathlib.Numerals.{add-one}
 use native.Mathlib.Decide.{dec_lt}
 use lib.Dec.{eqb, leb}
-use lib.ListN.{length, take, drop, get_or, set, drop_of_length-le, length-map, get_or-eq_default, get_or-map}
-use lib.Seq.{drop-cons}
+use lib.ListN.{length, take, drop, get_or, set, length-map, get_or-map}
 use borrow.Author.Tests.{lt-ltb, le-ltb, ne_eqb}
+use Rattle.std.specs.List.{fold, zip}
 use Rattle.rules.specs.Lists.{all, between, is_some, same}
 use Rattle.rules.specs.Layout.{Layout, ◌>>=◌, ◌such◌, byte, whole, wholly}
 use Rattle.rules.specs.Bytes.{name, name_byte, small_letter, raise}
@@ -112,48 +111,21 @@ same_at (x ∷ xs) [] i h n = refl
 same_at (x ∷ xs) (y ∷ ys) zero h n = ap (λ b. b && same xs ys) (ne_eqb x y n)
 same_at (x ∷ xs) (y ∷ ys) (suc i) h n = ap (λ b. eqb x y && b) (same_at xs ys i (omega arith) n) ∙ and-false (eqb x y)
 
-pub record Comparing (xs ys : List ℕ) (ok : Bool) (i : ℕ) : Type 0 where
-  pub long : length xs ≡ length ys
-  pub rest : (ok && same (drop i xs) (drop i ys)) ≡ same xs ys
-
 module _ (xs ys : List ℕ) where
   pub compare_not : (length xs ≡ length ys → ⊥) → Says (same xs ys) false
   compare_not n = record { is = same_length xs ys n }
 
-  pub compare_none : length xs ≡ length ys → length xs < 1 → Says (same xs ys) true
-  compare_none e h = record { is = go xs ys e h }
-    where
-      go : (xs ys : List ℕ) → length xs ≡ length ys → length xs < 1 → same xs ys ≡ true
-      go [] [] e h = refl
-      go [] (y ∷ ys) e h = absurd (omega arith)
-      go (x ∷ xs) ys e h = absurd (omega arith)
-
   pub compare_last : 1 ≤ length xs → (get_or xs (length xs - 1) 0 ≡ get_or ys (length xs - 1) 0 → ⊥) → Says (same xs ys) false
   compare_last h n = record { is = same_at xs ys (length xs - 1) (omega arith) n }
 
-  pub compare_start : length xs ≡ length ys → Comparing xs ys true 0
-  compare_start e = record { long = e; rest = refl }
+pairs_same : (ok : Bool) (xs ys : List ℕ) → length xs ≡ length ys → fold (λ ok (p : ℕ × ℕ). ok && eqb p.0 p.1) ok (zip xs ys) ≡ (ok && same xs ys)
+pairs_same ok [] [] e = sym (and-true ok)
+pairs_same ok [] (y ∷ ys) e = absurd (omega arith)
+pairs_same ok (x ∷ xs) [] e = absurd (omega arith)
+pairs_same ok (x ∷ xs) (y ∷ ys) e = pairs_same (ok && eqb x y) xs ys (omega arith) ∙ and_assoc ok (eqb x y) (same xs ys)
 
-  module _ (ok : Bool) (i : ℕ) (inv : Comparing xs ys ok i) where
-    -- past the end, too, where nothing is left to compare
-    pub compare_again : Comparing xs ys (ok && eqb (get_or xs i 0) (get_or ys i 0)) (i + 1)
-    compare_again = record { long = inv.long; rest = rw (and_assoc, add-one) (sym (ap (λ t. ok && t) (go (dec_lt i (length xs)))) ∙ inv.rest) }
-      where
-        go : Dec (i < length xs) → same (drop i xs) (drop i ys) ≡ (eqb (get_or xs i 0) (get_or ys i 0) && same (drop (suc i) xs) (drop (suc i) ys))
-        go (yes h) =
-            let k : i < length ys = omega (arith, inv.long) in
-            rw (drop-cons xs i 0, drop-cons ys i 0)
-        go (no h) =
-            let a : length xs ≤ i = omega arith in
-            let b : length ys ≤ i = omega (arith, inv.long) in
-            let c : length xs ≤ suc i = omega arith in
-            let d : length ys ≤ suc i = omega arith in
-            rw (drop_of_length-le xs a, drop_of_length-le ys b, drop_of_length-le xs c, drop_of_length-le ys d, get_or-eq_default xs 0 a, get_or-eq_default ys 0 b)
-
-    pub compare_end : length xs ≤ i → Says (same xs ys) ok
-    compare_end h =
-        let k : length ys ≤ i = omega (arith, inv.long) in
-        record { is = sym inv.rest ∙ rw (drop_of_length-le xs h, drop_of_length-le ys k) (and-true ok) }
+pub compare_all : (xs ys : List ℕ) → length xs ≡ length ys → {r : Bool} → r ≡ fold (λ ok (p : ℕ × ℕ). ok && eqb p.0 p.1) true (zip xs ys) → Says (same xs ys) r
+compare_all xs ys e f = record { is = sym (f ∙ pairs_same true xs ys e) }
 
 -- ---- raised
 

@@ -1,32 +1,19 @@
 -- Numbers in bytes, and tests of a byte: what the code of `numbers` computes is what the definitions say.
 use Prim.Native.Nat.{ℕ, suc, ◌+◌, ◌*◌, ◌-◌, ◌/◌, ◌^◌, ◌≤◌, ◌<◌}
 use mathlib.Core.Path.{◌≡◌, refl, sym, ◌∙◌, ap}
-use mathlib.Core.Bool.{◌||◌, or-false, or_assoc, cond}
 use mathlib.Core.List.{List, [], ◌∷◌, ◌++◌}
 use native.Mathlib.Omega.{arith}
 use native.Mathlib.Nat.{pow-succ', mul_assoc, add-mul, add_assoc}
-use native.Mathlib.Decide.{dec_lt}
-use lib.Dec.{eqb, leb, ltb}
 use lib.ListN.{length, take, drop, get_or, length-drop}
 use lib.Seq.{drop-cons, drop-drop, take-add, length-take-le}
-use lib.IntN.{ℤ, pos, negsuc, ◌-ℤ◌}
+use lib.IntN.{pos, negsuc, ◌-ℤ◌}
 use mir.Syntax.{w64}
 use mir.Val.{SFits, to_z}
 use mir.ValLaws.{to_z_pos}
-use borrow.Author.Tests.{lt-leb, lt-ltb, le-ltb}
-use Rattle.rules.specs.Lists.{any}
-use Rattle.rules.specs.Bytes.{big_from, big, signed_of, either_side}
+use borrow.Author.Tests.{lt-ltb, le-ltb}
+use Rattle.rules.specs.Bytes.{big_from, big}
 use Rattle.integers.proofs.FloorLaws.{flip_pos}
-use Rattle.layout.specs.Ensures.{Says, Number, SignedNumber, signed_in}
-
--- ---- tests of a byte
-
-module _ (b x y : ℕ) where
-  pub either_is : Says (any (eqb b) (x ∷ y ∷ [])) (eqb b x || eqb b y)
-  either_is = record { is = ap (λ t. eqb b x || t) (or-false (eqb b y)) }
-
-  pub three_is : (z : ℕ) → Says (any (eqb b) (x ∷ y ∷ z ∷ [])) (eqb b x || eqb b y || eqb b z)
-  three_is z = record { is = ap (λ t. eqb b x || (eqb b y || t)) (or-false (eqb b z)) ∙ sym (or_assoc (eqb b x) (eqb b y) (eqb b z)) }
+use Rattle.layout.specs.Ensures.{Number, SignedNumber, signed_in}
 
 -- ---- a number is that of its halves
 
@@ -61,9 +48,6 @@ module _ (s : List ℕ) (at : ℕ) where
         ∙ (big_from_lem (big (take j (drop at s))) (take k (drop (at + j) s))
         ∙ ap (λ n. big (take j (drop at s)) * 256 ^ n + big (take k (drop (at + j) s))) e)))
 
-  pub two_is : {x y : ℕ} → at + 2 ≤ length s → Number (get_or s at 0) 256 x → Number (get_or s (at + 1) 0) 256 y → Number (big (take 2 (drop at s))) 65536 (x * 256 + y)
-  two_is h p q = record { is = omega (arith, halves 1 1 h, one s at (omega arith), one s (at + 1) (omega arith)); below = omega arith }
-
   pub four_is : {x y : ℕ} → at + 4 ≤ length s → Number (big (take 2 (drop at s))) 65536 x → Number (big (take 2 (drop (at + 2) s))) 65536 y
       → Number (big (take 4 (drop at s))) 4294967296 (x * 65536 + y)
   four_is h p q = record { is = omega (arith, halves 2 2 h); below = omega arith }
@@ -80,27 +64,3 @@ module _ (n top : ℕ) where
 
   pub high_fits : top < 18446744073709551616 → n ≤ top → top / 2 < n → SFits w64 (negsuc 0 -ℤ pos (top - n))
   high_fits f h g = rw flip_pos (record { sfits = omega arith })
-
-pub signed_as : {x top n most : ℕ} {r : ℤ} (f : ℕ → ℤ) → Number x top n → SignedNumber (f n) most r → SignedNumber (f x) most r
-signed_as f p q = record { is = q.is ∙ ap f p.is; within = q.within }
-
--- either side of zero, by the unsigned number
-pub near_is : (n most : ℕ) → n < 4294967296 → most < 2147483648 → Says (either_side most (signed_of 4 n)) (leb n most || ltb (4294967295 - most) n)
-near_is n most h g = go (dec_lt n 2147483648)
-  where
-    tests : (m : ℕ) → m ≡ 4294967295 - n → 2147483648 ≤ n → ltb m most ≡ ltb (4294967295 - most) n
-    tests m e l = both (dec_lt m most)
-      where
-        both : Dec (m < most) → ltb m most ≡ ltb (4294967295 - most) n
-        both (yes k) = lt-ltb m most k ∙ sym (lt-ltb (4294967295 - most) n (omega arith))
-        both (no k) = le-ltb m most (omega arith) ∙ sym (le-ltb (4294967295 - most) n (omega arith))
-
-    go : Dec (n < 2147483648) → Says (either_side most (signed_of 4 n)) (leb n most || ltb (4294967295 - most) n)
-    go (yes l) = record {
-      is = ap (λ t. either_side most (cond t (pos n) (negsuc (4294967295 - n)))) (lt-ltb n 2147483648 l)
-          ∙ (sym (or-false (leb n most)) ∙ ap (λ t. leb n most || t) (sym (le-ltb (4294967295 - most) n (omega arith))));
-    }
-    go (no l) = record {
-      is = ap (λ t. either_side most (cond t (pos n) (negsuc (4294967295 - n)))) (le-ltb n 2147483648 (omega arith))
-          ∙ (tests (4294967295 - n) refl (omega arith) ∙ ap (λ t. t || ltb (4294967295 - most) n) (sym (lt-leb n most (omega arith))));
-    }

@@ -1,18 +1,18 @@
 -- Any layout at a place: one value and then n more, what a broken or a good field says of the whole, too few bytes, nothing behind.
 use Prim.Native.Nat.{ℕ, suc, ◌+◌, ◌-◌, ◌≤◌, ◌<◌}
 use mathlib.Core.Path.{◌≡◌, refl, sym, ◌∙◌, ap}
-use mathlib.Core.Bool.{Bool, true, false, ◌&&◌, and-true, and_assoc}
-use mathlib.Core.List.{List, ◌∷◌}
+use mathlib.Core.Bool.{Bool, true, false, ◌&&◌, ◌||◌, and-true, and_assoc, or-false, or_assoc}
+use mathlib.Core.List.{List, [], ◌∷◌}
 use mathlib.Core.Option.{Option, some, none, none-ne-some, some-injective}
 use native.Mathlib.Omega.{arith}
-use native.Mathlib.Numerals.{add-one}
 use native.Mathlib.Nat.{not-suc-le-zero}
 use native.Mathlib.Decide.{dec_lt}
 use lib.Dec.{eqb}
-use lib.ListN.{length, drop, get_or, length-drop, drop_of_length-le}
+use lib.ListN.{length, drop, length-drop, drop_of_length-le}
 use lib.Seq.{drop-cons}
 use borrow.Author.Tests.{eq-eqb, ne_eqb}
-use Rattle.rules.specs.Lists.{all, is_some}
+use Rattle.std.specs.List.{fold}
+use Rattle.rules.specs.Lists.{all, any, is_some}
 use Rattle.rules.specs.Layout.{Layout, and_then, ◌>>=◌, times, whole, wholly}
 use Rattle.layout.specs.Ensures.{Says}
 use Rattle.layout.specs.Reads.{only, when, Reads, Sized, Wants}
@@ -76,15 +76,19 @@ whole_at m {s} {at} {end} {ok} {v} p h = ap (λ o. is_some (wholly o)) p.is ∙ 
         let l : length s ≤ end = omega arith in
         rw (drop_of_length-le s l) (sym (eq-eqb end (length s) (omega arith)))
 
--- ---- a flag to the end: it and what is left are the whole answer, for any test of a byte
+-- ---- a flag to the end is the whole answer, for any test
 
-module _ (test : ℕ → Bool) (s : List ℕ) where
-  pub flag_start : (true && all test (drop 0 s)) ≡ all test s
-  flag_start = refl
+module _ {A : Type 0} (test : A → Bool) where
+  all_from : (ok : Bool) (s : List A) → fold (λ ok b. ok && test b) ok s ≡ (ok && all test s)
+  all_from ok [] = sym (and-true ok)
+  all_from ok (b ∷ s) = all_from (ok && test b) s ∙ and_assoc ok (test b) (all test s)
 
-  module _ (i : ℕ) (ok : Bool) (inv : (ok && all test (drop i s)) ≡ all test s) where
-    pub flag_again : {r : Bool} → i < length s → Says (test (get_or s i 0)) r → ((ok && r) && all test (drop (i + 1) s)) ≡ all test s
-    flag_again h p = rw (← p.is, and_assoc, add-one) (sym (rw (drop-cons s i 0)) ∙ inv)
+  pub flag_all : (s : List A) {r : Bool} → r ≡ fold (λ ok b. ok && test b) true s → Says (all test s) r
+  flag_all s e = record { is = sym (e ∙ all_from true s) }
 
-    pub flag_end : length s ≤ i → Says (all test s) ok
-    flag_end h = record { is = sym inv ∙ rw (drop_of_length-le s h) (and-true ok) }
+  any_from : (found : Bool) (s : List A) → fold (λ found b. found || test b) found s ≡ (found || any test s)
+  any_from found [] = sym (or-false found)
+  any_from found (b ∷ s) = any_from (found || test b) s ∙ or_assoc found (test b) (any test s)
+
+  pub flag_any : (s : List A) {r : Bool} → r ≡ fold (λ found b. found || test b) false s → Says (any test s) r
+  flag_any s e = record { is = sym (e ∙ any_from false s) }

@@ -1,13 +1,13 @@
 -- Bytes written at a place: one by one, one field behind the other, a number by its halves, and what was written is read back.
 use Prim.Native.Nat.{ℕ, zero, suc, ◌+◌, ◌*◌, ◌-◌, ◌/◌, ◌%◌, ◌^◌, ◌≤◌, ◌<◌}
-use mathlib.Core.Path.{◌≡◌, refl, sym, ◌∙◌, ap, ap₂, subst}
+use mathlib.Core.Path.{◌≡◌, refl, sym, ◌∙◌, ap, ap₂}
 use mathlib.Core.List.{List, [], ◌∷◌, ◌++◌, append_assoc}
 use native.Mathlib.Omega.{arith}
 use native.Mathlib.Numerals.{add-one}
 use native.Mathlib.Nat.{add-zero, zero-add, zero-mul, add-suc, suc-add, add_comm, one-le-pow, pow-succ', two-pow-succ, mod-lt, mod-mod, mod-eq_of_lt, div-div-eq-div-mul}
 use lib.Arith.{mod-mul, digits_div, digits_mod}
 use lib.Pow.{pow-add}
-use lib.ListN.{length, take, drop, get_or, set, replicate, length-append, length-set, length-replicate, get_or-replicate, drop_of_length-le}
+use lib.ListN.{length, take, drop, get_or, set, replicate, length-append, length-set, drop_of_length-le}
 use lib.Seq.{get_or-set_other, sets, sets-eq, length-sets, take_at, drop_at, drop-cons, length-take-le}
 use lib.IntN.{ℤ, pos, negsuc, nat_abs, ◌-ℤ◌}
 use lib.Signed.{mag, ◌≤ℤ◌, ◌<ℤ◌}
@@ -85,23 +85,12 @@ module _ (old : List ℕ) (at : ℕ) (bytes : List ℕ) where
     pub store_end : at + length bytes ≤ length old → length bytes ≤ i → Puts old at bytes out
     store_end g h = puts_of g (sym (ap (sets out (at + i)) (drop_of_length-le bytes h)) ∙ inv.rest)
 
-    pub store_to : at + length bytes ≤ length old → length bytes ≤ i → PutsTo old at bytes out (at + length bytes)
-    store_to g h = record { puts = store_end g h; ends = refl }
-
 -- nothing, and one byte string behind the other
 pub to_nothing : {old : List ℕ} {at : ℕ} → at ≤ length old → PutsTo old at [] old at
 to_nothing h = record { puts = puts_of (omega arith) refl; ends = omega arith }
 
 pub to_then : {a b c xs ys : List ℕ} {at m r : ℕ} → PutsTo a at xs b m → PutsTo b m ys c r → PutsTo a at (xs ++ ys) c r
 to_then {xs = xs} {ys} p q = record { puts = puts_then p.puts (sym p.ends) q.puts; ends = omega (arith, p.ends, q.ends, length-append xs ys) }
-
--- one byte, n times
-module _ (old : List ℕ) (at b n : ℕ) (out : List ℕ) (i : ℕ) (inv : Storing old at (replicate n b) out i) where
-  pub run_again : i < n → Storing old at (replicate n b) (set out (at + i) b) (i + 1)
-  run_again h = rw (get_or-replicate n i b 0) at (store_again old at (replicate n b) out i inv (rw length-replicate h))
-
-  pub run_to : at + n ≤ length old → n ≤ i → PutsTo old at (replicate n b) out (at + n)
-  run_to g h = rw length-replicate at (store_to old at (replicate n b) out i inv (rw length-replicate g) (rw length-replicate h))
 
 -- ---- the bytes of a number
 
@@ -170,13 +159,6 @@ twos_room (negsuc n) top h g = rw flip_neg g
 pub twos_high : (v : ℤ) (top : ℕ) → v <ℤ pos 0 → mag v ≤ top → Number (twos_in top v) (top + 1) (top - nat_abs (negsuc 0 -ℤ v))
 twos_high (pos n) top h g = absurd (omega (arith, lt_in h))
 twos_high (negsuc n) top h g = rw flip_neg (record { is = refl; below = omega arith })
-
-twos_as : (k : ℕ) (v : ℤ) → twos_in (2 ^ (8 * k) - 1) v ≡ twos k v
-twos_as k (pos n) = refl
-twos_as k (negsuc n) = refl
-
-pub puts_signed : {s t : List ℕ} {at : ℕ} (k n : ℕ) (v : ℤ) → n ≡ twos_in (2 ^ (8 * k) - 1) v → Puts s at (bytes_of k n) t → Puts s at (signed_bytes_of k v) t
-puts_signed {s} {t} {at} k n v e p = subst (λ (m : ℕ). Puts s at (bytes_of k m) t) (e ∙ twos_as k v) p
 
 -- ---- read back
 

@@ -2,4 +2,5 @@ pub mod Reads
 pub mod Counted
 pub mod Names
 pub mod Ensures
+pub mod Ends
 pub mod Records

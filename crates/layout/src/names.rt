@@ -3,6 +3,7 @@ ghost use Rattle.std.specs.Prelude.{◌+◌, ◌≤◌, map, length};
 ghost use Rattle.rules.specs.Lists.{all, same};
 ghost use Rattle.rules.specs.Bytes.{name_byte, small_letter, raise};
 ghost use Rattle.layout.specs.Ensures.{Says, Number, NameEnd, Puts};
+ghost use Rattle.layout.specs.Ends.{EndOrNone};
 
 use crate::numbers::wide;
 
@@ -16,33 +17,27 @@ pub fn is_name_byte(b: u8) -> bool
 pub fn all_name_bytes(s: &[u8]) -> bool
     ensures { Says (all name_byte s.now) result }
 {
-    let mut ok = true;
-    let mut i = 0;
-    while i < s.len() {
-        ok = ok & is_name_byte(s[i]);
-        i += 1;
-    }
-    ok
+    s.iter().fold(true, |ok, b| ok & is_name_byte(*b))
 }
 
-// The end of the name of lo to hi bytes at `at`, or 0.
-pub fn name_end(s: &[u8], at: usize, lo: usize, hi: usize) -> usize
+// Where the name of lo to hi bytes at `at` ends, if one stands there.
+pub fn name_end(s: &[u8], at: usize, lo: usize, hi: usize) -> Option<usize>
     requires { at ≤ length s.now }
-    ensures { NameEnd lo hi s.now at result }
+    ensures { EndOrNone (NameEnd lo hi s.now at) result }
 {
     if s.len() <= at {
-        return 0;
+        return None;
     }
     let n = wide(s[at]);
     let from = at + 1;
     if s.len() - from < n {
-        return 0;
+        return None;
     }
     let end = from + n;
     if (lo <= n) & (n <= hi) & all_name_bytes(&s[from..end]) {
-        end
+        Some(end)
     } else {
-        0
+        None
     }
 }
 
@@ -61,13 +56,7 @@ pub fn same_bytes(a: &[u8], b: &[u8]) -> bool
     if a[last] != b[last] {
         return false;
     }
-    let mut ok = true;
-    let mut i = 0;
-    while i < a.len() {
-        ok = ok & (a[i] == b[i]);
-        i += 1;
-    }
-    ok
+    a.iter().zip(b).fold(true, |ok, (x, y)| ok & (x == y))
 }
 
 // One that has a capital in Latin-1; 247 is the sign of division.
@@ -88,9 +77,7 @@ pub fn put_raised(out: &mut [u8], at: usize, name: &[u8])
     requires { at + length name.now ≤ length out.old }
     ensures { Puts out.old at (map raise name.now) out.new }
 {
-    let mut i = 0;
-    while i < name.len() {
-        out[at + i] = raise_byte(name[i]);
-        i += 1;
+    for (i, b) in name.iter().enumerate() {
+        out[at + i] = raise_byte(*b);
     }
 }

@@ -103,16 +103,11 @@ pub fn near_zero(n: usize, most: usize) -> bool
     (n <= most) | (4294967295 - most < n)
 }
 
-pub fn is_either(b: u8, x: u8, y: u8) -> bool
-    ensures { Says (any (eqb b) (x ∷ y ∷ [])) result }
+// A flag to the end: of a few bytes that are written at the call, no loop is left.
+pub fn is_one_of(b: u8, of: &[u8]) -> bool
+    ensures { Says (any (eqb b) of.now) result }
 {
-    (b == x) | (b == y)
-}
-
-pub fn is_of_three(b: u8, x: u8, y: u8, z: u8) -> bool
-    ensures { Says (any (eqb b) (x ∷ y ∷ z ∷ [])) result }
-{
-    (b == x) | (b == y) | (b == z)
+    of.iter().fold(false, |found, x| found | (b == *x))
 }
 
 pub fn is_capital(b: u8) -> bool

@@ -6,10 +6,9 @@ pub fn put_bytes(out: &mut [u8], at: usize, bytes: &[u8]) -> usize
     requires { at + length bytes.now ≤ length out.old }
     ensures { PutsTo out.old at bytes.now out.new result }
 {
-    let mut i = 0;
-    while i < bytes.len() {
-        out[at + i] = bytes[i];
-        i += 1;
+    // As it is: a loop, since `copy_from_slice` calls memmove, and of the C library only memcpy and memset may be called.
+    for (i, b) in bytes.iter().enumerate() {
+        out[at + i] = *b;
     }
     at + bytes.len()
 }
@@ -18,10 +17,7 @@ pub fn put_run(out: &mut [u8], at: usize, byte: u8, n: usize) -> usize
     requires { at + n ≤ length out.old }
     ensures { PutsTo out.old at (replicate n byte) out.new result }
 {
-    let mut i = 0;
-    while i < n {
-        out[at + i] = byte;
-        i += 1;
-    }
-    at + n
+    let end = at + n;
+    out[at..end].fill(byte);
+    end
 }

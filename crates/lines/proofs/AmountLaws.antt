@@ -10,13 +10,10 @@ use lib.IntN.{ℤ, pos, nat_abs, ◌+ℤ◌}
 use lib.ListN.{length, take, drop, get_or, set, replicate, length-set}
 use lib.Seq.{take-suc-set}
 use Rattle.rules.specs.Lists.{any}
-use Rattle.rules.specs.Book.{rule_number}
 use Rattle.rules.specs.Amounts.{exact, factored, rounded}
 use Rattle.rules.specs.Lines.{most_total, total_of}
 use Rattle.rules.specs.declared.Cents.{Cents}
 use Rattle.rules.specs.declared.Fraction.{Fraction}
-use Rattle.rules.specs.declared.Rule.{Rule}
-use Rattle.rules.specs.declared.Rule.TheVariants.{OfBase, OfTotal}
 use Rattle.rules.specs.declared.Total.TheVariants.{InRange, OutOfRange}
 use Rattle.rules.proofs.ListLaws.{All}
 use Rattle.layout.specs.Ensures.{Says}
@@ -33,14 +30,6 @@ use Rattle.lines.proofs.WalkLaws.{next_view, views_end, Comparing}
 -- by a test that was said
 pub one_said : {a t : Bool} {x y r : ℤ} → Says a t → OneOfTwo t x y r → OneOfTwo a x y r
 one_said s o = record { is = rw s.is o.is }
-
--- what a percentage is of
-module _ (rule : Rule) (base total : ℤ) where
-  pub of_base : rule ≡ OfBase → OneOfTwo (eqb (rule_number rule) 1) base total base
-  of_base e = record { is = rw e }
-
-  pub of_total : rule ≡ OfTotal → OneOfTwo (eqb (rule_number rule) 1) base total total
-  of_total e = record { is = rw e }
 
 -- one of two amounts is within the bound of both
 pub one_in : (t : Bool) (a b r : ℤ) (most : ℕ) → OneOfTwo t a b r → nat_abs a ≤ most → nat_abs b ≤ most → nat_abs r ≤ most

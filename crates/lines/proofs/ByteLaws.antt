@@ -3,27 +3,19 @@ use Prim.Native.Nat.{ℕ, ◌+◌, ◌*◌, ◌≤◌, ◌<◌}
 use mathlib.Core.Path.{◌≡◌, refl, sym, ap, ◌∙◌}
 use mathlib.Core.List.{List, [], ◌∷◌, ◌++◌}
 use native.Mathlib.Omega.{arith}
-use native.Mathlib.Numerals.{add-one}
 use lib.IntN.{ℤ}
-use lib.ListN.{length, drop, get_or, set, length-append}
+use lib.ListN.{length, drop, get_or, length-append}
 use lib.Seq.{sets}
 use Rattle.rules.specs.Bytes.{bytes_of, signed_bytes_of}
-use Rattle.rules.specs.Book.{letter_of}
 use Rattle.rules.specs.Lines.{line_size}
 use Rattle.rules.specs.declared.Cents.{Cents}
-use Rattle.rules.specs.declared.Level.{Level}
-use Rattle.rules.specs.declared.Level.TheVariants.{Base, Surcharge, Discount}
 use Rattle.layout.specs.Ensures.{Number, Puts, PutsTo}
 use Rattle.layout.proofs.StoreLaws.{puts_of, puts_then, sets_of, sets_sets}
 use Rattle.lines.specs.declared.Pick.{Pick}
 use Rattle.lines.specs.Views.{View, view_in, views_in, no_pick, amounts_in, no_cents, view_bytes, views_bytes}
-use Rattle.lines.specs.Ensures.{Writable}
 use Rattle.lines.proofs.WalkLaws.{next_view, views_end, views_count, next_amount, amounts_count}
 
 -- ---- a line
-
-pub pair_puts : (s : List ℕ) (at x y : ℕ) → at + 2 ≤ length s → Puts s at (x ∷ y ∷ []) (set (set s at x) (at + 1) y)
-pair_puts s at x y h = puts_of h (ap (λ (i : ℕ). set (set s at x) i y) (add-one at))
 
 module _ (v : View) (z : ℤ) where
   pub line_length : length (view_bytes v z) ≡ line_size
@@ -32,16 +24,6 @@ module _ (v : View) (z : ℤ) where
   pub line_puts : {a b c d e : List ℕ} {at letter top : ℕ} → Number v.level top letter → Puts a at (bytes_of 4 v.text) b → Puts b (at + 4) (letter ∷ v.place ∷ []) c
       → Puts c (at + 6) (signed_bytes_of 8 z) d → Puts d (at + 14) (bytes_of 2 v.factor) e → Puts a at (view_bytes v z) e
   line_puts l p q r f = puts_then p refl (puts_then (rw l.is at q) (omega arith) (puts_then r (omega arith) f))
-
-module _ (level : Level) where
-  pub letter_base : level ≡ Base → Number (letter_of level) 256 66
-  letter_base e = record { is = rw e; below = omega arith }
-
-  pub letter_surcharge : level ≡ Surcharge → Number (letter_of level) 256 88
-  letter_surcharge e = record { is = rw e; below = omega arith }
-
-  pub letter_discount : level ≡ Discount → Number (letter_of level) 256 68
-  letter_discount e = record { is = rw e; below = omega arith }
 
 -- ---- lines
 
@@ -72,18 +54,6 @@ pub record Writing (old : List ℕ) (from : ℕ) (picks : List Pick) (amounts : 
   pub rest : sets out (from + line_size * i) (views_bytes (drop i (views_in picks n)) (drop i (amounts_in amounts n))) ≡ sets old from (views_bytes (views_in picks n) (amounts_in amounts n))
 
 module _ (old : List ℕ) (from : ℕ) (picks : List Pick) (amounts : List Cents) (n : ℕ) where
-  pub write_start : n ≤ length picks → n ≤ length amounts → Writable old from amounts n → Writing old from picks amounts n old 0
-  write_start k l g =
-      let e : from + line_size * 0 ≡ from = omega arith in
-      record {
-        place = omega arith;
-        long = k;
-        long₂ = l;
-        room = g.room;
-        same = refl;
-        rest = ap (λ (j : ℕ). sets old j (views_bytes (views_in picks n) (amounts_in amounts n))) e;
-      }
-
   module _ (out : List ℕ) (i : ℕ) (inv : Writing old from picks amounts n out i) where
     pub write_again : {new : List ℕ} → i < n → Puts out (from + line_size * i) (view_bytes (view_in (get_or picks i no_pick)) (get_or amounts i no_cents).0) new
         → Writing old from picks amounts n new (i + 1)

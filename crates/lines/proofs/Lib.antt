@@ -1,4 +1,5 @@
 pub mod WalkLaws
+pub mod SliceLaws
 pub mod AmountLaws
 pub mod ByteLaws
 pub mod ViewLaws

@@ -1,12 +1,11 @@
 -- What is said of the chosen rows, case by case in the order of the refusals.
 use Prim.Native.Nat.{ℕ, ◌≤◌, ◌<◌}
 use mathlib.Core.Option.{some, none}
-use mathlib.Core.Path.{◌≡◌, refl, sym, ◌∙◌}
-use mathlib.Core.Bool.{Bool, true, false, ◌||◌, not}
+use mathlib.Core.Path.{◌≡◌, refl, sym, ◌∙◌, subst}
+use mathlib.Core.Bool.{Bool, true, false, not}
 use mathlib.Core.List.{List}
 use native.Mathlib.Omega.{arith}
 use native.Mathlib.Nat.{le_refl}
-use lib.Dec.{eqb}
 use lib.ListN.{length, get_or}
 use borrow.Author.Tests.{lt-ltb, le-ltb}
 use Rattle.rules.specs.Lists.{first}
@@ -16,6 +15,7 @@ use Rattle.rules.specs.Question.{Question, letters_of}
 use Rattle.rules.specs.Refusals.{refused}
 use Rattle.rules.specs.Price.{priced}
 use Rattle.rules.specs.declared.Cents.{Cents}
+use Rattle.rules.specs.declared.Currency.{Currency}
 use Rattle.rules.specs.declared.Total.{Total}
 use Rattle.rules.specs.declared.Total.TheVariants.{InRange, OutOfRange}
 use Rattle.rules.proofs.TestLaws.{so, not_so}
@@ -28,7 +28,7 @@ use Rattle.lines.specs.declared.verdict.Verdict.{Verdict}
 use Rattle.lines.specs.Views.{view_in, views_in, no_pick, is_base, base_level, one_currency, amounts_of, no_cents}
 use Rattle.lines.specs.Ensures.{StandFor, FirstBase, Listable, ListedIn}
 use Rattle.lines.specs.Verdict.{refused_by, no_price, price_if, judged, VerdictIs}
-use Rattle.lines.proofs.WalkLaws.{no_base_row, some_row, first_row_base}
+use Rattle.lines.proofs.WalkLaws.{no_row_base, no_base_row, first_row_base}
 use Rattle.lines.proofs.AmountLaws.{zeros_in}
 use Rattle.lines.proofs.PricedLaws.{price_4, price_5, price_6, price_done, unit_is, bytes_are}
 
@@ -70,20 +70,33 @@ refused_by_lem {picks} {n} {k} z j p {r} e =
       refuses = λ y book q s. record { is = p book q s; zeros = refl };
     })
 
-module _ {picks : List Pick} {n : ℕ} (ok : Listable picks n) (k : n ≤ length picks) {b : Bool} (said : Says (base_level (get_or picks 0 no_pick).level) b) where
-  pub no_base : (eqb n 0 || not b) ≡ true → {r : Verdict} → r ≡ refused_by 4 → VerdictIs picks n r
-  no_base t e =
-      let none = no_base_row ok k said t in
+pub no_row : {picks : List Pick} → length picks ≡ 0 → {r : Verdict} → r ≡ refused_by 4 → VerdictIs picks (length picks) r
+no_row {picks} z e =
+    let none = no_row_base z in
+    refused_by_lem (λ y. omega arith) (judged_4 picks (length picks) (length picks) none (le_refl (length picks)))
+    (λ book q s. price_4 book q picks (length picks) s (length picks) none (le_refl (length picks))) e
+
+-- p is the first row
+module _ {picks : List Pick} (ok : Listable picks (length picks)) (p : Pick) (h : 0 < length picks) (at : p ≡ get_or picks 0 no_pick) {b : Bool} (tells : Says (base_level p.level) b) where
+  abbrev n : ℕ
+  n = length picks
+
+  said : Says (base_level (get_or picks 0 no_pick).level) b
+  said = subst (λ (x : Pick). Says (base_level x.level) b) at tells
+
+  pub no_base : b ≡ false → {r : Verdict} → r ≡ refused_by 4 → VerdictIs picks (length picks) r
+  no_base f e =
+      let none = no_base_row ok (le_refl n) h said f in
       refused_by_lem (λ y. omega arith) (judged_4 picks n n none (le_refl n)) (λ book q s. price_4 book q picks n s n none (le_refl n)) e
 
-  module _ (t : (eqb n 0 || not b) ≡ false) {l : Listed} (is : ListedIn (letters_of (get_or picks 0 no_pick).currency) picks n l) where
-    h : 0 < n
-    h = some_row ok k said t
-
+  module _ (t : b ≡ true) {l : Listed} (lists : ListedIn (letters_of p.currency) picks (length picks) l) where
     based : FirstBase picks n 0
-    based = first_row_base ok k said t
+    based = first_row_base ok (le_refl n) h said t
 
-    pub two_currencies : not l.one ≡ true → {r : Verdict} → r ≡ refused_by 5 → VerdictIs picks n r
+    is : ListedIn (letters_of (get_or picks 0 no_pick).currency) picks n l
+    is = subst (λ (x : Pick). ListedIn (letters_of x.currency) picks n l) at lists
+
+    pub two_currencies : not l.one ≡ true → {r : Verdict} → r ≡ refused_by 5 → VerdictIs picks (length picks) r
     two_currencies f e =
         refused_by_lem (λ y. omega arith) (judged_5 picks n 0 based h l.one is.one (not_so l.one f))
         (λ book q s. price_5 book q picks n s 0 based h l.one is.one (not_so l.one f)) e
@@ -92,21 +105,21 @@ module _ {picks : List Pick} {n : ℕ} (ok : Listable picks n) (k : n ≤ length
       judged_as : (t : Total) → l.total ≡ t → price_if (letters_of (get_or picks 0 no_pick).currency) t ≡ judged (views_in picks n)
       judged_as t e = judged_by picks n 0 based h l.one is.one (so l.one o) t (sym e ∙ is.list.total)
 
-      pub out_of_range : l.total ≡ OutOfRange → {r : Verdict} → r ≡ refused_by 6 → VerdictIs picks n r
+      pub out_of_range : l.total ≡ OutOfRange → {r : Verdict} → r ≡ refused_by 6 → VerdictIs picks (length picks) r
       out_of_range u e =
           refused_by_lem (λ y. omega arith) (judged_as OutOfRange u) (λ book q s. price_6 book q picks n s 0 based h l.one is.one (so l.one o) l is.list u) e
 
-      pub has_price : {unit : Cents} → l.total ≡ InRange unit
-          → VerdictIs picks n (record {
-            outcome = record {
-              unit = unit;
-              refusal = 0;
-              currency = (get_or picks 0 no_pick).currency;
-            };
-            amounts = l.amounts;
-          })
-      has_price {unit} u =
+      -- a price in this currency
+      abbrev priced_in : Currency → Cents → Verdict
+      priced_in currency unit =
           record {
+            outcome = record { unit = unit; refusal = 0; currency = currency };
+            amounts = l.amounts;
+          }
+
+      pub has_price : {unit : Cents} → l.total ≡ InRange unit → VerdictIs picks (length picks) (priced_in p.currency unit)
+      has_price {unit} u =
+          subst (λ (x : Pick). VerdictIs picks n (priced_in x.currency unit)) (sym at) (record {
             each_in = is.list.each_in;
             unit_in = total_in_range (amounts_of (views_in picks n)) unit (sym is.list.total ∙ u);
             is = record { is = judged_as (InRange unit) u };
@@ -119,4 +132,4 @@ module _ {picks : List Pick} {n : ℕ} (ok : Listable picks n) (k : n ≤ length
               bytes = bytes_are book q picks n s l is.list unit u;
             };
             refuses = λ z. absurd (z refl);
-          }
+          })

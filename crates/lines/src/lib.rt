@@ -43,35 +43,26 @@ struct Listed {
 fn is_base(level: Level) -> bool
     ensures { Says (base_level level) result }
 {
-    match level {
-        Level::Base => true,
-        Level::Surcharge => false,
-        Level::Discount => false,
-    }
+    level == Level::Base
 }
 
 // A percentage is in every currency.
 fn is_in(pick: Pick, c: Currency) -> bool
     ensures { Says (fits (letters_of c) (view_in pick)) result }
 {
-    let value = pick.value;
-    let own = pick.currency;
-    match value {
-        Value::Fixed(_) => (own.0 == c.0) & (own.1 == c.1) & (own.2 == c.2),
+    match pick.value {
+        Value::Fixed(_) => pick.currency == c,
         Value::Percent(_) => true,
     }
 }
 
-// Whether each of the first n rows is in the currency c.
-fn in_one_currency(picks: [Pick; 99], n: usize, c: Currency) -> bool
-    requires { n ≤ 99 }
-    ensures { Says (one_currency (letters_of c) (views_in picks n)) result }
+// Whether each of the rows is in the currency c.
+fn in_one_currency(picks: &[Pick], c: Currency) -> bool
+    ensures { Says (one_currency (letters_of c) (views_in picks.now (length picks.now))) result }
 {
     let mut ok = true;
-    let mut i = 0;
-    while i < n {
-        ok = ok & is_in(picks[i], c);
-        i += 1;
+    for pick in picks {
+        ok &= is_in(*pick, c);
     }
     ok
 }
@@ -101,43 +92,35 @@ fn amount_of(pick: Pick, base: Cents, total: Cents) -> Cents
     requires { LineOn (view_in pick) base.0 total.0 }
     ensures { LineAmount (view_in pick) base.0 total.0 result }
 {
-    let value = pick.value;
-    let rounding = pick.rounding;
-    let rule = pick.rule;
-    let of = share_of(rule, base, total);
-    let exact = amounts::exact(value, of);
+    let of = share_of(pick.rule, base, total);
+    let exact = amounts::exact(pick.value, of);
     let factored = amounts::factored(pick.factor, exact);
-    amounts::rounding::rounded(rounding, factored)
+    amounts::rounding::rounded(pick.rounding, factored)
 }
 
-// The amounts of the first n rows' lines, and whether all rows are in the currency c. Base lines come first, so what they come to is the total
+// The amounts of the rows' lines, and whether all rows are in the currency c. Base lines come first, so what they come to is the total
 // behind the last of them. The total is tested behind each line: one that has left its range is not brought back by a later line.
-fn list_amounts(picks: [Pick; 99], n: usize, c: Currency) -> Listed
-    requires { Listable picks n }
-    ensures { ListedIn (letters_of c) picks n result }
+fn list_amounts(picks: &[Pick], c: Currency) -> Listed
+    requires { Listable picks.now (length picks.now) }
+    ensures { ListedIn (letters_of c) picks.now (length picks.now) result }
 {
     let mut listed = [Cents(0); 99];
     let mut one = true;
     let mut base = Cents(0);
     let mut total = Cents(0);
-    let mut i = 0;
-    while i < n {
-        let pick = picks[i];
-        let amount = amount_of(pick, base, total);
-        let next = amounts::add_line(total, amount);
-        let Total::InRange(after) = next else {
+    for (i, pick) in picks.iter().enumerate() {
+        let amount = amount_of(*pick, base, total);
+        let Total::InRange(after) = amounts::add_line(total, amount) else {
             return Listed {
                 amounts: [Cents(0); 99],
                 total: Total::OutOfRange,
-                one: in_one_currency(picks, n, c),
+                one: in_one_currency(picks, c),
             };
         };
-        let level = pick.level;
-        base = either(is_base(level), after, base);
+        base = either(is_base(pick.level), after, base);
         total = after;
         listed[i] = amount;
-        one = one & is_in(pick, c);
-        i += 1;
+        one &= is_in(*pick, c);
     }
     Listed {
         amounts: listed,
@@ -171,29 +154,19 @@ fn write_line(out: &mut [u8], at: usize, pick: Pick, amount: Cents)
     requires { at + line_size ≤ length out.old }
     ensures { Puts out.old at (view_bytes (view_in pick) amount.0) out.new }
 {
-    let level = pick.level;
-    let letter = letter_of(level);
     put_four(out, at, pick.text);
-    put_pair(out, at + 4, letter, pick.place);
+    put_pair(out, at + 4, letter_of(pick.level), pick.place);
     put_signed_eight(out, at + 6, amount.0);
     put_two(out, at + 14, pick.factor);
 }
 
-// The first n lines, one behind the other, from `at` on, and where they end.
-pub fn write_lines(
-    out: &mut [u8],
-    at: usize,
-    picks: [Pick; 99],
-    amounts: [Cents; 99],
-    n: usize,
-) -> usize
-    requires { Writable out.old at amounts n }
-    ensures { PutsTo out.old at (views_bytes (views_in picks n) (amounts_in amounts n)) out.new result }
+// The lines, one behind the other, from `at` on, and where they end.
+pub fn write_lines(out: &mut [u8], at: usize, picks: &[Pick], amounts: &[Cents; 99]) -> usize
+    requires { Writable out.old at amounts.now (length picks.now) }
+    ensures { PutsTo out.old at (views_bytes (views_in picks.now (length picks.now)) (amounts_in amounts.now (length picks.now))) out.new result }
 {
-    let mut i = 0;
-    while i < n {
-        write_line(out, at + LINE_SIZE * i, picks[i], amounts[i]);
-        i += 1;
+    for (i, pick) in picks.iter().enumerate() {
+        write_line(out, at + LINE_SIZE * i, *pick, amounts[i]);
     }
-    at + LINE_SIZE * n
+    at + LINE_SIZE * picks.len()
 }

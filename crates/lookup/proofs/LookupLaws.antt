@@ -4,11 +4,12 @@ use mathlib.Core.Path.{◌≡◌, refl, sym, ◌∙◌, ap, subst}
 use mathlib.Core.Bool.{Bool, true, false, ◌&&◌, ◌||◌, not, cond, or-true, false≢true}
 use mathlib.Core.List.{List, [], ◌∷◌, map}
 use mathlib.Core.Option.{Option, some, none}
+use Rattle.std.specs.Prelude.{Some, None}
 use native.Mathlib.Omega.{arith}
 use native.Mathlib.Decide.{dec_lt, ℕ_discrete}
 use lib.Dec.{eqb}
 use lib.ListN.{length, take, drop, get_or, set, replicate, drop_of_length-le, length-set, length-drop, length-replicate, get_or-replicate}
-use lib.Seq.{length-take-le, get_or-set_same, get_or-set_other, get_or-take, drop-cons}
+use lib.Seq.{length-take-le, take-take, get_or-set_same, get_or-set_other, get_or-take, drop-cons}
 use borrow.Author.Tests.{eq-eqb, ne_eqb, not-true}
 use Rattle.rules.specs.Lists.{is_some, cons_some, if_some}
 use Rattle.rules.specs.Layout.{whole}
@@ -20,12 +21,11 @@ use Rattle.rules.proofs.ListLaws.{All, all_at}
 use Rattle.rules.proofs.KindLaws.{rounding_kind, list_all}
 use Rattle.rules.proofs.GivesLaws.{gives_repeated, whole_gives}
 use Rattle.layout.specs.Reads.{part}
-use Rattle.layout.specs.Ensures.{Number}
 use Rattle.layout.specs.Records.{records_from, record_stop, listed, records_left, Between, RecordHere, StopIs}
 use Rattle.book.proofs.BookLaws.{from_end}
 use Rattle.book.proofs.WalkLaws.{pass_end, pass_here, pass_less, pass_next, pass_record}
 use Rattle.records.specs.Asks.{Accepted, OfKind}
-use Rattle.records.specs.Ensures.{Bounded, RoundingBounds, RoundingIs}
+use Rattle.records.specs.Ensures.{Bounded, RoundingBounds, RoundingIs, NumberIs}
 use Rattle.records.specs.Tests.{rounding_number}
 use Rattle.records.proofs.BoundLaws.{gives_record}
 use Rattle.records.proofs.RoundingLaws.{number_kind, rounding_long}
@@ -201,26 +201,26 @@ module _ {b : List ℕ} {from : ℕ} (low : List Bool) (any : Bool) where
         pub next_less : length b - e < length b - at
         next_less = pass_less inv.between h s
 
-        module _ {x : ℕ} (is : Number (rounding_number (whole kinded (part b (at + 2) e))) 65536 x) where
-          pub next_found : (not (eqb x 0) && get_or low (x % 256) false) ≡ true → NextOpen b from low any at
-          next_found t = record {
-            onward = inv.onward;
-            between = inv.between;
-            here = λ l. there_rounding s (number_kind next_accepted is (λ z. false≢true (sym (rw z) ∙ t)));
-            rest = λ k a. inv.rest k a.some a.low;
-          }
+        pub next_found : {x : ℕ} → NumberIs (whole kinded (part b (at + 2) e)) (Some x) → NextOpen b from low any at
+        next_found is = record {
+          onward = inv.onward;
+          between = inv.between;
+          here = λ l. there_rounding s (number_kind next_accepted is);
+          rest = λ k a. inv.rest k a.some a.low;
+        }
 
-          pub next_again : (not (eqb x 0) && get_or low (x % 256) false) ≡ false → Passing b from low e
-          next_again t = record {
-            onward = omega (arith, inv.onward, s.low);
-            between = pass_next inv.between h s;
-            rest = λ k n l. left_passed inv.between h s k (λ d. other k n l (is.is ∙ d)) ∙ inv.rest k n l;
-          }
-            where
-              other : (k : ℕ) → (k ≡ 0 → ⊥) → get_or low (k % 256) false ≡ true → x ≡ k → ⊥
-              other k n l d =
-                  let y : (not (eqb k 0) && get_or low (k % 256) false) ≡ true = rw (ne_eqb k 0 n) l in
-                  false≢true (sym t ∙ ap (λ (m : ℕ). not (eqb m 0) && get_or low (m % 256) false) d ∙ y)
+        again : ((k : ℕ) → (k ≡ 0 → ⊥) → get_or low (k % 256) false ≡ true → rounding_number (whole kinded (part b (at + 2) e)) ≡ k → ⊥) → Passing b from low e
+        again other = record {
+          onward = omega (arith, inv.onward, s.low);
+          between = pass_next inv.between h s;
+          rest = λ k n l. left_passed inv.between h s k (other k n l) ∙ inv.rest k n l;
+        }
+
+        pub next_other : NumberIs (whole kinded (part b (at + 2) e)) None → Passing b from low e
+        next_other is = again (λ k n l d. n (sym d ∙ sym is.is))
+
+        pub next_again : {x : ℕ} → NumberIs (whole kinded (part b (at + 2) e)) (Some x) → get_or low (x % 256) false ≡ false → Passing b from low e
+        next_again is t = again (λ k n l d. false≢true (sym t ∙ ap (λ (m : ℕ). get_or low (m % 256) false) (is.is ∙ d) ∙ l))
 
 -- ---- a number's spot
 
@@ -482,3 +482,17 @@ module _ {b : List ℕ} {from : ℕ} {noted : List ℕ} {count : ℕ} (all : Spo
             among_after b from spot_at (drop (j + 1) (take count noted)) r
             (subst (SoughtAmong b from (get_or numbers i 0) (get_or spots i 0)) next (inv.each i l)) (p.each i l);
       }
+
+-- ---- the numbers and the spots as the front of longer lists
+
+pub found_front : {b : List ℕ} {from : ℕ} (numbers : List ℕ) (n : ℕ) {spots : List ℕ} → n ≤ length numbers
+    → SpotsFound b from (take n numbers) (length (take n numbers)) spots → SpotsFound b from numbers n spots
+found_front {b} {from} numbers n {spots} h f = record {
+  each = λ i l. subst (λ (k : ℕ). Found b from k (get_or spots i 0)) (get_or-take n numbers i 0 l) (f.each i (omega (arith, length-take-le n numbers h)));
+}
+
+pub noted_front : {b : List ℕ} {from : ℕ} (noted : List ℕ) (count : ℕ) → SpotsNoted b from noted count → SpotsNoted b from (take count noted) (length (take count noted))
+noted_front {b} {from} noted count s =
+    let e : length (take count noted) ≡ count = length-take-le count noted s.fits in
+    let f : take count (take count noted) ≡ take count noted = take-take count count noted (omega arith) in
+    subst (λ (k : ℕ). SpotsNoted b from (take count noted) k) (sym e) (record { fits = omega (arith, e); there = rw f s.there; are = rw f s.are })

@@ -4,6 +4,7 @@ use mathlib.Core.Path.{◌≡◌, refl, sym, ◌∙◌, ap, subst}
 use mathlib.Core.Bool.{Bool, true, false, false≢true}
 use mathlib.Core.List.{List, [], ◌∷◌}
 use mathlib.Core.Option.{Option, some, none}
+use Rattle.std.specs.Prelude.{Option as Maybe, Some, None}
 use native.Mathlib.Omega.{arith}
 use lib.ListN.{length}
 use Rattle.rules.specs.Lists.{same, pick, first, cons_some, is_some, if_some}
@@ -18,7 +19,7 @@ use Rattle.layout.specs.Ensures.{Says}
 use Rattle.layout.specs.Records.{listed, records_of, records_left, RecordHere, StopIs}
 use Rattle.book.proofs.WalkLaws.{book_records, all_left, pass_start, pass_end, pass_here, pass_less, pass_next, pass_record}
 use Rattle.records.specs.Asks.{Accepted}
-use Rattle.records.specs.Ensures.{Bounded, bytes_in}
+use Rattle.records.specs.Ensures.{Bounded}
 use Rattle.records.specs.Tests.{starts_with}
 use Rattle.records.proofs.FieldLaws.{starts_kind}
 use Rattle.records.proofs.BoundLaws.{book_bounds}
@@ -42,12 +43,8 @@ module _ {b : List ℕ} {kind : ℕ} {name : List ℕ} where
   seek_start ok = record { between = pass_start b ok; rest = ap (λ o. first (is_named kind name) (listed o)) (all_left b ok) }
 
   module _ {at : ℕ} (l : Seeking b kind name at) where
-    pub seek_none : length b ≤ at → FirstNamed b kind name (record { at = 0; size = 0 })
-    seek_none h = record {
-      is = sym l.rest ∙ ap (first (is_named kind name)) (pass_end l.between h);
-      fits = omega arith;
-      kind_is = λ z. absurd (omega arith);
-    }
+    pub seek_none : length b ≤ at → FirstNamed b kind name None
+    seek_none h = record { is = sym l.rest ∙ ap (first (is_named kind name)) (pass_end l.between h); stands = tt }
 
     module _ (h : at < length b) where
       pub seek_here : RecordHere b at
@@ -68,12 +65,11 @@ module _ {b : List ℕ} {kind : ℕ} {name : List ℕ} where
                 rest = sym (passed kind name (whole kinded (part b (at + 2) e)) (records_left b e) (t.is ∙ f)) ∙ ap (first (is_named kind name)) (sym (pass_record l.between h s)) ∙ l.rest;
               }
 
-          pub seek_found : r ≡ true → FirstNamed b kind name (record { at = at + 2; size = e - (at + 2) })
+          pub seek_found : r ≡ true → FirstNamed b kind name (Some (record { at = at + 2; size = e - (at + 2) }))
           seek_found f =
               record {
                 is = sym l.rest ∙ ap (first (is_named kind name)) (pass_record l.between h s) ∙ hit kind name (whole kinded (part b (at + 2) e)) (records_left b e) (t.is ∙ f);
-                fits = omega (arith, s.low, s.fits);
-                kind_is = λ z. starts_kind name seek_accepted t f;
+                stands = record { fits = omega (arith, s.low, s.fits); kind_is = starts_kind name seek_accepted t f };
               }
 
 -- ---- what is found
@@ -106,10 +102,10 @@ scheme_first : (id : List ℕ) (rs : List Record) → scheme_of rs id ≡ if_som
 unfolding scheme_of
 scheme_first id rs = first_read scheme_kind 5 id (λ s. s.id) (scheme_read id) rs
 
-pub article_found : {b number : List ℕ} {r : Part} → FirstNamed b 1 number r → article_of (records_of b) number ≡ article_held (bytes_in b r)
+pub article_found : {b number : List ℕ} {r : Maybe Part} → FirstNamed b 1 number r → article_of (records_of b) number ≡ article_held b r
 article_found {b} {number} p = article_first number (records_of b) ∙ ap (λ o. if_some o none as_article) p.is
 
-pub scheme_found : {b id : List ℕ} {r : Part} → FirstNamed b 5 id r → scheme_of (records_of b) id ≡ scheme_held (bytes_in b r)
+pub scheme_found : {b id : List ℕ} {r : Maybe Part} → FirstNamed b 5 id r → scheme_of (records_of b) id ≡ scheme_held b r
 scheme_found {b} {id} p = scheme_first id (records_of b) ∙ ap (λ o. if_some o none as_scheme) p.is
 
 -- ---- an empty id
@@ -130,9 +126,5 @@ none_unnamed : (rs : List Record) → All Bounded rs → first (is_named 5 []) r
 none_unnamed [] hs = refl
 none_unnamed (r ∷ rs) hs = rw (unnamed r hs.0) (none_unnamed rs hs.1)
 
-pub empty_named : (b : List ℕ) → is_some (records b) ≡ true → FirstNamed b 5 [] (record { at = 0; size = 0 })
-empty_named b ok = record {
-  is = none_unnamed (records_of b) (book_bounds b (book_records b ok));
-  fits = omega arith;
-  kind_is = λ h. absurd (omega arith);
-}
+pub empty_named : (b : List ℕ) → is_some (records b) ≡ true → FirstNamed b 5 [] None
+empty_named b ok = record { is = none_unnamed (records_of b) (book_bounds b (book_records b ok)); stands = tt }

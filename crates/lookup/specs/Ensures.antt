@@ -1,5 +1,5 @@
 -- What a lookup by a name ensures, and where it stands.
-use Rattle.std.specs.Prelude.{ℕ, ◌+◌, ◌≤◌, ◌<◌, Bool, ◌≡◌, List, length}
+use Rattle.std.specs.Prelude.{Option as Maybe, Some, None, IfSome, ℕ, ◌+◌, ◌≤◌, Bool, ◌≡◌, List, length}
 use Rattle.std.proofs.Math.Option.{Option, some, none}
 use Rattle.rules.specs.Lists.{first, if_some}
 use Rattle.rules.specs.Layout.{whole}
@@ -14,20 +14,29 @@ use Rattle.records.specs.Tests.{starts_with}
 abbrev pub is_named : ℕ → List ℕ → Record → Bool
 is_named kind name r = starts_with kind name (some r)
 
--- the first of the kind with the name is what stands in the part r of the book; in an empty part stands none
-pub record FirstNamed (b : List ℕ) (kind : ℕ) (name : List ℕ) (r : Part) : Type 0 where
-  pub is : first (is_named kind name) (records_of b) ≡ whole kinded (bytes_in b r)
-  pub fits : r.at + r.size ≤ length b
-  pub kind_is : 0 < r.size → OfKind kind (bytes_in b r)
+-- a record of the kind is that part of the book
+pub record Stands (b : List ℕ) (kind : ℕ) (p : Part) : Type 0 where
+  pub fits : p.at + p.size ≤ length b
+  pub kind_is : OfKind kind (bytes_in b p)
+
+-- the record that is that part of the book
+abbrev pub record_in : List ℕ → Maybe Part → Option Record
+record_in b None = none
+record_in b (Some p) = whole kinded (bytes_in b p)
+
+-- the first of the kind with the name is the part r of the book, or the book has none
+pub record FirstNamed (b : List ℕ) (kind : ℕ) (name : List ℕ) (r : Maybe Part) : Type 0 where
+  pub is : first (is_named kind name) (records_of b) ≡ record_in b r
+  pub stands : IfSome r (Stands b kind)
 
 -- none of the records passed is one
 pub record Seeking (b : List ℕ) (kind : ℕ) (name : List ℕ) (at : ℕ) : Type 0 where
   pub between : Between b at
   pub rest : first (is_named kind name) (records_left b at) ≡ first (is_named kind name) (records_of b)
 
--- the article, or the scheme, that the bytes of a record are
-abbrev pub article_held : List ℕ → Option Article
-article_held t = if_some (whole kinded t) none as_article
+-- the article, or the scheme, that it is
+abbrev pub article_held : List ℕ → Maybe Part → Option Article
+article_held b r = if_some (record_in b r) none as_article
 
-abbrev pub scheme_held : List ℕ → Option Scheme
-scheme_held t = if_some (whole kinded t) none as_scheme
+abbrev pub scheme_held : List ℕ → Maybe Part → Option Scheme
+scheme_held b r = if_some (record_in b r) none as_scheme

@@ -6,8 +6,9 @@ ghost use Rattle.lookup.specs.Ensures.{FirstNamed};
 
 use rules::Part;
 
-// The part of the book that it is, from its kind byte on. An empty part: the book has none. Roundings, of kind 3, have no name.
-pub fn first_named(b: &[u8], kind: u8, name: &[u8]) -> Part
+// The part of the book that it is, from its kind byte on. Roundings have no name.
+// As it is: a byte and no `Kind`, since what is promised here is so of every byte.
+pub fn first_named(b: &[u8], kind: u8, name: &[u8]) -> Option<Part>
     requires b_value { is_some (records b.now) ≡ true }
     requires t { T (not (eqb kind 3)) }
     ensures { FirstNamed b.now kind name.now result }
@@ -17,12 +18,12 @@ pub fn first_named(b: &[u8], kind: u8, name: &[u8]) -> Part
         let end = book::record_stop(b, at);
         let body = at + 2;
         if records::starts_with(&b[body..end], kind, name) {
-            return Part {
+            return Some(Part {
                 at: body,
                 size: end - body,
-            };
+            });
         }
         at = end;
     }
-    Part { at: 0, size: 0 }
+    None
 }

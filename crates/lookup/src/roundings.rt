@@ -9,22 +9,18 @@ use book::record_stop;
 use records::{rounding_number, rounding_of};
 use rules::{Cents, Rounding, Way};
 
-// Sets the flags of the low bytes of those of the first n numbers that have no spot, and tells whether there are any. No record has number 0,
-// so that it is not looked for.
-fn flag_open(low: &mut [bool; 256], numbers: &[u16; 99], spots: &[usize; 99], n: usize) -> bool
+// Sets the flags of the low bytes of those of the numbers that have no spot, and tells whether there are any. No record has number 0, so
+// that it is not looked for.
+fn flag_open(low: &mut [bool; 256], numbers: &[u16], spots: &[usize; 99]) -> bool
     requires low_len { length low.old ≡ 256 }
-    requires n_bound { n ≤ 99 }
-    ensures { OpenAre numbers.now spots.now n low.new result }
+    requires numbers_len { length numbers.now ≤ 99 }
+    ensures { OpenAre numbers.now spots.now (length numbers.now) low.new result }
 {
     let mut any = false;
-    let mut i = 0;
-    while i < n {
-        let number = numbers[i];
-        let wanted = (number != 0) & (spots[i] == 0);
-        let byte = (number % 256) as usize;
-        low[byte] = low[byte] | wanted;
-        any = any | wanted;
-        i += 1;
+    for (i, number) in numbers.iter().enumerate() {
+        let wanted = (*number != 0) & (spots[i] == 0);
+        low[(*number % 256) as usize] |= wanted;
+        any |= wanted;
     }
     any
 }
@@ -41,8 +37,9 @@ fn next_open(b: &[u8], from: usize, low: &[bool; 256], any: bool) -> usize
     while at < b.len() {
         let end = record_stop(b, at);
         let body = at + 2;
-        let number = rounding_number(&b[body..end]);
-        if (number != 0) & low[(number % 256) as usize] {
+        if let Some(number) = rounding_number(&b[body..end])
+            && low[(number % 256) as usize]
+        {
             return at;
         }
         at = end;
@@ -66,16 +63,14 @@ fn first_spot(spot: usize, here: bool, at: usize) -> usize
     if (spot == 0) & here { at } else { spot }
 }
 
-// The rounding of `number` at `at` goes by: its spot is that of each of the first n numbers that it is the first of.
-fn put_spots(spots: &mut [usize; 99], numbers: &[u16; 99], n: usize, number: u16, at: usize)
+// The rounding of `number` at `at` goes by: its spot is that of each of the numbers that it is the first of.
+fn put_spots(spots: &mut [usize; 99], numbers: &[u16], number: u16, at: usize)
     requires spots_len { length spots.old ≡ 99 }
-    requires n_bound { n ≤ 99 }
-    ensures { SpotsAfter spots.old numbers.now n number at spots.new }
+    requires numbers_len { length numbers.now ≤ 99 }
+    ensures { SpotsAfter spots.old numbers.now (length numbers.now) number at spots.new }
 {
-    let mut i = 0;
-    while i < n {
-        spots[i] = first_spot(spots[i], numbers[i] == number, at);
-        i += 1;
+    for (i, own) in numbers.iter().enumerate() {
+        spots[i] = first_spot(spots[i], *own == number, at);
     }
 }
 
@@ -84,35 +79,34 @@ fn put_spots(spots: &mut [usize; 99], numbers: &[u16; 99], n: usize, number: u16
 fn note_rounding(
     spots: &mut [usize; 99],
     low: &mut [bool; 256],
-    numbers: &[u16; 99],
-    n: usize,
+    numbers: &[u16],
     number: u16,
     at: usize,
 ) -> bool
-    requires { Room spots.old low.old n }
-    ensures { Noted spots.old numbers.now n number at spots.new low.new result }
+    requires { Room spots.old low.old (length numbers.now) }
+    ensures { Noted spots.old numbers.now (length numbers.now) number at spots.new low.new result }
 {
-    put_spots(spots, numbers, n, number, at);
+    put_spots(spots, numbers, number, at);
     low[(number % 256) as usize] = false;
-    flag_open(low, numbers, spots, n)
+    flag_open(low, numbers, spots)
 }
 
-// Where the roundings of the first n numbers stand, looked for from a spot of the book on; 0 for a number that no record has.
-// The walk ends as soon as all are found.
-pub fn rounding_spots(b: &[u8], from: usize, numbers: [u16; 99], n: usize) -> [usize; 99]
+// Where the roundings of the numbers stand, looked for from a spot of the book on. A number that no record has gets 0: as Option<usize> the
+// spots would be twice as long, and the bound on a calendar's stack is tight. The walk ends as soon as all are found.
+pub fn rounding_spots(b: &[u8], from: usize, numbers: &[u16]) -> [usize; 99]
     requires between { Between b.now from }
-    requires n_bound { n ≤ 99 }
-    ensures { SpotsFound b.now from numbers n result }
+    requires numbers_len { length numbers.now ≤ 99 }
+    ensures { SpotsFound b.now from numbers.now (length numbers.now) result }
 {
     let mut spots = [0; 99];
     let mut low = [false; 256];
-    let open = flag_open(&mut low, &numbers, &spots, n);
+    let open = flag_open(&mut low, numbers, &spots);
     let mut at = next_open(b, from, &low, open);
     while at < b.len() {
         let end = rounding_stop(b, at);
         let body = at + 2;
         let rounding = rounding_of(&b[body..end]);
-        let left = note_rounding(&mut spots, &mut low, &numbers, n, rounding.number, at);
+        let left = note_rounding(&mut spots, &mut low, numbers, rounding.number, at);
         at = next_open(b, end, &low, left);
     }
     spots
@@ -144,26 +138,16 @@ pub fn rounding_at(b: &[u8], spot: usize) -> Rounding
     rounding_of(&b[body..end])
 }
 
-// Where the roundings of the first n numbers stand, if the spots of all roundings of the book were noted: `count` of them. No other record is looked at.
-pub fn spots_among(
-    b: &[u8],
-    noted: &[usize; 16],
-    count: usize,
-    numbers: [u16; 99],
-    n: usize,
-) -> [usize; 99]
-    requires spots_noted { SpotsNoted b.now 5 noted.now count }
-    requires count_bound { count ≤ 16 }
-    requires n_bound { n ≤ 99 }
-    ensures { SpotsFound b.now 5 numbers n result }
+// Where the roundings of the numbers stand, if the spots of all roundings of the book were noted. No other record is looked at.
+pub fn spots_among(b: &[u8], noted: &[usize], numbers: &[u16]) -> [usize; 99]
+    requires spots_noted { SpotsNoted b.now 5 noted.now (length noted.now) }
+    requires numbers_len { length numbers.now ≤ 99 }
+    ensures { SpotsFound b.now 5 numbers.now (length numbers.now) result }
 {
     let mut spots = [0; 99];
-    let mut j = 0;
-    while j < count {
-        let at = noted[j];
-        let rounding = rounding_at(b, at);
-        put_spots(&mut spots, &numbers, n, rounding.number, at);
-        j += 1;
+    for spot in noted {
+        let rounding = rounding_at(b, *spot);
+        put_spots(&mut spots, numbers, rounding.number, *spot);
     }
     spots
 }

@@ -7,12 +7,8 @@ use Rattle.layout.specs.Records.{records_left}
 use Rattle.grants.specs.declared.terms.Terms.{Terms}
 use Rattle.grants.specs.Asks.{Asks, terms_on}
 use Rattle.survey.specs.declared.window.Window.{Window}
-use Rattle.choice.specs.Block.{most_listed, SharedOn}
+use Rattle.choice.specs.Block.{SharedOn}
 use Rattle.outcomes.specs.declared.Block.{Block}
-
--- `r` are the same terms on the day d
-pub record TermsOn (terms : Terms) (d : ℕ) (r : Terms) : Type 0 where
-  pub is : r ≡ terms_on terms d
 
 -- ---- a block
 
@@ -22,14 +18,13 @@ pub record BlockEnd (i days r : ℕ) : Type 0 where
   pub fits : r ≤ days
 
 -- the block is one of all its dates from position i on
-pub record BlockFrom (b : List ℕ) (w : Window) (number table : List ℕ) (terms : Terms) (dates : List ℕ) (i : ℕ) (block : Block) (listed : List ℕ) : Type 0 where
-  pub long : length listed ≡ most_listed
-  pub on : (j : ℕ) → i ≤ j → j < block.until → SharedOn (take w.last b) w.first number table (terms_on terms (get_or dates j 0)) block.shared listed
+pub record BlockFrom (b : List ℕ) (w : Window) (number table : List ℕ) (terms : Terms) (dates : List ℕ) (i : ℕ) (block : Block) : Type 0 where
+  pub on : (j : ℕ) → i ≤ j → j < block.until → SharedOn (take w.spans.rows.last b) w.spans.rows.first number table (terms_on terms (get_or dates j 0)) block.shared
 
 -- and the date at i is one of them
-pub record BlockAt (b : List ℕ) (w : Window) (number table : List ℕ) (terms : Terms) (dates : List ℕ) (i : ℕ) (block : Block) (listed : List ℕ) : Type 0 where
+pub record BlockAt (b : List ℕ) (w : Window) (number table : List ℕ) (terms : Terms) (dates : List ℕ) (i : ℕ) (block : Block) : Type 0 where
   pub later : i < block.until
-  pub from : BlockFrom b w number table terms dates i block listed
+  pub from : BlockFrom b w number table terms dates i block
 
 -- ---- the days
 
@@ -57,8 +52,8 @@ pub record OutcomesFor (b number table : List ℕ) (terms : Terms) (dates : List
   pub of : (q : Question) → Asks q number table terms → PricedOn (outcome (records_left b 5) q) dates marks outcomes
 
 -- the days before position i that are due have their outcomes; those from i on are still to come
-pub record Pricing (b : List ℕ) (w : Window) (number table : List ℕ) (terms : Terms) (dates : List ℕ) (marks : List Bool) (block : Block) (listed : List ℕ) (outcomes : List Coded.Outcome) (i : ℕ) : Type 0 where
+pub record Pricing (b : List ℕ) (w : Window) (number table : List ℕ) (terms : Terms) (dates : List ℕ) (marks : List Bool) (block : Block) (outcomes : List Coded.Outcome) (i : ℕ) : Type 0 where
   pub few : length dates ≤ most_days
   pub long : length outcomes ≡ most_days
-  pub hand : BlockFrom b w number table terms dates i block listed
+  pub hand : BlockFrom b w number table terms dates i block
   pub of : (q : Question) → Asks q number table terms → (j : ℕ) → j < i → j < length dates → is_due marks j ≡ true → as_outcome (get_or outcomes j no_outcome) ≡ outcome (records_left b 5) q (get_or dates j 0)

@@ -1,16 +1,16 @@
 // The outcomes of the first day and of the days of change. Days are taken in blocks: what those of a block share is found in one walk.
 #![tactic(auto)]
 
-ghost use Rattle.std.specs.Prelude.{◌≤◌, ◌<◌, ◌≡◌, length, take};
+ghost use Rattle.std.specs.Prelude.{◌≤◌, ◌<◌, length, take};
 ghost use Rattle.grants.specs.Asks.{Asked, terms_on};
 ghost use Rattle.choice.specs.Block.{SharedOn};
 ghost use Rattle.survey.specs.Window.{Windows};
 ghost use Rattle.period.specs.Positions.{Dates};
-ghost use Rattle.outcomes.specs.Outcomes.{TermsOn, BlockEnd, BlockFrom, BlockAt, PricedFor, NextDue, OutcomesFor};
+ghost use Rattle.outcomes.specs.Outcomes.{BlockEnd, BlockFrom, BlockAt, PricedFor, NextDue, OutcomesFor};
 
-use choice::{MOST_LISTED, Shared, shared_for};
+use choice::{Shared, shared_for};
 use days::Day;
-use grants::terms::Terms;
+use grants::asking::Asking;
 use quote::outcome_on;
 use rules::{Cents, Currency, Outcome};
 use survey::window::Window;
@@ -25,24 +25,18 @@ const NO_OUTCOME: Outcome = Outcome {
 };
 
 // What the days of a block share, up to the date before `until`.
-#[derive(Drop)]
+#[derive(Clone, Copy)]
 pub struct Block {
     pub shared: Shared,
     pub until: usize,
 }
 
-// The same terms on another day.
-fn terms_on(terms: Terms, d: Day) -> Terms
-    ensures { TermsOn terms d.0 result }
-{
-    let currency = terms.currency;
-    Terms {
-        sort: terms.sort,
-        currency,
-        date: d,
-        quantity: terms.quantity,
-        names: terms.names,
-    }
+impl Block {
+    // Of no days.
+    const NONE: Block = Block {
+        shared: Shared::NOTHING,
+        until: 0,
+    };
 }
 
 // Behind the last date of the block that begins at i.
@@ -54,120 +48,82 @@ fn block_end(i: usize, days: usize) -> usize
 }
 
 // The block that begins at i.
-fn block_from(
-    b: &[u8],
-    w: Window,
-    article: &[u8],
-    table: &[u8],
-    terms: Terms,
-    dates: &[u32],
-    i: usize,
-    listed: &mut [usize; MOST_LISTED],
-) -> Block
-    requires asked { Asked article.now table.now terms }
-    requires windows { Windows b.now 5 article.now terms.sort w }
+fn block_from(b: &[u8], w: Window, asking: &Asking, dates: &[u32], i: usize, block: &mut Block)
+    requires asked { Asked asking.now.article.now asking.now.table.now asking.now.terms }
+    requires windows { Windows b.now 5 asking.now.article.now asking.now.terms.sort w }
     requires dates { Dates dates.now }
     requires i_in_bounds { i < length dates.now }
-    requires listed_len { length listed.old ≡ 2048 }
-    ensures { BlockAt b.now w article.now table.now terms dates.now i result listed.new }
+    ensures { BlockAt b.now w asking.now.article.now asking.now.table.now asking.now.terms dates.now i block.new }
 {
     let until = block_end(i, dates.len());
-    let last = w.last;
-    let first = terms_on(terms, Day(dates[i]));
-    let shared = shared_for(
-        &b[..last],
-        w.first,
-        article,
-        table,
-        first,
+    let own = w.spans.rows;
+    let first = asking.on(Day(dates[i]));
+    shared_for(
+        &b[..own.last],
+        own.first,
+        &first,
         Day(dates[until - 1]),
-        listed,
+        &mut block.shared,
     );
-    Block { shared, until }
+    block.until = until;
 }
 
 // A block that has the date at i: the one in hand, or another that begins there.
-fn block_at(
-    b: &[u8],
-    w: Window,
-    article: &[u8],
-    table: &[u8],
-    terms: Terms,
-    dates: &[u32],
-    i: usize,
-    block: Block,
-    listed: &mut [usize; MOST_LISTED],
-) -> Block
-    requires asked { Asked article.now table.now terms }
-    requires windows { Windows b.now 5 article.now terms.sort w }
+fn block_at(b: &[u8], w: Window, asking: &Asking, dates: &[u32], i: usize, block: &mut Block)
+    requires asked { Asked asking.now.article.now asking.now.table.now asking.now.terms }
+    requires windows { Windows b.now 5 asking.now.article.now asking.now.terms.sort w }
     requires dates { Dates dates.now }
     requires i_in_bounds { i < length dates.now }
-    requires block_from { BlockFrom b.now w article.now table.now terms dates.now i block listed.old }
-    ensures { BlockAt b.now w article.now table.now terms dates.now i result listed.new }
+    requires block_from { BlockFrom b.now w asking.now.article.now asking.now.table.now asking.now.terms dates.now i block.old }
+    ensures { BlockAt b.now w asking.now.article.now asking.now.table.now asking.now.terms dates.now i block.new }
 {
-    if i < block.until {
-        return block;
+    if block.until <= i {
+        block_from(b, w, asking, dates, i, block);
     }
-    block_from(b, w, article, table, terms, dates, i, listed)
 }
 
 // A day is priced: no other function does.
-fn priced(
-    b: &[u8],
-    w: Window,
-    article: &[u8],
-    table: &[u8],
-    terms: Terms,
-    d: Day,
-    shared: Shared,
-    listed: &[usize; MOST_LISTED],
-) -> Outcome
-    requires asked { Asked article.now table.now terms }
-    requires windows { Windows b.now 5 article.now terms.sort w }
-    requires shared_on { SharedOn (take w.last b.now) w.first article.now table.now (terms_on terms d.0) shared listed.now }
-    ensures { PricedFor b.now article.now table.now terms d.0 result }
+fn priced(b: &[u8], w: Window, asking: &Asking, d: Day, shared: &Shared) -> Outcome
+    requires asked { Asked asking.now.article.now asking.now.table.now asking.now.terms }
+    requires windows { Windows b.now 5 asking.now.article.now asking.now.terms.sort w }
+    requires shared_on { SharedOn (take w.spans.rows.last b.now) w.spans.rows.first asking.now.article.now asking.now.table.now (terms_on asking.now.terms d.0) shared.now }
+    ensures { PricedFor b.now asking.now.article.now asking.now.table.now asking.now.terms d.0 result }
 {
-    outcome_on(b, w, article, table, terms_on(terms, d), shared, listed)
+    outcome_on(b, w, &asking.on(d), shared)
 }
 
 // The first position from i on with a mark, or that behind the last day.
-fn next_due(marks: [bool; 1097], i: usize, days: usize) -> usize
-    requires { days ≤ 1096 }
-    ensures { NextDue marks i result }
+fn next_due(marks: &[bool; 1096], i: usize, days: usize) -> usize
+    requires within { i ≤ days }
+    requires few { days ≤ 1096 }
+    ensures { NextDue marks.now i result }
 {
-    let mut k = i;
-    while k < days {
+    for k in i..days {
         if marks[k] {
             return k;
         }
-        k += 1;
     }
-    k
+    days
 }
 
 pub fn outcomes_of(
     b: &[u8],
     w: Window,
-    article: &[u8],
-    table: &[u8],
-    terms: Terms,
+    asking: &Asking,
     dates: &[u32],
-    marks: [bool; 1097],
+    marks: &[bool; 1096],
 ) -> [Outcome; 1096]
-    requires asked { Asked article.now table.now terms }
-    requires windows { Windows b.now 5 article.now terms.sort w }
+    requires asked { Asked asking.now.article.now asking.now.table.now asking.now.terms }
+    requires windows { Windows b.now 5 asking.now.article.now asking.now.terms.sort w }
     requires dates { Dates dates.now }
-    requires dates_nonzero { 0 < length dates.now }
-    ensures { OutcomesFor b.now article.now table.now terms dates.now marks result }
+    ensures { OutcomesFor b.now asking.now.article.now asking.now.table.now asking.now.terms dates.now marks.now result }
 {
-    let mut listed = [0; MOST_LISTED];
-    let mut block = block_from(b, w, article, table, terms, dates, 0, &mut listed);
+    let mut block = Block::NONE;
     let mut outcomes = [NO_OUTCOME; 1096];
     let mut i = 0;
     while i < dates.len() {
-        block = block_at(b, w, article, table, terms, dates, i, block, &mut listed);
-        let shared = block.shared;
-        outcomes[i] = priced(b, w, article, table, terms, Day(dates[i]), shared, &listed);
+        block_at(b, w, asking, dates, i, &mut block);
+        outcomes[i] = priced(b, w, asking, Day(dates[i]), &block.shared);
         i = next_due(marks, i + 1, dates.len());
     }
     outcomes

@@ -1,9 +1,11 @@
 -- The records at the spots are those that the definition uses; and the whole call, refusal by refusal.
-use Prim.Native.Nat.{ℕ, ◌+◌, ◌-◌}
+use Prim.Native.Nat.{ℕ}
 use mathlib.Core.Path.{◌≡◌, refl, sym, ◌∙◌, ap, subst}
 use mathlib.Core.Bool.{Bool, true, false, ◌&&◌, false≢true}
 use mathlib.Core.List.{List, [], ◌∷◌}
 use mathlib.Core.Option.{Option, some, none}
+use Rattle.std.specs.Prelude as Std
+use Rattle.std.specs.Prelude.{Option as Maybe, Some, None, Ok, Err}
 use native.Mathlib.Omega.{arith}
 use lib.Dec.{eqb}
 use lib.ListN.{length, get_or}
@@ -14,9 +16,11 @@ use Rattle.rules.specs.Question.{Granted, Question, Grant, grants, question_of}
 use Rattle.rules.specs.Refusals.{Result, ◌>>=◌, refused, or_refuse}
 use Rattle.rules.specs.Packaging.{or_else, pack_for, used, Packed, packaging, shown}
 use Rattle.rules.specs.declared.PackagingAnswer.{PackagingAnswer}
+use Rattle.rules.specs.declared.Part.{Part}
+use Rattle.rules.specs.declared.Refusal.{Refusal}
+use Rattle.rules.specs.declared.Refusal.TheVariants.{BrokenBook, BrokenQuestion}
 use Rattle.rules.proofs.ListLaws.{absent}
 use Rattle.rules.proofs.TestLaws.{and_false}
-use Rattle.layout.specs.Reads.{part}
 use Rattle.layout.specs.Records.{records_left, Between}
 use Rattle.book.proofs.WalkLaws.{book_left, pass_start}
 use Rattle.question.specs.declared.Ask.{Ask}
@@ -26,12 +30,11 @@ use Rattle.grants.specs.Table.{GrantsAre}
 use Rattle.grants.specs.Places.{place_of, up_from}
 use Rattle.grants.proofs.FillLaws.{names_count}
 use Rattle.grants.proofs.GatherLaws.{gather_same, none_is, places_gathered}
-use Rattle.packaging.specs.declared.spots.Spot.{Spot}
 use Rattle.packaging.specs.declared.spots.Found.{Found}
-use Rattle.packaging.specs.Spots.{first_at, no_spot, pack_there, SpotIs, AllMark, Keeps, FoundIs, used_from, used_in}
-use Rattle.packed.specs.Answer.{summed}
+use Rattle.packaging.specs.Spots.{first_at, pack_there, AllHeld, FoundHeld, Keeps, FoundIn, FoundIs, Known, Unknown, used_from, used_in}
+use Rattle.packed.specs.Answer.{summed, written}
 use Rattle.packaging.specs.Sums.{from_spots, AnswersFrom}
-use Rattle.packaging.proofs.SumLaws.{there_is}
+use Rattle.packaging.proofs.SumLaws.{there_is, held_is}
 
 -- ---- the record of a place is that of a condition
 
@@ -55,8 +58,8 @@ module _ (names : List Granted) (article : List ℕ) (rs : List Record) (i : ℕ
 
 -- ---- the records used
 
-keeps_mark : {b : List ℕ} {ps : List Spot} {f : ℕ → Option Pack} → Keeps b ps f → AllMark b ps
-keeps_mark {b} {ps} k = record { each = λ i l. record { is = subst (SpotIs b (get_or ps i no_spot)) (sym (there_is (k.each i l))) (k.each i l) } }
+keeps_held : {b : List ℕ} {ps : List (Maybe Part)} {f : ℕ → Option Pack} → Keeps b ps f → AllHeld b ps
+keeps_held {b} {ps} k = record { each = λ i l. held_is (get_or ps i None) (k.each i l) }
 
 module _ (q : Question) {table : List ℕ} (ok : GrantsAre q.granted table) (rs : List Record) where
   abbrev first_of : List ℕ → ℕ → Option Pack
@@ -66,12 +69,12 @@ module _ (q : Question) {table : List ℕ} (ok : GrantsAre q.granted table) (rs 
   abbrev first_for : ℕ → Option Pack
   first_for i = or_else (first_of q.article i) (first_of star i)
 
-  module _ {b : List ℕ} {own any : List Spot} (k : Keeps b own (first_of q.article)) (l : Keeps b any (first_of star)) where
+  module _ {b : List ℕ} {own any : List (Maybe Part)} (k : Keeps b own (first_of q.article)) (l : Keeps b any (first_of star)) where
     abbrev there_for : ℕ → Option Pack
-    there_for i = or_else (pack_there b (get_or own i no_spot)) (pack_there b (get_or any i no_spot))
+    there_for i = or_else (pack_there b (get_or own i None)) (pack_there b (get_or any i None))
 
     -- without a condition
-    unconditioned : pack_there b (get_or own 0 no_spot) ≡ pack_of rs q.article []
+    unconditioned : pack_there b (get_or own 0 None) ≡ pack_of rs q.article []
     unconditioned = there_is (k.each 0 (omega arith)) ∙ first_named q.granted q.article rs 0 [] (none_is ok)
 
     used_is : (p : Pack) → pack_of rs q.article [] ≡ some p → used_in b own any ≡ used rs q p
@@ -99,7 +102,7 @@ module _ (q : Question) {table : List ℕ} (ok : GrantsAre q.granted table) (rs 
     spots_are = go (pack_of rs q.article []) refl
       where
         go : (o : Option Pack) → pack_of rs q.article [] ≡ o
-            → (or_refuse 8 (pack_there b (get_or own 0 no_spot)) >>= λ _. summed (used_in b own any)) ≡ (or_refuse 8 o >>= λ p. summed (used rs q p))
+            → (or_refuse 8 (pack_there b (get_or own 0 None)) >>= λ _. summed (used_in b own any)) ≡ (or_refuse 8 o >>= λ p. summed (used rs q p))
         go none e = ap (λ (o : Option Pack). or_refuse 8 o >>= λ _. summed (used_in b own any)) (unconditioned ∙ e)
         go (some p) e = ap (λ (o : Option Pack). or_refuse 8 o >>= λ _. summed (used_in b own any)) (unconditioned ∙ e) ∙ ap summed (used_is p e)
 
@@ -126,52 +129,42 @@ opened b s = refl
 pub book_starts : {b : List ℕ} → is_some (records b) ≡ true → Between b 5
 book_starts {b} ok = pass_start b ok
 
--- the walk's spots mark packagings
-module _ {b article table : List ℕ} {n : ℕ} {found : Found} (is : FoundIs b article table n found) {names : List Granted} (g : GrantsAre names table)
-    (c : length names ≡ n) where
-  pub own_mark : AllMark b found.own
-  own_mark = keeps_mark (is.own names g c)
-
-  pub any_mark : AllMark b found.any
-  any_mark = keeps_mark (is.any names g c)
-
--- the answer of a test, as it is asked for
-pub told : {t u : Bool} → t ≡ u → t ≡ true → u ≡ true
-told e f = sym e ∙ f
+-- the walk's spots hold packagings
+pub found_held : {b article table : List ℕ} {n : ℕ} {found : Found} → FoundIs b article table n (Ok found) → {names : List Granted} → GrantsAre names table
+    → length names ≡ n → FoundHeld b found
+found_held (Known is) {names} g c = record { own = keeps_held (is.own names g c); any = keeps_held (is.any names g c) }
 
 module _ (b s : List ℕ) where
-  pub call_1 : {t : Bool} {r : PackagingAnswer} → t ≡ is_some (records b) → t ≡ false → r ≡ shown (refused 1) → r ≡ shown (packaging b s)
-  call_1 e f h = h ∙ ap shown (sym (opened b s ∙ refuses 1 (records b) (with_book s) (sym e ∙ f)))
+  pub call_1 : {t : Bool} → t ≡ is_some (records b) → t ≡ false → written (Err BrokenBook) ≡ shown (packaging b s)
+  call_1 e f = ap shown (sym (opened b s ∙ refuses 1 (records b) (with_book s) (sym e ∙ f)))
 
   module _ (ok : is_some (records b) ≡ true) where
-    pub call_2 : {t : Bool} {r : PackagingAnswer} → t ≡ is_some (question_of s) → t ≡ false → r ≡ shown (refused 2) → r ≡ shown (packaging b s)
-    call_2 e f h = h ∙ ap shown (sym (opened b s ∙ goes_on 1 (records b) (with_book s) (book_left b ok) ∙ refuses 2 (question_of s) (with_question (records_left b 5)) (sym e ∙ f)))
+    pub call_2 : {t : Bool} → t ≡ is_some (question_of s) → t ≡ false → written (Err BrokenQuestion) ≡ shown (packaging b s)
+    call_2 e f = ap shown (sym (opened b s ∙ goes_on 1 (records b) (with_book s) (book_left b ok) ∙ refuses 2 (question_of s) (with_question (records_left b 5)) (sym e ∙ f)))
 
-    module _ {ask : Ask} (a : AskIs s ask) {table : List ℕ} (g : GrantsAre (names_at ask.version s ask.granted ask.conditions) table) {found : Found}
-        (is : FoundIs b (part s ask.article.at (ask.article.at + ask.article.size)) table ask.conditions found) where
-      -- what was found is of the article and the names that the question has
-      pub found_asked : FoundIs b (ask_in s ask).article table ask.conditions found
-      found_asked =
-          let size : ask.article.at + ask.article.size - ask.article.at ≡ ask.article.size = omega arith in
-          rw size at is
-
+    module _ {ask : Ask} (a : AskIs s ask) {table : List ℕ} (g : GrantsAre (names_at ask.version s ask.granted ask.conditions) table)
+        {article : List ℕ} (of : article ≡ (ask_in s ask).article) where
       asked : packaging b s ≡ with_question (records_left b 5) (ask_in s ask)
       asked = opened b s ∙ goes_on 1 (records b) (with_book s) (book_left b ok) ∙ goes_on 2 (question_of s) (with_question (records_left b 5)) a.is
 
-      pub call_3 : {r : PackagingAnswer} → found.known ≡ false → r ≡ shown (refused 3) → r ≡ shown (packaging b s)
-      call_3 e h = h ∙ ap shown (sym (asked ∙ refuses 3 (article_of (records_left b 5) (ask_in s ask).article) _ (sym found_asked.known ∙ e)))
+      pub call_3 : {e : Refusal} → FoundIs b article table ask.conditions (Err e) → written (Err e) ≡ shown (packaging b s)
+      call_3 {e} is = go e is
+        where
+          go : (e : Refusal) → FoundIs b article table ask.conditions (Err e) → written (Err e) ≡ shown (packaging b s)
+          go e (Unknown n) = ap shown (sym (asked ∙ refuses 3 (article_of (records_left b 5) (ask_in s ask).article) _ (ap (λ (x : List ℕ). is_some (article_of (records_left b 5) x)) (sym of) ∙ n)))
 
       count : length (names_at ask.version s ask.granted ask.conditions) ≡ ask.conditions
       count = names_count ask.version s ask.granted ask.conditions
 
-      pub call_on : {r : PackagingAnswer} → found.known ≡ true → AnswersFrom b found.own found.any r → r ≡ shown (packaging b s)
-      call_on e from =
-          let own = found_asked.own (names_at ask.version s ask.granted ask.conditions) g count in
-          let any = found_asked.any (names_at ask.version s ask.granted ask.conditions) g count in
+      pub call_on : {found : Found} → FoundIs b article table ask.conditions (Ok found) → {r : Std.Result PackagingAnswer Refusal} → AnswersFrom b found.own found.any r
+          → written r ≡ shown (packaging b s)
+      call_on {found} (Known f) from =
+          let is : FoundIn b (ask_in s ask).article table ask.conditions found = subst (λ (x : List ℕ). FoundIn b x table ask.conditions found) of f in
+          let own = is.own (names_at ask.version s ask.granted ask.conditions) g count in
+          let any = is.any (names_at ask.version s ask.granted ask.conditions) g count in
           let article = article_of (records_left b 5) (ask_in s ask).article in
           from.is
-          ∙ ap shown (spots_are (ask_in s ask) g (records_left b 5) own any
-          ∙ sym (asked ∙ goes_on 3 article _ (there article (sym found_asked.known ∙ e)).1))
+          ∙ ap shown (spots_are (ask_in s ask) g (records_left b 5) own any ∙ sym (asked ∙ goes_on 3 article _ (there article is.known).1))
         where
           there : (o : Option Article) → is_some o ≡ true → (x : Article) × (o ≡ some x)
           there none e = absurd (false≢true e)

@@ -1,5 +1,5 @@
 -- At which place a record is kept, and which record is the first there.
-use Prim.Native.Nat.{ℕ, ◌+◌, ◌-◌, ◌<◌}
+use Prim.Native.Nat.{ℕ, ◌<◌}
 use mathlib.Core.Path.{◌≡◌, refl, sym, ◌∙◌, ap}
 use mathlib.Core.Bool.{Bool, true, false, ◌&&◌, cond}
 use mathlib.Core.List.{List}
@@ -14,26 +14,23 @@ use Rattle.rules.specs.Layout.{whole}
 use Rattle.rules.specs.Book.{Record, PackagingRecord, Pack, as_pack, packagings}
 use Rattle.rules.specs.BookLayout.{kinded}
 use Rattle.rules.proofs.KindLaws.{pack_kind, read_only}
-use Rattle.layout.specs.Reads.{part}
 use Rattle.layout.specs.Ensures.{Says}
 use Rattle.records.specs.declared.packagings.Packing.{Packing}
 use Rattle.records.specs.Tests.{starts_with}
-use Rattle.records.specs.Ensures.{PackIs, pack_in}
+use Rattle.records.specs.Ensures.{bytes_in, PackIs, pack_in}
 use Rattle.records.proofs.TestLaws.{packaging_read}
 use Rattle.grants.specs.Places.{place_of, PlaceIs}
-use Rattle.packaging.specs.declared.spots.Spot.{Spot}
-use Rattle.packaging.specs.Spots.{is_empty, pack_held, place_for, PlaceFor, first_at, SpotAfter}
+use Rattle.packaging.specs.Spots.{pack_held, place_for, PlaceFor, first_at}
 
 -- ---- the place of a record
 
 module _ (table : List ℕ) (n : ℕ) (article t : List ℕ) {b : Bool} (s : Says (starts_with 4 article (whole kinded t)) b) where
   pub place_named : {p : Packing} {i : ℕ} → b ≡ true → PackIs t p
-      → PlaceIs table n (part t p.condition.at (p.condition.at + p.condition.size)) i → PlaceFor table n article (whole kinded t) i
+      → {condition : List ℕ} → condition ≡ bytes_in t p.condition → PlaceIs table n condition i → PlaceFor table n article (whole kinded t) i
   unfolding starts_with place_for pack_in
-  place_named {p} {i} e h k =
-      let size : p.condition.at + p.condition.size - p.condition.at ≡ p.condition.size = omega arith in
+  place_named {p} {i} e h f k =
       let own : same (take p.article.size (drop p.article.at t)) article ≡ true = sym (ap (starts_with 4 article) h.is) ∙ s.is ∙ e in
-      record { below = k.below; of = λ names g c. (k.of names g c).is ∙ rw (h.is, own, size) }
+      record { below = k.below; of = λ names g c. (k.of names g c).is ∙ rw (h.is, own) (ap (place_of names) f) }
 
   pub place_none : b ≡ false → PlaceFor table n article (whole kinded t) 33
   unfolding starts_with place_for
@@ -47,15 +44,6 @@ module _ (table : List ℕ) (n : ℕ) (article t : List ℕ) {b : Bool} (s : Say
       go : (names : List Granted) (o : Option Record) → starts_with 4 article o ≡ false → 33 ≡ place_for names article o
       go names none f = refl
       go names (some r) f = held names (as_pack r) (sym (packaging_read article r) ∙ f)
-
--- ---- the first counts
-
-module _ (old : Spot) (at end : ℕ) {b : Bool} (s : Says (is_empty old) b) where
-  pub kept_new : b ≡ true → SpotAfter old at end (record { at = at; end = end })
-  kept_new e = record { is = rw (s.is ∙ e) }
-
-  pub kept_old : b ≡ false → SpotAfter old at end old
-  kept_old e = record { is = rw (s.is ∙ e) }
 
 -- ---- the first at a place, when one more record stands in front
 

@@ -1,123 +1,125 @@
 -- What the used records come to: what stands at a spot, and place after place.
 use Prim.Native.Nat.{ℕ, suc, ◌+◌, ◌-◌, ◌*◌, ◌≤◌, ◌<◌}
 use mathlib.Core.Path.{◌≡◌, refl, sym, ◌∙◌, ap, subst}
-use mathlib.Core.Bool.{Bool, true, false, cond, false≢true}
-use mathlib.Core.List.{List, [], ◌∷◌, ◌++◌, append_assoc, append-nil}
-use mathlib.Core.Option.{Option, some, none, some-injective}
+use mathlib.Core.List.{List, [], ◌++◌, append_assoc, append-nil}
+use mathlib.Core.Option.{Option, some, none}
+use Rattle.std.specs.Prelude as Std
+use Rattle.std.specs.Prelude.{Option as Maybe, Some, None, IfSome, Ok, Err}
+use Rattle.std.specs.Option.{option_or}
+use Rattle.std.specs.Iterator.{Yields}
+use Rattle.std.specs.Iterator.Adapters.{zip_first, zip_second}
+use Rattle.std.specs.Slice.Iter.{iter_rest}
+use Rattle.std.proofs.Common.{Iter}
+use Rattle.std.specs.declared.iter.Zip.{Zip}
+use Rattle.std.proofs.iter.Yields.{fronts}
+use Rattle.std.proofs.lemmas.Iterator.{zips}
+use Rattle.std.proofs.lemmas.Slice.Zip.{zip_turn, zip_end}
 use native.Mathlib.Omega.{arith}
 use native.Mathlib.Decide.{dec_lt}
 use lib.IntN.{pos, nat_abs}
-use lib.ListN.{take, drop, get_or, replicate, get_or-replicate, get_or-eq_default}
-use borrow.Author.Tests.{ne_eqb}
-use Rattle.rules.specs.Lists.{is_some, cons_some}
+use denote.Ref.{Bor}
+use lib.Seq.{get_or-take}
+use lib.ListN.{length, length-take, take, get_or, replicate, get_or-replicate, get_or-eq_default}
+use Rattle.rules.specs.Lists.{all, is_some, cons_some}
+use Rattle.rules.specs.Layout.{whole}
+use Rattle.rules.specs.BookLayout.{kinded}
+use Rattle.rules.specs.declared.Part.{Part}
+use Rattle.rules.specs.declared.Refusal.{Refusal}
+use Rattle.rules.specs.declared.Refusal.TheVariants.{UnfitPackaging}
 use Rattle.rules.specs.Book.{PackagingRecord, Pack}
-use Rattle.rules.specs.Packaging.{or_else}
-use Rattle.rules.proofs.KindLaws.{pack_kind, same_held}
-use Rattle.layout.specs.Reads.{part}
-use Rattle.layout.specs.Ensures.{Says}
+use Rattle.rules.specs.Packaging.{or_else, units_agree, three}
 use Rattle.records.specs.declared.packagings.Packing.{Packing}
 use Rattle.records.specs.Asks.{OfKind}
-use Rattle.records.specs.Ensures.{pack_in, PackIs}
+use Rattle.records.specs.Ensures.{bytes_in, pack_in, PackIs}
 use Rattle.records.proofs.FieldLaws.{kind_byte}
 use Rattle.packed.specs.declared.sums.Sums.{Sums}
-use Rattle.packed.specs.Sums.{most_before, Added, SumsAre, Within, nothing}
-use Rattle.packed.proofs.SumLaws.{sums_more}
-use Rattle.packaging.specs.declared.spots.Spot.{Spot}
-use Rattle.packaging.specs.Spots.{is_empty, no_spot, PackThere, Held, SpotIs, NoPack, OnePack, pack_there, Marks, AllMark, FirstOf, used_from, used_in}
-use Rattle.packaging.specs.Sums.{WithRecord, WithSpot, SumsFrom}
-
-module _ {b : List ℕ} {at end : ℕ} where
-  pub held_kind : Held b at end → OfKind 4 (take (end - at) (drop at b))
-  held_kind h = record { kind = kind_byte (take (end - at) (drop at b)) (PackagingRecord h.pack) h.there.is; ok = ap is_some h.there.is }
-
-  pub record_added : {s r : Sums} {p : Packing} → PackIs (take (end - at) (drop at b)) p → Added s p r → WithRecord b s at end r
-  record_added {s} {r} {p} h a = record {
-    is = λ x there us are. subst (λ (y : Pack). SumsAre (us ++ (y ∷ [])) r) (same_pack x (sym h.is ∙ there.is)) (sums_more (part b at end) are a);
-    near = a.values.near;
-  }
-    where
-      same_pack : (x : Pack) → some (PackagingRecord (pack_in (part b at end) p)) ≡ some (PackagingRecord x) → pack_in (part b at end) p ≡ x
-      same_pack x e = same_held pack_kind (pack_in (part b at end) p) x (some-injective (PackagingRecord _) (PackagingRecord x) e)
+use Rattle.packed.specs.Sums.{most_before, Added, Fits, Clashes, SumsAre, Within, nothing}
+use Rattle.packed.proofs.SumLaws.{sums_more, clash_more, clash_stays}
+use Rattle.packaging.specs.Spots.{pack_held, Held, SpotIs, NoPack, OnePack, pack_there, AllHeld, used_from, used_in}
+use Rattle.packaging.specs.Sums.{Come, Agree, Clash, WithSpot, SumsFrom}
 
 -- ---- what stands at a spot
 
-pub there_is : {b : List ℕ} {p : Spot} {o : Option Pack} → SpotIs b p o → pack_there b p ≡ o
+pub there_is : {b : List ℕ} {p : Maybe Part} {o : Option Pack} → SpotIs b p o → pack_there b p ≡ o
 unfolding pack_there
-there_is {p = p} (NoPack z) = rw z
-there_is {p = p} (OnePack x t) = rw (ne_eqb p.at 0 (λ z. omega (arith, t.low)), t.is)
+there_is NoPack = refl
+there_is (OnePack p x t) = ap pack_held t.is
 
-none_there : (b : List ℕ) (p : Spot) → is_empty p ≡ true → pack_there b p ≡ none
-none_there b p z = there_is (NoPack z)
+held_there : {b : List ℕ} {p : Part} (h : Held b p) → pack_there b (Some p) ≡ some h.pack
+held_there {p = p} h = there_is (OnePack p h.pack h.there)
 
-some_there : {b : List ℕ} {p : Spot} → Marks b p → is_empty p ≡ false → (x : Pack) × PackThere b p.at p.end x × (pack_there b p ≡ some x)
-some_there {b} {p} m n = go m.is refl
-  where
-    go : {o : Option Pack} → SpotIs b p o → pack_there b p ≡ o → (x : Pack) × PackThere b p.at p.end x × (pack_there b p ≡ some x)
-    go (NoPack z) e = absurd (false≢true (sym n ∙ z))
-    go (OnePack x t) e = (x, t, e)
+pub held_is : {b : List ℕ} (p : Maybe Part) {o : Option Pack} → SpotIs b p o → IfSome p (Held b)
+held_is None h = tt
+held_is (Some p) (OnePack _ x t) = record { pack = x; there = t }
 
--- by what the code asks
-module _ (b : List ℕ) (p : Spot) {t : Bool} (s : Says (is_empty p) t) where
-  pub empty_there : t ≡ true → pack_there b p ≡ none
-  empty_there e = none_there b p (s.is ∙ e)
+there : (b : List ℕ) (p : Part) {t : List ℕ} → t ≡ bytes_in b p → {x : Packing} → PackIs t x → pack_there b (Some p) ≡ some (pack_in t x)
+unfolding pack_there
+there b p e h = ap pack_held (ap (whole kinded) (sym e) ∙ h.is)
 
-  pub full_there : Marks b p → t ≡ false → (x : Pack) × PackThere b p.at p.end x × (pack_there b p ≡ some x)
-  full_there m e = some_there m (s.is ∙ e)
+module _ {b : List ℕ} {p : Part} {t : List ℕ} (e : t ≡ bytes_in b p) where
+  pub held_kind : Held b p → OfKind 4 t
+  held_kind h = rw e (record { kind = kind_byte (bytes_in b p) (PackagingRecord h.pack) h.there.is; ok = ap is_some h.there.is })
 
-  pub marks_held : Marks b p → t ≡ false → Held b p.at p.end
-  marks_held m e = let x = full_there m e in record { pack = x.0; there = x.1 }
+  module _ {x : Packing} (h : PackIs t x) {s : Sums} where
+    pub spot_added : {r : Std.Result Sums Refusal} → Added s x r → WithSpot b s (Some p) r
+    spot_added (Fits {r = r} a) = record {
+      is = λ us are. subst (λ (o : Option Pack). Come (us ++ cons_some o []) (Ok r)) (sym (there b p e h)) (Agree (sums_more t x are a));
+      near = a.values.near;
+    }
+    spot_added (Clashes c) = record {
+      is = λ us are. subst (λ (o : Option Pack). Come (us ++ cons_some o []) (Err UnfitPackaging)) (sym (there b p e h)) (Clash (clash_more t x are c));
+      near = tt;
+    }
 
-  pub spot_empty : {sums : Sums} → t ≡ true → WithSpot b sums p sums
-  spot_empty {sums} e = record {
-    is = λ us are.
-        let none_more : us ++ cons_some (pack_there b p) [] ≡ us = ap (λ (o : Option Pack). us ++ cons_some o []) (empty_there e) ∙ append-nil us in
-        subst (λ (ps : List Pack). SumsAre ps sums) (sym none_more) are;
-    near = λ i. omega arith;
-  }
-
-  pub spot_added : {sums r : Sums} → Marks b p → t ≡ false → WithRecord b sums p.at p.end r → WithSpot b sums p r
-  spot_added {sums} {r} m e w =
-      let x = full_there m e in
-      record { is = λ us are. subst (λ (o : Option Pack). SumsAre (us ++ cons_some o []) r) (sym x.2) (w.is x.0 x.1 us are); near = w.near }
+pub spot_empty : (b : List ℕ) (s : Sums) → WithSpot b s None (Ok s)
+unfolding pack_there
+spot_empty b s = record {
+  is = λ us are. Agree (subst (λ (ps : List Pack). SumsAre ps s) (sym (append-nil us)) are);
+  near = λ i. omega arith;
+}
 
 -- ---- the own one, or that of any article
 
-module _ (own any : Spot) where
-  module _ {t : Bool} (s : Says (is_empty own) t) where
-    pub first_any : t ≡ true → FirstOf own any any
-    first_any e = record { is = rw (s.is ∙ e) }
+first_held : (b : List ℕ) (own any : Maybe Part) → IfSome own (Held b) → IfSome any (Held b) → IfSome (option_or own any) (Held b)
+first_held b None any h k = k
+first_held b (Some p) any h k = h
 
-    pub first_own : t ≡ false → FirstOf own any own
-    first_own e = record { is = rw (s.is ∙ e) }
-
-  module _ {b : List ℕ} {r : Spot} (m : Marks b own) (k : Marks b any) (f : FirstOf own any r) where
-    first_cases : (P : Spot → Type 0) → (is_empty own ≡ true → P any) → (is_empty own ≡ false → P own) → P r
-    first_cases P x y = rw f.is (go (is_empty own) refl)
-      where
-        go : (t : Bool) → is_empty own ≡ t → P (cond t any own)
-        go true e = x e
-        go false e = y e
-
-    first_marks : Marks b r
-    first_marks = first_cases (Marks b) (λ e. k) (λ e. m)
-
-    first_there : pack_there b r ≡ or_else (pack_there b own) (pack_there b any)
-    first_there =
-        first_cases (λ p. pack_there b p ≡ or_else (pack_there b own) (pack_there b any))
-        (λ e. sym (ap (λ (o : Option Pack). or_else o (pack_there b any)) (none_there b own e)))
-        (λ e. let x = some_there m e in x.2 ∙ sym (ap (λ (o : Option Pack). or_else o (pack_there b any)) x.2))
+first_there : (b : List ℕ) (own any : Maybe Part) → IfSome own (Held b) → pack_there b (option_or own any) ≡ or_else (pack_there b own) (pack_there b any)
+unfolding pack_there
+first_there b None any h = refl
+first_there b (Some p) any h = held_there h ∙ sym (ap (λ (o : Option Pack). or_else o (pack_there b any)) (held_there h))
 
 -- ---- place after place
 
+-- the loop goes over both arrays at once: where it stands, and how often it turned
+module _ (own any : List (Maybe Part)) (xs : List (Bor (Maybe Part) × Bor (Maybe Part))) {front : Iter (Maybe Part)} {z s : Zip (Iter (Maybe Part)) (Iter (Maybe Part))}
+    (t u : Zip (Iter (Maybe Part)) (Iter (Maybe Part))) (r : Maybe (Bor (Maybe Part) × Bor (Maybe Part))) (e : s ≡ z) (f : zip_first z ≡ front) (g : iter_rest front ≡ take 33 own) (h : iter_rest (zip_second z) ≡ any)
+    (y : Yields (zips fronts fronts) s xs t) (step : zips fronts fronts t r u) where
+  first_is : iter_rest (zip_first s) ≡ take 33 own
+  first_is = ap (λ (z : Zip (Iter (Maybe Part)) (Iter (Maybe Part))). iter_rest (zip_first z)) e ∙ ap (λ (i : Iter (Maybe Part)). iter_rest i) f ∙ g
+
+  second_is : iter_rest (zip_second s) ≡ any
+  second_is = ap (λ (z : Zip (Iter (Maybe Part)) (Iter (Maybe Part))). iter_rest (zip_second z)) e ∙ h
+
+  pub turn : (p : Bor (Maybe Part) × Bor (Maybe Part)) → r ≡ Some p → {spot : Maybe Part} → spot ≡ option_or p.0.now p.1.now
+      → (length xs < 33) × (spot ≡ option_or (get_or own (length xs) None) (get_or any (length xs) None))
+  turn p is i =
+      let w = zip_turn (take 33 own) any xs s t u r first_is second_is y p is step in
+      let l : length xs < 33 = omega (arith, w.0, length-take 33 own) in
+      (l, i ∙ (λ k. option_or ((w.2 None ∙ get_or-take 33 own (length xs) None l) k) (w.3 None k)))
+
+  pub turns : r ≡ None → length own ≡ 34 → length any ≡ 34 → 33 ≤ length xs
+  turns is l m = omega (arith, zip_end (take 33 own) any xs s t u r first_is second_is y is step, length-take 33 own)
+
 -- `before` are the records of the places below i, and with those from i on they are all
-pub record Adding (b : List ℕ) (own any : List Spot) (s : Sums) (i : ℕ) : Type 0 where
+pub record Adding (b : List ℕ) (own any : List (Maybe Part)) (s : Sums) (i : ℕ) : Type 0 where
   pub most : i ≤ 33
   pub before : List Pack
   pub sums : SumsAre before s
   pub rest : before ++ used_from b own any i (33 - i) ≡ used_in b own any
   pub near : (k : ℕ) → nat_abs (get_or s.values k (pos 0)) ≤ i * 10_000_000
 
-module _ (b : List ℕ) (own any : List Spot) where
+module _ (b : List ℕ) (own any : List (Maybe Part)) where
   pub add_start : Adding b own any nothing 0
   add_start = record {
     most = omega arith;
@@ -139,39 +141,56 @@ module _ (b : List ℕ) (own any : List Spot) where
       pub add_room : Within most_before s
       add_room = record { each = λ k. omega (arith, inv.near k) }
 
-      module _ (m : AllMark b own) (n : AllMark b any) {spot : Spot} (f : FirstOf (get_or own i no_spot) (get_or any i no_spot) spot) where
-        pub add_marks : Marks b spot
-        add_marks = first_marks (get_or own i no_spot) (get_or any i no_spot) (m.each i l) (n.each i l) f
+      module _ (m : AllHeld b own) (n : AllHeld b any) where
+        abbrev spot : Maybe Part
+        spot = option_or (get_or own i None) (get_or any i None)
+
+        pub add_held : IfSome spot (Held b)
+        add_held = first_held b (get_or own i None) (get_or any i None) (m.each i l) (n.each i l)
 
         step : used_from b own any i (33 - i) ≡ cons_some (pack_there b spot) (used_from b own any (i + 1) (33 - (i + 1)))
         unfolding used_from
         step =
             let e : 33 - i ≡ suc (33 - (i + 1)) = omega arith in
             let g : suc i ≡ i + 1 = omega arith in
-            let here = first_there (get_or own i no_spot) (get_or any i no_spot) (m.each i l) (n.each i l) f in
+            let here = first_there b (get_or own i None) (get_or any i None) (m.each i l) in
             ap (used_from b own any i) e ∙ (λ k. cons_some (sym here k) (used_from b own any (g k) (33 - (i + 1))))
 
-        pub add_turn : {s' : Sums} → WithSpot b s spot s' → Adding b own any s' (i + 1)
+        one : (o : Option Pack) (ps : List Pack) → cons_some o [] ++ ps ≡ cons_some o ps
+        one none ps = refl
+        one (some x) ps = refl
+
+        onward : (inv.before ++ cons_some (pack_there b spot) []) ++ used_from b own any (i + 1) (33 - (i + 1)) ≡ used_in b own any
+        onward =
+            append_assoc inv.before (cons_some (pack_there b spot) []) (used_from b own any (i + 1) (33 - (i + 1)))
+            ∙ ap (λ (ps : List Pack). inv.before ++ ps) (one (pack_there b spot) (used_from b own any (i + 1) (33 - (i + 1))) ∙ sym step)
+            ∙ inv.rest
+
+        pub add_turn : {s' : Sums} → WithSpot b s spot (Ok s') → Adding b own any s' (i + 1)
         add_turn {s'} w = record {
           most = omega arith;
           before = inv.before ++ cons_some (pack_there b spot) [];
-          sums = w.is inv.before inv.sums;
-          rest =
-              append_assoc inv.before (cons_some (pack_there b spot) []) (used_from b own any (i + 1) (33 - (i + 1)))
-              ∙ ap (λ (ps : List Pack). inv.before ++ ps) (one (pack_there b spot) (used_from b own any (i + 1) (33 - (i + 1))) ∙ sym step)
-              ∙ inv.rest;
+          sums = agreed (w.is inv.before inv.sums);
+          rest = onward;
           near = λ k. omega (arith, inv.near k, w.near k);
         }
           where
-            one : (o : Option Pack) (ps : List Pack) → cons_some o [] ++ ps ≡ cons_some o ps
-            one none ps = refl
-            one (some x) ps = refl
+            agreed : {us : List Pack} {r : Sums} → Come us (Ok r) → SumsAre us r
+            agreed (Agree a) = a
 
-    pub add_end : 33 ≤ i → SumsFrom (used_in b own any) s
+        pub add_clash : {e : Refusal} → WithSpot b s spot (Err e) → SumsFrom (used_in b own any) (Err e)
+        add_clash {e} w = record { is = go e (w.is inv.before inv.sums); within = tt }
+          where
+            go : (e : Refusal) → Come (inv.before ++ cons_some (pack_there b spot) []) (Err e) → Come (used_in b own any) (Err e)
+            go e (Clash c) =
+                Clash (ap (λ (ps : List Pack). all (units_agree ps) three) (sym onward)
+                ∙ clash_stays (inv.before ++ cons_some (pack_there b spot) []) (used_from b own any (i + 1) (33 - (i + 1))) c)
+
+    pub add_end : 33 ≤ i → SumsFrom (used_in b own any) (Ok s)
     unfolding used_from
     add_end h =
         let e : i ≡ 33 = omega (arith, inv.most) in
         record {
-          is = subst (λ (ps : List Pack). SumsAre ps s) (sym (append-nil inv.before) ∙ ap (λ (ps : List Pack). inv.before ++ ps) (sym (ap (λ (k : ℕ). used_from b own any k (33 - k)) e)) ∙ inv.rest) inv.sums;
+          is = Agree (subst (λ (ps : List Pack). SumsAre ps s) (sym (append-nil inv.before) ∙ ap (λ (ps : List Pack). inv.before ++ ps) (sym (ap (λ (k : ℕ). used_from b own any k (33 - k)) e)) ∙ inv.rest) inv.sums);
           within = record { each = λ k. omega (arith, inv.near k) };
         }

@@ -1,5 +1,5 @@
 -- At which place a packaging record is kept, which record stands at a spot, and which of them are used.
-use Rattle.std.specs.Prelude.{ℕ, ◌≤◌, ◌<◌, ◌≡◌, Bool, true, ◌&&◌, cond, List, eqb, length, get_or}
+use Rattle.std.specs.Prelude.{Option as Maybe, Some, None, IfSome, Result, Ok, Err, ℕ, ◌+◌, ◌≤◌, ◌<◌, ◌≡◌, true, false, ◌&&◌, cond, List, eqb, length, get_or}
 use Rattle.std.proofs.Math.Option.{Option, some, none}
 use Rattle.rules.specs.Question.{Granted}
 use Rattle.rules.specs.Lists.{same, first, gather, is_some, if_some}
@@ -7,11 +7,13 @@ use Rattle.rules.specs.Layout.{whole}
 use Rattle.rules.specs.Book.{Record, PackagingRecord, Pack, as_pack, packagings, article_of}
 use Rattle.rules.specs.BookLayout.{kinded, star}
 use Rattle.rules.specs.Packaging.{or_else}
-use Rattle.layout.specs.Reads.{part}
+use Rattle.rules.specs.declared.Part.{Part}
+use Rattle.rules.specs.declared.Refusal.{Refusal}
+use Rattle.rules.specs.declared.Refusal.TheVariants.{NoArticle}
+use Rattle.records.specs.Ensures.{bytes_in}
 use Rattle.layout.specs.Records.{records_left}
 use Rattle.grants.specs.Table.{GrantsAre}
 use Rattle.grants.specs.Places.{nowhere, place_of, up_from}
-use Rattle.packaging.specs.declared.spots.Spot.{Spot}
 use Rattle.packaging.specs.declared.spots.Found.{Found}
 
 -- ---- the place of a record
@@ -35,62 +37,55 @@ first_at names article rs place = first (λ p. same p.article article && eqb (pl
 
 -- ---- what stands at a spot
 
--- no record stands there
-abbrev pub is_empty : Spot → Bool
-is_empty s = eqb s.at 0
+-- the bytes of b at p are the packaging x
+pub record PackThere (b : List ℕ) (p : Part) (x : Pack) : Type 0 where
+  pub fits : p.at + p.size ≤ length b
+  pub is : whole kinded (bytes_in b p) ≡ some (PackagingRecord x)
 
-abbrev pub no_spot : Spot
-no_spot = record { at = 0; end = 0 }
-
-pub record SpotAfter (old : Spot) (at end : ℕ) (r : Spot) : Type 0 where
-  pub is : r ≡ cond (is_empty old) (record { at = at; end = end }) old
-
--- the bytes of b from `at` to `end` are the packaging p
-pub record PackThere (b : List ℕ) (at end : ℕ) (p : Pack) : Type 0 where
-  pub low : 1 ≤ at
-  pub order : at < end
-  pub fits : end ≤ length b
-  pub is : whole kinded (part b at end) ≡ some (PackagingRecord p)
-
-pub record Held (b : List ℕ) (at end : ℕ) : Type 0 where
+pub record Held (b : List ℕ) (p : Part) : Type 0 where
   pub pack : Pack
-  pub there : PackThere b at end pack
+  pub there : PackThere b p pack
 
-pub data SpotIs (b : List ℕ) (s : Spot) : Option Pack → Type 0 where
-  NoPack : is_empty s ≡ true → SpotIs b s none
-  OnePack : (x : Pack) → PackThere b s.at s.end x → SpotIs b s (some x)
+-- what is kept at a spot is the packaging o, or neither is there
+pub data SpotIs (b : List ℕ) : Maybe Part → Option Pack → Type 0 where
+  NoPack : SpotIs b None none
+  OnePack : (p : Part) (x : Pack) → PackThere b p x → SpotIs b (Some p) (some x)
 
-unfoldable pub pack_there : List ℕ → Spot → Option Pack
-pack_there b s = cond (is_empty s) none (pack_held (whole kinded (part b s.at s.end)))
+unfoldable pub pack_there : List ℕ → Maybe Part → Option Pack
+pack_there b None = none
+pack_there b (Some p) = pack_held (whole kinded (bytes_in b p))
 
--- where the spot is not empty, a packaging stands there
-pub record Marks (b : List ℕ) (s : Spot) : Type 0 where
-  pub is : SpotIs b s (pack_there b s)
+-- at each place a packaging stands in the book where the spot says, or the spot is empty
+pub record AllHeld (b : List ℕ) (ss : List (Maybe Part)) : Type 0 where
+  pub each : (i : ℕ) → i < 33 → IfSome (get_or ss i None) (Held b)
 
-pub record AllMark (b : List ℕ) (ss : List Spot) : Type 0 where
-  pub each : (i : ℕ) → i < 33 → Marks b (get_or ss i no_spot)
+pub record FoundHeld (b : List ℕ) (f : Found) : Type 0 where
+  pub own : AllHeld b f.own
+  pub any : AllHeld b f.any
 
 -- ---- the walk
 
 -- at the spot of place i stands what f gives for it
-pub record Keeps (b : List ℕ) (ss : List Spot) (f : ℕ → Option Pack) : Type 0 where
+pub record Keeps (b : List ℕ) (ss : List (Maybe Part)) (f : ℕ → Option Pack) : Type 0 where
   pub long : length ss ≡ 34
-  pub each : (i : ℕ) → i < 33 → SpotIs b (get_or ss i no_spot) (f i)
+  pub each : (i : ℕ) → i < 33 → SpotIs b (get_or ss i None) (f i)
 
 -- at each place the first record of the article, or of any, for the names that the table is of, of which there are n
-pub record FoundIs (b article table : List ℕ) (n : ℕ) (r : Found) : Type 0 where
+pub record FoundIn (b article table : List ℕ) (n : ℕ) (r : Found) : Type 0 where
   pub own : (names : List Granted) → GrantsAre names table → length names ≡ n → Keeps b r.own (first_at names article (records_left b 5))
   pub any : (names : List Granted) → GrantsAre names table → length names ≡ n → Keeps b r.any (first_at names star (records_left b 5))
-  pub known : r.known ≡ is_some (article_of (records_left b 5) article)
+  pub known : is_some (article_of (records_left b 5) article) ≡ true
+
+-- or the book has no record of the article
+pub data FoundIs (b article table : List ℕ) (n : ℕ) : Result Found Refusal → Type 0 where
+  Known : {f : Found} → FoundIn b article table n f → FoundIs b article table n (Ok f)
+  Unknown : is_some (article_of (records_left b 5) article) ≡ false → FoundIs b article table n (Err NoArticle)
 
 -- ---- which are used
 
-pub record FirstOf (own any r : Spot) : Type 0 where
-  pub is : r ≡ cond (is_empty own) any own
-
 -- the records at the places from i on, n of them: the own ones, and where there is none that of any article
-unfoldable pub used_from : List ℕ → List Spot → List Spot → ℕ → ℕ → List Pack
-used_from b own any i n = gather (λ k. or_else (pack_there b (get_or own k no_spot)) (pack_there b (get_or any k no_spot))) (up_from i n)
+unfoldable pub used_from : List ℕ → List (Maybe Part) → List (Maybe Part) → ℕ → ℕ → List Pack
+used_from b own any i n = gather (λ k. or_else (pack_there b (get_or own k None)) (pack_there b (get_or any k None))) (up_from i n)
 
-abbrev pub used_in : List ℕ → List Spot → List Spot → List Pack
+abbrev pub used_in : List ℕ → List (Maybe Part) → List (Maybe Part) → List Pack
 used_in b own any = used_from b own any 0 33

@@ -1,54 +1,36 @@
 // What the used packaging records come to, place after place.
+ghost use Rattle.std.specs.Prelude.{IfSome};
 ghost use Rattle.packed.specs.Sums.{most_before, Within};
-ghost use Rattle.packaging.specs.Spots.{Held, Marks, AllMark, FirstOf, used_in};
-ghost use Rattle.packaging.specs.Sums.{WithRecord, WithSpot, SumsFrom};
+ghost use Rattle.packaging.specs.Spots.{Held, FoundHeld, used_in};
+ghost use Rattle.packaging.specs.Sums.{WithSpot, SumsFrom};
 
-use crate::spots::{SPOTS, Spot};
+use crate::spots::Found;
 use grants::NOWHERE;
 use packed::sums::{NOTHING, Sums, add_pack};
-use records::packaging_of;
-
-// With the record that stands from `at` to `end`.
-fn with_record(b: &[u8], s: Sums, at: usize, end: usize) -> Sums
-    requires held { Held b.now at end }
-    requires within { Within most_before s }
-    ensures { WithRecord b.now s at end result }
-{
-    let p = packaging_of(&b[at..end]);
-    add_pack(s, p)
-}
+use records::{bytes_of, packaging_of};
+use rules::{Part, Refusal};
 
 // With the record at a spot, if there is one.
-fn with_spot(b: &[u8], s: Sums, spot: Spot) -> Sums
-    requires marks { Marks b.now spot }
+fn with_spot(b: &[u8], s: Sums, spot: Option<Part>) -> Result<Sums, Refusal>
+    requires held { IfSome spot (Held b.now) }
     requires within { Within most_before s }
     ensures { WithSpot b.now s spot result }
 {
-    if spot.is_empty() {
-        return s;
+    match spot {
+        Some(part) => add_pack(s, packaging_of(bytes_of(b, part))),
+        None => Ok(s),
     }
-    with_record(b, s, spot.at, spot.end)
 }
 
-// A granted name's record: the article's own, or else that of any article.
-fn first_of(own: Spot, any: Spot) -> Spot
-    ensures { FirstOf own any result }
-{
-    if own.is_empty() { any } else { own }
-}
-
-// Place after place. At 0 there is always an own one when this is called: an article without it is refused before.
-pub fn add_up(b: &[u8], own: [Spot; SPOTS], any: [Spot; SPOTS]) -> Sums
-    requires all_mark { AllMark b.now own }
-    requires all_mark_2 { AllMark b.now any }
-    ensures { SumsFrom (used_in b.now own any) result }
+// Place after place: the article's own record, or else that of any article. At 0 there is always an own one when this is called: an
+// article without it is refused before.
+pub fn add_up(b: &[u8], found: &Found) -> Result<Sums, Refusal>
+    requires { FoundHeld b.now found.now }
+    ensures { SumsFrom (used_in b.now found.now.own found.now.any) result }
 {
     let mut sums = NOTHING;
-    let mut i = 0;
-    while i < NOWHERE {
-        let spot = first_of(own[i], any[i]);
-        sums = with_spot(b, sums, spot);
-        i += 1;
+    for (own, any) in found.own[..NOWHERE].iter().zip(&found.any) {
+        sums = with_spot(b, sums, own.or(*any))?;
     }
-    sums
+    Ok(sums)
 }

@@ -1,4 +1,3 @@
-pub mod UnitLaws
 pub mod ValueLaws
 pub mod SumLaws
 pub mod AnswerLaws

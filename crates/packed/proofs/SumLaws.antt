@@ -2,7 +2,8 @@
 use Prim.Native.Nat.{ℕ, ◌<◌}
 use mathlib.Core.Path.{◌≡◌, refl, sym, ◌∙◌, ap}
 use mathlib.Core.Bool.{Bool, true, false, ◌&&◌}
-use mathlib.Core.List.{List, [], ◌∷◌, ◌++◌, map}
+use mathlib.Core.List.{List, [], ◌∷◌, ◌++◌, map, append-nil, append_assoc}
+use Rattle.std.specs.Prelude.{Ok, Err}
 use lib.Bits.{bit_or}
 use lib.IntN.{ℤ, pos, ◌+ℤ◌}
 use lib.ListN.{get_or}
@@ -10,24 +11,32 @@ use Rattle.rules.specs.Lists.{all}
 use Rattle.rules.specs.Book.{Pack}
 use Rattle.rules.specs.BookLayout.{eight, no_unit}
 use Rattle.rules.specs.Packaging.{unit_in, units_agree, three}
+use Rattle.rules.specs.declared.Refusal.TheVariants.{UnfitPackaging}
 use Rattle.rules.proofs.PackagingLaws.{unit_after, goes_with, present_more, value_more, unit_more, agree_more}
 use Rattle.layout.specs.Ensures.{Says}
 use Rattle.records.specs.declared.packagings.Packing.{Packing}
 use Rattle.records.specs.Ensures.{units_in, pack_in, PackIs}
 use Rattle.packed.specs.declared.sums.Units.{Units}
 use Rattle.packed.specs.declared.sums.Sums.{Sums}
-use Rattle.packed.specs.Sums.{letters_in, UnitsOf, UnitsAfter, units_go, most_before, AddableValues, ValuesAfter, Added, SumsAre, Within}
+use Rattle.packed.specs.Sums.{letters_in, UnitsOf, UnitsAfter, units_go, units_fit, most_before, AddableValues, ValuesAfter, AddedTo, Added, Fits, Clashes, SumsAre, Within}
 
-pub added : (s : Sums) (p : Packing) → p.present < 256 → {values : List ℤ} {new units : Units} {goes agree : Bool} → ValuesAfter s.values p.values values
-    → UnitsOf p.units new → UnitsAfter s.units new units → Says (units_go s.units new) goes → agree ≡ (s.agree && goes)
-    → Added s p (record { present = bit_or s.present p.present; values = values; units = units; agree = agree })
-added s p l v of after go h = record {
-  small = l;
-  present = refl;
-  values = v;
-  units = after.is ∙ ap (λ (ls : List (List ℕ)). map (λ i. unit_after (get_or (letters_in s.units) i no_unit) (get_or ls i no_unit)) three) of.is;
-  agree = h ∙ ap (λ (b : Bool). s.agree && b) (sym go.is) ∙ ap (λ (ls : List (List ℕ)). s.agree && all (λ i. goes_with (get_or (letters_in s.units) i no_unit) (get_or ls i no_unit)) three) of.is;
-}
+module _ (s : Sums) (p : Packing) {new : Units} {goes : Bool} (of : UnitsOf p.units new) (go : Says (units_go s.units new) goes) where
+  fit_is : units_fit s p ≡ goes
+  fit_is = sym (ap (λ (ls : List (List ℕ)). all (λ i. goes_with (get_or (letters_in s.units) i no_unit) (get_or ls i no_unit)) three) of.is) ∙ go.is
+
+  pub added : goes ≡ true → p.present < 256 → {values : List ℤ} {units : Units} → ValuesAfter s.values p.values values → UnitsAfter s.units new units
+      → Added s p (Ok (record { present = bit_or s.present p.present; values = values; units = units }))
+  added e l v after =
+      Fits (record {
+        small = l;
+        present = refl;
+        values = v;
+        units = after.is ∙ ap (λ (ls : List (List ℕ)). map (λ i. unit_after (get_or (letters_in s.units) i no_unit) (get_or ls i no_unit)) three) of.is;
+        goes = fit_is ∙ e;
+      })
+
+  pub not_added : goes ≡ false → Added s p (Err UnfitPackaging)
+  not_added e = Clashes (fit_is ∙ e)
 
 -- two tests of each are one
 both_all : {A : Type 0} (p q : A → Bool) (xs : List A) → (all p xs && all q xs) ≡ all (λ x. p x && q x) xs
@@ -40,26 +49,45 @@ both_all p q (x ∷ xs) = swap (p x) (all p xs) (q x) (all q xs) ∙ ap (λ (b :
     swap true false false d = refl
     swap false b c d = refl
 
-pub sums_more : (t : List ℕ) {us : List Pack} {s r : Sums} {p : Packing} → SumsAre us s → Added s p r → SumsAre (us ++ (pack_in t p ∷ [])) r
-unfolding pack_in
-sums_more t {us} {s} {r} {p} h a =
-    let x : Pack = pack_in t p in
-    record {
-      present = a.present ∙ ap (λ (n : ℕ). bit_or n p.present) h.present ∙ sym (present_more us x a.small);
-      values =
-          a.values.is
-          ∙ ap (λ (zs : List ℤ). map (λ i. get_or zs i (pos 0) +ℤ get_or p.values i (pos 0)) eight) h.values
-          ∙ sym (λ k. value_more us x 0 k ∷ value_more us x 1 k ∷ value_more us x 2 k ∷ value_more us x 3 k ∷ value_more us x 4 k ∷ value_more us x 5 k ∷ value_more us x 6 k ∷ value_more us x 7 k ∷ []);
-      units =
-          a.units
-          ∙ ap (λ (ls : List (List ℕ)). map (λ i. unit_after (get_or ls i no_unit) (get_or (units_in p.units) i no_unit)) three) h.units
-          ∙ sym (λ k. unit_more us x 0 k ∷ unit_more us x 1 k ∷ unit_more us x 2 k ∷ []);
-      agree =
-          a.agree
-          ∙ (λ k. h.agree k && all (λ i. goes_with (get_or (h.units k) i no_unit) (get_or (units_in p.units) i no_unit)) three)
-          ∙ both_all (units_agree us) (λ i. goes_with (get_or (map (unit_in us) three) i no_unit) (get_or (units_in p.units) i no_unit)) three
-          ∙ sym (λ k. agree_more us x 0 k && (agree_more us x 1 k && (agree_more us x 2 k && true)));
-    }
+-- whether their units agree, with one record more
+agree_step : (us : List Pack) (x : Pack) → all (units_agree (us ++ (x ∷ []))) three ≡ (all (units_agree us) three && all (λ i. goes_with (unit_in us i) (get_or x.units i no_unit)) three)
+agree_step us x =
+    (λ k. agree_more us x 0 k && (agree_more us x 1 k && (agree_more us x 2 k && true)))
+    ∙ sym (both_all (units_agree us) (λ i. goes_with (unit_in us i) (get_or x.units i no_unit)) three)
+
+-- once they clash, no record more brings them together
+pub clash_stays : (us more : List Pack) → all (units_agree us) three ≡ false → all (units_agree (us ++ more)) three ≡ false
+clash_stays us [] e = ap (λ (ps : List Pack). all (units_agree ps) three) (append-nil us) ∙ e
+clash_stays us (x ∷ more) e =
+    ap (λ (ps : List Pack). all (units_agree ps) three) (sym (append_assoc us (x ∷ []) more))
+    ∙ clash_stays (us ++ (x ∷ [])) more (agree_step us x ∙ ap (λ (b : Bool). b && all (λ i. goes_with (unit_in us i) (get_or x.units i no_unit)) three) e)
+
+module _ (t : List ℕ) {us : List Pack} {s : Sums} (p : Packing) (h : SumsAre us s) where
+  fit_step : all (units_agree (us ++ (pack_in t p ∷ []))) three ≡ units_fit s p
+  unfolding pack_in
+  fit_step =
+      agree_step us (pack_in t p)
+      ∙ (λ k. h.agree k && all (λ i. goes_with (get_or (sym h.units k) i no_unit) (get_or (units_in p.units) i no_unit)) three)
+
+  pub clash_more : units_fit s p ≡ false → all (units_agree (us ++ (pack_in t p ∷ []))) three ≡ false
+  clash_more e = fit_step ∙ e
+
+  pub sums_more : {r : Sums} → AddedTo s p r → SumsAre (us ++ (pack_in t p ∷ [])) r
+  unfolding pack_in
+  sums_more {r} a =
+      let x : Pack = pack_in t p in
+      record {
+        present = a.present ∙ ap (λ (n : ℕ). bit_or n p.present) h.present ∙ sym (present_more us x a.small);
+        values =
+            a.values.is
+            ∙ ap (λ (zs : List ℤ). map (λ i. get_or zs i (pos 0) +ℤ get_or p.values i (pos 0)) eight) h.values
+            ∙ sym (λ k. value_more us x 0 k ∷ value_more us x 1 k ∷ value_more us x 2 k ∷ value_more us x 3 k ∷ value_more us x 4 k ∷ value_more us x 5 k ∷ value_more us x 6 k ∷ value_more us x 7 k ∷ []);
+        units =
+            a.units
+            ∙ ap (λ (ls : List (List ℕ)). map (λ i. unit_after (get_or ls i no_unit) (get_or (units_in p.units) i no_unit)) three) h.units
+            ∙ sym (λ k. unit_more us x 0 k ∷ unit_more us x 1 k ∷ unit_more us x 2 k ∷ []);
+        agree = fit_step ∙ a.goes;
+      }
 
 pub room_left : {t : List ℕ} {s : Sums} {p : Packing} → Within most_before s → PackIs t p → AddableValues s.values p.values
 room_left w h = record { held_in = w.each; new_in = h.values_in }

@@ -1,12 +1,15 @@
 -- What a caller reads of the sums: the gross weight, the signs, and the answer or 11.
-use Rattle.std.specs.Prelude.{◌≡◌, Bool, ◌&&◌, cond, List, [], ◌∷◌, ℤ, pos, ◌+ℤ◌, ◌*ℤ◌, get_or}
+use Rattle.std.specs.Prelude as Std
+use Rattle.std.specs.Prelude.{Ok, Err, ◌≡◌, Bool, ◌&&◌, cond, List, [], ◌∷◌, ℤ, pos, ◌+ℤ◌, ◌*ℤ◌, get_or}
 use Rattle.std.specs.Int.Signed.{non_neg}
 use Rattle.rules.specs.Lists.{all}
 use Rattle.rules.specs.Book.{Pack}
 use Rattle.rules.specs.BookLayout.{has, eight}
-use Rattle.rules.specs.Refusals.{Result, done, ◌>>=◌, refuse_unless}
+use Rattle.rules.specs.Reasons.{number_for}
+use Rattle.rules.specs.Refusals.{Result, done, refused, ◌>>=◌, refuse_unless}
 use Rattle.rules.specs.Packaging.{value_in, units_agree, three, tare, net, items, Packed, packed_of, shown}
 use Rattle.rules.specs.declared.PackagingAnswer.{PackagingAnswer}
+use Rattle.rules.specs.declared.Refusal.{Refusal}
 use Rattle.packed.specs.declared.sums.Sums.{Sums}
 use Rattle.packed.specs.Sums.{SumsAre}
 
@@ -23,5 +26,10 @@ summed us = do
   _ ← refuse_unless 11 (all (units_agree us) three && all (λ i. non_neg (value_in us i)) eight)
   done (packed_of us)
 
-pub record Answers (s : Sums) (r : PackagingAnswer) : Type 0 where
-  pub is : (us : List Pack) → SumsAre us s → r ≡ shown (summed us)
+-- what the caller reads
+abbrev pub written : Std.Result PackagingAnswer Refusal → PackagingAnswer
+written (Ok a) = a
+written (Err r) = shown (refused (number_for r))
+
+pub record Answers (s : Sums) (r : Std.Result PackagingAnswer Refusal) : Type 0 where
+  pub is : (us : List Pack) → SumsAre us s → written r ≡ shown (summed us)

@@ -1,15 +1,19 @@
 // What packaging records come to, one after the other: their presence bits together, the sum of each value, and the units that they hold to.
-ghost use Rattle.std.specs.Prelude.{◌≡◌, ◌&&◌};
 ghost use Rattle.rules.specs.Packaging.{is_given};
 ghost use Rattle.rules.proofs.PackagingLaws.{goes_with};
 ghost use Rattle.layout.specs.Ensures.{Says};
 ghost use Rattle.packed.specs.Sums.{letters, AddableValues, ValuesAfter, UnitAfter, UnitsOf, UnitsAfter, units_go, Added};
 
 use records::Packing;
+use rules::Refusal;
 
-// Three letters; three zeros: none is given.
-#[derive(Clone, Copy)]
+// Three letters. Three zeros stand for none, in a record, here and in the answer (the definition `no_unit`).
+#[derive(Clone, Copy, PartialEq, Eq)]
 pub struct UnitCode(pub u8, pub u8, pub u8);
+
+impl UnitCode {
+    pub const NONE: UnitCode = UnitCode(0, 0, 0);
+}
 
 #[derive(Clone, Copy)]
 pub struct Units {
@@ -18,24 +22,21 @@ pub struct Units {
     pub weight: UnitCode,
 }
 
-// `agree`: no record gave another unit than one before it.
 #[derive(Clone, Copy)]
 pub struct Sums {
     pub present: u8,
     pub values: [i64; 8],
     pub units: Units,
-    pub agree: bool,
 }
 
 pub const NOTHING: Sums = Sums {
     present: 0,
     values: [0; 8],
     units: Units {
-        length: UnitCode(0, 0, 0),
-        volume: UnitCode(0, 0, 0),
-        weight: UnitCode(0, 0, 0),
+        length: UnitCode::NONE,
+        volume: UnitCode::NONE,
+        weight: UnitCode::NONE,
     },
-    agree: true,
 };
 
 // ---- units
@@ -56,7 +57,7 @@ fn units_of(b: [u8; 9]) -> Units
 fn is_given(u: UnitCode) -> bool
     ensures { Says (is_given (letters u)) result }
 {
-    !((u.0 == 0) & (u.1 == 0) & (u.2 == 0))
+    u != UnitCode::NONE
 }
 
 // The unit held once another record has come: the first that is given.
@@ -70,7 +71,7 @@ fn unit_after(held: UnitCode, new: UnitCode) -> UnitCode
 fn goes_with(held: UnitCode, new: UnitCode) -> bool
     ensures { Says (goes_with (letters held) (letters new)) result }
 {
-    !is_given(new) | !is_given(held) | ((new.0 == held.0) & (new.1 == held.1) & (new.2 == held.2))
+    !is_given(new) | !is_given(held) | (new == held)
 }
 
 fn units_after(held: Units, new: Units) -> Units
@@ -94,13 +95,6 @@ fn units_go(held: Units, new: Units) -> bool
         & goes_with(held.weight, new.weight)
 }
 
-// Whether no record differed so far, once another one's units go with those held, or do not.
-fn agree_after(s: Sums, goes: bool) -> bool
-    ensures { result ≡ (s.agree && goes) }
-{
-    s.agree & goes
-}
-
 // ---- one record more
 
 fn values_after(held: [i64; 8], new: [i64; 8]) -> [i64; 8]
@@ -108,29 +102,24 @@ fn values_after(held: [i64; 8], new: [i64; 8]) -> [i64; 8]
     ensures { ValuesAfter held new result }
 {
     let mut sums = [0i64; 8];
-    let mut i = 0;
-    while i < 8 {
-        sums[i] = held[i] + new[i];
-        i += 1;
+    for (i, sum) in sums.iter_mut().enumerate() {
+        *sum = held[i] + new[i];
     }
     sums
 }
 
-pub fn add_pack(s: Sums, p: Packing) -> Sums
+// A record that gives another unit than one before it is refused.
+pub fn add_pack(s: Sums, p: Packing) -> Result<Sums, Refusal>
     requires { AddableValues s.values p.values }
     ensures { Added s p result }
 {
-    let so_far = s.values;
-    let more = p.values;
-    let values = values_after(so_far, more);
-    let held = s.units;
-    let letters = p.units;
-    let new = units_of(letters);
-    let units = units_after(held, new);
-    Sums {
-        present: s.present | p.present,
-        values,
-        units,
-        agree: agree_after(s, units_go(held, new)),
+    let new = units_of(p.units);
+    if !units_go(s.units, new) {
+        return Err(Refusal::UnfitPackaging);
     }
+    Ok(Sums {
+        present: s.present | p.present,
+        values: values_after(s.values, p.values),
+        units: units_after(s.units, new),
+    })
 }

@@ -1,19 +1,19 @@
--- The days of a period are in order, so halving finds the position of a day.
-use Prim.Native.Nat.{ℕ, zero, suc, ◌+◌, ◌-◌, ◌/◌, ◌≤◌, ◌<◌}
+-- The days of a period are in order, so a day stands at one position.
+use Prim.Native.Nat.{ℕ, zero, suc, ◌+◌, ◌≤◌, ◌<◌}
 use mathlib.Core.Path.{◌≡◌, refl, sym, ◌∙◌, ap, subst}
-use mathlib.Core.Bool.{true}
+use mathlib.Core.Bool.{Bool, true, false, ◌||◌}
 use mathlib.Core.List.{List, [], ◌∷◌}
 use native.Mathlib.Omega.{arith}
 use native.Mathlib.Decide.{dec_lt}
-use lib.Dec.{eqb}
 use lib.ListN.{length, get_or}
-use borrow.Author.Tests.{eq-eqb, ne_eqb}
+use borrow.Author.Tests.{ne_eqb}
 use Rattle.rules.specs.Days.{is_day, next}
 use Rattle.rules.specs.Calendar.{most_days}
 use Rattle.rules.proofs.DayLaws.{next_above, next_is_day, day_most}
 use Rattle.rules.proofs.CalendarLaws.{Days, end, day}
-use Rattle.period.specs.declared.positions.Bounds.{Bounds}
-use Rattle.period.specs.Positions.{Dates, Narrowing, Narrowed, PositionIn}
+use Rattle.rules.proofs.TestLaws.{or_false}
+use Rattle.period.specs.Positions.{Dates}
+use Rattle.period.specs.Marks.{DateMarked}
 
 -- ---- the days of a period are dates in order
 
@@ -91,94 +91,29 @@ period_dates e g h l = let a = at_all e g h in record {
   ascending = a.order;
 }
 
--- ---- halving
+-- ---- a date that is looked for
 
-pub narrow_start : {dates : List ℕ} {d : ℕ} → Dates dates → Narrowing dates d (record { low = 0; high = length dates })
-narrow_start h = record {
-  dates_are = h;
-  order = omega arith;
-  fits = omega arith;
-  below = λ i l. absurd (omega arith);
-  above = λ i l k. absurd (omega arith);
-}
-
-module _ {dates : List ℕ} {d : ℕ} {b : Bounds} (w : Narrowing dates d b) where
-  -- a date is at least one before it
-  at_least : (i j : ℕ) → i ≤ j → j < length dates → get_or dates i 0 ≤ get_or dates j 0
-  at_least i j l h = go (dec_lt i j)
+module _ {dates : List ℕ} (h : Dates dates) where
+  pub dates_rise : (i j : ℕ) → i ≤ j → j < length dates → get_or dates i 0 ≤ get_or dates j 0
+  dates_rise i j l k = go (dec_lt i j)
     where
       go : Dec (i < j) → get_or dates i 0 ≤ get_or dates j 0
-      go (yes k) = omega (arith, w.dates_are.ascending i j k h)
-      go (no k) = let e : i ≡ j = omega arith in subst (λ (x : ℕ). get_or dates i 0 ≤ get_or dates x 0) e (omega arith)
+      go (yes y) = omega (arith, h.ascending i j y k)
+      go (no n) = let e : i ≡ j = omega arith in subst (λ (x : ℕ). get_or dates i 0 ≤ get_or dates x 0) e (omega arith)
 
-  module _ (some_left : b.low < b.high) where
-    abbrev middle : ℕ
-    middle = b.low + (b.high - b.low) / 2
-
-    l : b.low ≤ middle
-    l = omega arith
-
-    h : middle < b.high
-    h = omega arith
-
-    pub narrow_up : get_or dates middle 0 < d → Narrowed dates d b (record { low = middle + 1; high = b.high })
-    narrow_up k =
-        record {
-          narrowing = record {
-            dates_are = w.dates_are;
-            order = omega arith;
-            fits = w.fits;
-            below = λ i g. omega (arith, at_least i middle (omega arith) (omega (arith, w.fits)));
-            above = w.above;
-          };
-          less = omega arith;
-        }
-
-    pub narrow_down : d ≤ get_or dates middle 0 → Narrowed dates d b (record { low = b.low; high = middle })
-    narrow_down k =
-        record {
-          narrowing = record {
-            dates_are = w.dates_are;
-            order = l;
-            fits = omega (arith, w.fits);
-            below = w.below;
-            above = λ i g f. omega (arith, at_least middle i g f);
-          };
-          less = omega arith;
-        }
-
-  module _ (z : b.high ≤ b.low) where
-    pub position_found : b.low < length dates → get_or dates b.low 0 ≡ d → PositionIn dates d b.low
-    position_found l e = record {
-      most = omega (arith, w.dates_are.few);
-      inside = λ n. l;
-      is = λ i h. go i h (dec_lt i b.low) (dec_lt b.low i);
-    }
-      where
-        go : (i : ℕ) → i < length dates → Dec (i < b.low) → Dec (b.low < i) → eqb i b.low ≡ eqb (get_or dates i 0) d
-        go i h (yes k) f = ne_eqb i b.low (λ x. omega arith) ∙ sym (ne_eqb (get_or dates i 0) d (λ x. omega (arith, w.below i k)))
-        go i h (no k) (yes f) = ne_eqb i b.low (λ x. omega arith) ∙ sym (ne_eqb (get_or dates i 0) d (λ x. omega (arith, w.dates_are.ascending b.low i f h)))
-        go i h (no k) (no f) =
-            let x : i ≡ b.low = omega arith in
-            eq-eqb i b.low x ∙ sym (eq-eqb (get_or dates i 0) d (ap (λ (j : ℕ). get_or dates j 0) x ∙ e))
-
+  module _ {marks : List Bool} (long : length marks ≡ most_days) (d : ℕ) where
     -- no date is d
-    missing : ((i : ℕ) → i < length dates → get_or dates i 0 ≡ d → ⊥) → PositionIn dates d most_days
-    missing n =
-        record {
-          most = omega arith;
-          inside = λ x. absurd (x refl);
-          is = λ i h. ne_eqb i most_days (λ x. omega (arith, w.dates_are.few)) ∙ sym (ne_eqb (get_or dates i 0) d (n i h));
-        }
+    marked_none : ((i : ℕ) → i < length dates → get_or dates i 0 ≡ d → ⊥) → DateMarked dates d marks marks
+    marked_none n = record {
+      long = refl;
+      is = λ i l. sym (ap (λ (b : Bool). get_or marks i false || b) (ne_eqb (get_or dates i 0) d (n i l)) ∙ or_false (get_or marks i false));
+      behind = λ i l. refl;
+    }
 
-    pub position_between : (get_or dates b.low 0 ≡ d → ⊥) → PositionIn dates d most_days
-    position_between n = missing (λ i h e. go i h e (dec_lt i b.low))
+    -- those before position p are below d, and the others above
+    pub marked_missed : (p : ℕ) → ((i : ℕ) → i < p → get_or dates i 0 < d) → ((i : ℕ) → p ≤ i → i < length dates → d < get_or dates i 0) → DateMarked dates d marks marks
+    marked_missed p below above = marked_none (λ i l e. go i l e (dec_lt i p))
       where
-        go : (i : ℕ) → i < length dates → get_or dates i 0 ≡ d → Dec (i < b.low) → ⊥
-        go i h e (yes k) = omega (arith, w.below i k)
-        go i h e (no k) =
-            let ne : get_or dates b.low 0 ≡ d → ⊥ = n in
-            omega (arith, w.above b.low z (omega arith), at_least b.low i (omega arith) h)
-
-    pub position_behind : length dates ≤ b.low → PositionIn dates d most_days
-    position_behind l = missing (λ i h e. omega (arith, w.below i (omega arith)))
+        go : (i : ℕ) → i < length dates → get_or dates i 0 ≡ d → Dec (i < p) → ⊥
+        go i l e (yes y) = omega (arith, below i y)
+        go i l e (no n) = omega (arith, above i (omega arith) l)

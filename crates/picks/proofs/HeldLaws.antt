@@ -12,7 +12,6 @@ use Rattle.rules.specs.Lists.{gather, cons_some}
 use Rattle.rules.specs.Book.{Row}
 use Rattle.rules.specs.Question.{Question}
 use Rattle.rules.specs.Lines.{Chosen}
-use Rattle.layout.specs.Ensures.{Says}
 use Rattle.grants.specs.Places.{up_from}
 use Rattle.choice.specs.Hands.{is_empty, TakenIs, RowThere, Holds}
 use Rattle.choice.specs.Slots.{placed_row, slot_chosen, slots_chosen}
@@ -22,15 +21,6 @@ use Rattle.choice.specs.declared.hands.Seen.{Seen}
 use Rattle.choice.proofs.SlotLaws.{slots_choose, slot_behind}
 use Rattle.choice.proofs.ChosenLaws.{slot_empty, slot_full}
 use Rattle.picks.specs.Held.{Counted, StepIs, NextPlace, Stands, HeldAre, HeldSoFar, Holding, HeldIn}
-
--- ---- the functions
-
-module _ {h : Hand} {b : Bool} (p : Says (is_empty h) b) where
-  pub counts_none : b ≡ true → Counted h 0
-  counts_none e = record { is = rw (p.is, e); most = omega arith }
-
-  pub counts_one : b ≡ false → Counted h 1
-  counts_one e = record { is = rw (p.is, e); most = omega arith }
 
 -- ---- what the slots left choose
 

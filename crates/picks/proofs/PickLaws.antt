@@ -32,7 +32,7 @@ use Rattle.lines.specs.declared.Pick.{Pick}
 use Rattle.lines.specs.Views.{View, view_of, view_in, views_in, no_pick, base_first}
 use Rattle.lines.specs.Ensures.{StandFor, Sound, Listable}
 use Rattle.lines.proofs.ChosenLaws.{chosen_base_first}
-use Rattle.picks.specs.declared.Picks.{Picks}
+use Rattle.picks.specs.declared.chosen.Picks.{Picks}
 use Rattle.picks.specs.Held.{Stands, HeldAre, HeldIn}
 use Rattle.picks.specs.Picks.{RoundingsIn, RowFound, RowPicked, PlacePicked, PicksSoFar, Filled, PickedAre, PicksFrom, PickedFor}
 use Rattle.picks.proofs.WithinLaws.{walk_within, spots_within}
@@ -40,16 +40,16 @@ use Rattle.picks.proofs.WithinLaws.{walk_within, spots_within}
 -- ---- the spots of the roundings
 
 module _ {b : List ℕ} {w : Window} (told : RoundingsIn b w) where
-  pub window_long : length (take w.to b) ≡ w.to
-  window_long = length-take-le w.to b told.window.rounding_fits
+  pub window_long : length (take w.spans.roundings.last b) ≡ w.spans.roundings.last
+  window_long = length-take-le w.spans.roundings.last b told.window.rounding_fits
 
-  pub roundings_between : Between (take w.to b) w.from
+  pub roundings_between : Between (take w.spans.roundings.last b) w.spans.roundings.first
   roundings_between = told.window.rounding_between
 
   pub few_noted : w.noted.count < 17 → SpotsNoted b 5 w.noted.spots w.noted.count
   few_noted h = told.window.noted.are (omega arith)
 
-  pub many_walked : {numbers : List ℕ} {n : ℕ} {spots : List ℕ} → SpotsFound (take w.to b) w.from numbers n spots → SpotsFound b 5 numbers n spots
+  pub many_walked : {numbers : List ℕ} {n : ℕ} {spots : List ℕ} → SpotsFound (take w.spans.roundings.last b) w.spans.roundings.first numbers n spots → SpotsFound b 5 numbers n spots
   many_walked = spots_within told.window
 
 module _ {b : List ℕ} {at found : ℕ} (held : RowStands b at) (row-found : RowFound b at found) where
@@ -169,7 +169,7 @@ module _ {b : List ℕ} {names : List Granted} {table : List ℕ} (granted : Gra
   all_sound = views_sound n (omega arith)
 
 pub picks_end : {b table : List ℕ} {slots : List Seen} {names : ℕ} {ats places numbers : List ℕ} {n : ℕ} → HeldIn slots names ats places numbers n
-    → {picks : List Pick} {i : ℕ} → PicksSoFar b table ats places picks i → n ≤ i → PicksFrom b slots names table (record { rows = picks; n = n })
+    → {picks : List Pick} {i : ℕ} → PicksSoFar b table ats places picks i → n ≤ i → {few : n ≤ 99} → PicksFrom b slots names table (record { rows = picks; n = n; few = few })
 picks_end {b} held inv done = record {
   each = λ q holds c g.
       let are = held.each q holds c g in
@@ -215,13 +215,10 @@ module _ {b : List ℕ} {slots : List Seen} {names : ℕ} {table : List ℕ} {w 
           (stands.number_is ∙ ap (λ (x : Row). x.rounding) (there_same stands.there there)) (f.each i l);
     }
 
-pub held_few : {slots : List Seen} {names : ℕ} {ats places numbers : List ℕ} {n : ℕ} → HeldIn slots names ats places numbers n → n ≤ 99
-held_few h = h.few
-
 -- ---- by a walk over a window of the book
 
 module _ {b number table : List ℕ} {terms : Terms} {w : Window} (window : Windows b 5 number terms.sort w)
-    {slots : List Seen} (holds : SlotsFor (take w.last b) (rows (records_left (take w.last b) w.first)) number table terms slots) where
+    {slots : List Seen} (holds : SlotsFor (take w.spans.rows.last b) (rows (records_left (take w.spans.rows.last b) w.spans.rows.first)) number table terms slots) where
   -- the window is that of every question that asks so
   within_window : (q : Question) → Asks q number table terms → Windows b 5 q.article q.sort w
   within_window q a = window_as (sym a.article) (sym a.sort) window
@@ -244,12 +241,6 @@ module _ {b number table : List ℕ} {terms : Terms} {w : Window} (window : Wind
   pub within_picks : {r : Picks} → PicksFrom b slots terms.names table r → PickedFor b number table terms r
   within_picks p = record { of = λ q a. p.each q (within_holds q a) a.count a.granted }
 
-pub within_long : {b article : List ℕ} {sort : ℕ} {w : Window} → Windows b 5 article sort w → length (take w.last b) ≡ w.last
-within_long {b} {w = w} window = length-take-le w.last b window.fits
-
-pub within_between : {b article : List ℕ} {sort : ℕ} {w : Window} → Windows b 5 article sort w → Between (take w.last b) w.first
-within_between window = window.between
-
 -- ---- the rows that stand for a question
 
 module _ {b : List ℕ} {q : Question} {picks : List Pick} {n : ℕ} (picked : PickedAre b q picks n) where
@@ -265,6 +256,3 @@ module _ {b : List ℕ} {q : Question} {picks : List Pick} {n : ℕ} (picked : P
 
 pub asked_judge : {b number table : List ℕ} {terms : Terms} → Asked number table terms → {r : Picks} → PickedFor b number table terms r → Listable r.rows r.n
 asked_judge a p = can_judge (p.of a.question a.asks)
-
-pub asked_few : {b number table : List ℕ} {terms : Terms} → Asked number table terms → {r : Picks} → PickedFor b number table terms r → r.n ≤ 99
-asked_few a p = (p.of a.question a.asks).few

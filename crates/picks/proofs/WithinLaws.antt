@@ -88,13 +88,13 @@ module _ (w : List ℕ) (n : ℕ) (fits : n ≤ length w) (spot : ℕ) (p : Spot
 
 -- a walk over the window finds what the book has
 pub spots_within : {b article : List ℕ} {sort : ℕ} {w : Window} → Windows b 5 article sort w → {numbers : List ℕ} {n : ℕ} {spots : List ℕ}
-    → SpotsFound (take w.to b) w.from numbers n spots → SpotsFound b 5 numbers n spots
+    → SpotsFound (take w.spans.roundings.last b) w.spans.roundings.first numbers n spots → SpotsFound b 5 numbers n spots
 spots_within {b} {w = w} window {numbers} {spots = spots} found = record {
   each = λ i l.
       let f = found.each i l in
       record {
-        held = held_whole b w.to window.rounding_fits (get_or spots i 0) f.held;
-        is = spot_whole b w.to window.rounding_fits (get_or spots i 0) f.held ∙ f.is ∙ ap (rounding_for (get_or numbers i 0)) window.rounding_same;
+        held = held_whole b w.spans.roundings.last window.rounding_fits (get_or spots i 0) f.held;
+        is = spot_whole b w.spans.roundings.last window.rounding_fits (get_or spots i 0) f.held ∙ f.is ∙ ap (rounding_for (get_or numbers i 0)) window.rounding_same;
       };
 }
 
@@ -113,13 +113,13 @@ slot_own q level place rs =
     twice false b c = refl
 
 pub walk_within : {w : List ℕ} {from : ℕ} {q : Question} {window : Window} {slots : List Seen} → Windows w from q.article q.sort window
-    → SlotsHold (take window.last w) (rows (records_left (take window.last w) window.first)) q slots → SlotsHold w (rows (records_left w from)) q slots
+    → SlotsHold (take window.spans.rows.last w) (rows (records_left (take window.spans.rows.last w) window.spans.rows.first)) q slots → SlotsHold w (rows (records_left w from)) q slots
 unfolding seen_of
 walk_within {w} {from} {q} {window} {slots} a b = record {
   long = b.long;
   each = λ level place l m.
       subst (SeenIs w (get_or slots (level * 33 + place) unseen))
       (ap (Choice.walk q.date q.quantity q.currency Choice.start)
-      (sym (slot_own q level place (records_left (take window.last w) window.first)) ∙ ap (keep (in_slot q level place)) a.same ∙ slot_own q level place (records_left w from)))
+      (sym (slot_own q level place (records_left (take window.spans.rows.last w) window.spans.rows.first)) ∙ ap (keep (in_slot q level place)) a.same ∙ slot_own q level place (records_left w from)))
       (seen_whole a.fits (b.each level place l m));
 }

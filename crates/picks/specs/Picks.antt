@@ -18,7 +18,7 @@ use Rattle.choice.specs.Walk.{SlotsHold}
 use Rattle.lines.specs.declared.Pick.{Pick}
 use Rattle.lines.specs.Views.{view_of, view_in, views_in, no_pick}
 use Rattle.lines.specs.Ensures.{Sound}
-use Rattle.picks.specs.declared.Picks.{Picks}
+use Rattle.picks.specs.declared.chosen.Picks.{Picks}
 
 -- the window is that of some article and sort: the roundings in it are all of the book
 pub record RoundingsIn (b : List ℕ) (w : Window) : Type 0 where

@@ -1,7 +1,8 @@
 // Where the chosen rows stand in the book, slot after slot, at which places of the granted names, and the numbers of their roundings.
-ghost use Rattle.std.specs.Prelude.{◌≤◌, ◌≡◌, length};
+ghost use Rattle.std.specs.Prelude.{◌≤◌};
 ghost use Rattle.picks.specs.Held.{Counted, StepIs, NextPlace, HeldIn};
 
+use choice::SLOTS;
 use choice::hands::{Hand, Seen, taken};
 use choice::slots::PLACES;
 
@@ -26,31 +27,40 @@ fn next_place(place: usize, names: usize) -> usize
     if place < names { place + 1 } else { 0 }
 }
 
-// How many there are. With so many granted names.
-pub fn held_in(
-    slots: [Seen; 100],
-    names: usize,
-    ats: &mut [usize; 99],
-    places: &mut [u8; 99],
-    numbers: &mut [u16; 99],
-) -> usize
-    requires names_bound { names ≤ 32 }
-    requires ats_len { length ats.old ≡ 99 }
-    requires places_len { length places.old ≡ 99 }
-    requires numbers_len { length numbers.old ≡ 99 }
-    ensures { HeldIn slots names ats.new places.new numbers.new result }
+// The first n rows, each by where it stands, the place that brought it and its rounding's number.
+// As it is: an array with its count, since the library takes no heap.
+#[derive(Drop)]
+pub struct Held {
+    pub ats: [usize; 99],
+    pub places: [u8; 99],
+    pub numbers: [u16; 99],
+    pub n: usize,
+}
+
+// With so many granted names.
+pub fn held_in(slots: &[Seen; SLOTS], names: usize) -> Held
+    requires { names ≤ 32 }
+    ensures { HeldIn slots.now names result.ats result.places result.numbers result.n }
 {
+    let mut ats = [0; 99];
+    let mut places = [0; 99];
+    let mut numbers = [0; 99];
     let mut n = 0;
     let mut i = 0;
     let mut place = 0;
-    while i < 99 {
+    while i < SLOTS {
         let hand = taken(slots[i]);
         ats[n] = hand.at;
         places[n] = place as u8;
         numbers[n] = hand.rounding;
-        n = n + counted(hand);
-        i = i + step(place, names);
+        n += counted(hand);
+        i += step(place, names);
         place = next_place(place, names);
     }
-    n
+    Held {
+        ats,
+        places,
+        numbers,
+        n,
+    }
 }

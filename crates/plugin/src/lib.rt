@@ -68,12 +68,10 @@ pub fn rafttwine_calendar_list(
     ensures { CalendarListIs book.now question.now end out.old result out.new }
 {
     let listing = listing_of(book, question, end);
-    let answer = list_answer(listing, out.len());
+    let answer = list_answer(&listing, out.len());
     let n = answer.length as usize;
-    let mut i: usize = 0;
-    while i < n {
-        out[i] = stretch_at(listing, i);
-        i += 1;
+    for i in 0..n {
+        out[i] = stretch_at(&listing, i);
     }
     answer
 }

@@ -3,6 +3,7 @@ ghost use Rattle.question.specs.Asked.{ask_in, AskIs};
 ghost use Rattle.survey.specs.Window.{Windows};
 ghost use Rattle.quote.specs.Quote.{Quoted};
 
+use grants::asking::Asking;
 use grants::terms::wanted_in;
 use question::Ask;
 use quote::{Quote, quote_of};
@@ -14,10 +15,5 @@ pub fn quoted(book: &[u8], window: Window, question: &[u8], ask: Ask) -> Quote
     ensures { Quoted book.now (ask_in question.now ask) result }
 {
     let wanted = wanted_in(question, ask);
-    let table = wanted.table;
-    let terms = wanted.terms;
-    let article = ask.article;
-    let from = article.at;
-    let to = from + article.size;
-    quote_of(book, window, &question[from..to], &table, terms)
+    quote_of(book, window, &Asking::of(question, ask, &wanted))
 }

@@ -1,153 +1,46 @@
--- The thirteen fields are the row: one chain along the layout of a line.
-use Prim.Native.Nat.{ℕ, zero, suc, ◌+◌, ◌-◌, ◌≤◌, ◌<◌}
-use mathlib.Core.Path.{◌≡◌, refl, sym, ◌∙◌, ap, subst}
-use mathlib.Core.Bool.{Bool, true, false, ◌&&◌, and_assoc, and-true, false≢true}
+-- The thirteen fields are the row: what the layout of a line makes of them, field by field.
+use Prim.Native.Nat.{ℕ, ◌+◌, ◌-◌, ◌≤◌, ◌<◌}
+use mathlib.Core.Path.{◌≡◌, refl, sym, ◌∙◌, ap}
+use mathlib.Core.Bool.{Bool, true, false, ◌&&◌, false≢true}
 use mathlib.Core.List.{List, [], ◌∷◌}
-use mathlib.Core.Option.{Option, some, none, none-ne-some}
+use mathlib.Core.Option.{Option, some, none}
 use native.Mathlib.Omega.{arith}
 use lib.Dec.{eqb}
-use lib.IntN.{ℤ, pos, negsuc}
 use lib.ListN.{length, drop, drop_of_length-le, length-drop}
 use lib.Seq.{drop-cons, drop-drop}
-use borrow.Author.Tests.{eqb-true, eqb-false, leb-false, ltb-false, lt-leb, le-ltb}
-use Rattle.rules.specs.Lists.{all, between}
-use Rattle.rules.specs.Layout.{Layout, ◌>>=◌, give, ◌such◌, must, back, whole, wholly}
-use Rattle.rules.specs.Bytes.{name_byte, either_side}
+use borrow.Author.Tests.{eqb-true, eqb-false, eq-eqb, ne_eqb}
+use Rattle.rules.specs.Lists.{all, between, if_some}
+use Rattle.rules.specs.Layout.{Layout, and_then, ◌>>=◌, give_if, ◌such◌, must, back, whole, wholly}
+use Rattle.rules.specs.Bytes.{name_byte}
 use Rattle.rules.specs.BookLayout.{value_of, in_bounds}
+use Rattle.rules.specs.declared.Value.{Value}
+use Rattle.rules.specs.declared.Currency.{Currency}
 use Rattle.file_rules.specs.Fields.{semicolon, field, next_field}
 use Rattle.file_rules.specs.Decimals.{date_in, quantity_in, value_in}
 use Rattle.file_rules.specs.PriceLine.{NamedRow, ◌meaning◌, is_name, letter_in, is_currency, is_empty, price_line}
-use Rattle.rules.specs.declared.Value.{Value}
-use Rattle.layout.specs.Reads.{Reads, only, when}
 use Rattle.rules.proofs.TestLaws.{and_left, and_right, between_high}
+use Rattle.layout.specs.Reads.{only, when}
 use Rattle.layout.specs.Ensures.{Says}
-use Rattle.layout.proofs.LayoutLaws.{then_reads, then_broken, then_when, such_reads, if_reads, give_reads, reads_as}
 use Rattle.fields.specs.declared.field.Field.{Field}
-use Rattle.fields.proofs.EndLaws.{next_behind}
-use Rattle.figures.specs.declared.Capitals.{Capitals}
+use Rattle.fields.specs.Given.{GivesNone}
 use Rattle.fields.specs.Field.{text_of, TextIs, NextIs}
-use Rattle.figures.specs.Figures.{most_cents, near, signed_by, letters_of, CapitalsAre}
+use Rattle.fields.proofs.EndLaws.{next_behind}
+use Rattle.figures.specs.Figures.{CapitalsAre}
 use Rattle.price_line.specs.declared.Kinds.{Kinds}
 use Rattle.price_line.specs.declared.Priced.{Priced}
 use Rattle.price_line.specs.declared.Span.{Span}
 use Rattle.price_line.specs.declared.PriceLine.{PriceLine}
-use Rattle.price_line.specs.Line.{nth, FieldsAre, names_fit, Kinded, Worth, ValueAre, Spanned, row_on, NameStarts, LineIs}
+use Rattle.price_line.specs.Line.{nth, FieldsAre, all_three, kinds_in, worth_in, span_in, Kinded, Worth, ValueAre, Spanned, row_on, LineIs}
 use Rattle.price_line.proofs.FieldsLaws.{field_text}
-
--- ---- what a field's text stands for
-
-back_only : {A : Type 0} (ok b : Bool) (w : A) (s : List ℕ) → back (only b w) s ≡ only b (w, s)
-back_only ok true w s = refl
-back_only ok false w s = refl
-
-pub meaning_reads : {A B : Type 0} (m : Layout A) (f : A → Option B) (b : Bool) (w : B) {s : List ℕ} {at next : ℕ} {ok : Bool} {v : A}
-    → Reads m s at ok v next → f v ≡ only b w → Reads (m meaning f) s at (ok && b) w next
-meaning_reads m f b w {s} {next = next} p e =
-    then_reads m (λ a. back (f a)) p (record { is = ap (λ o. back o (drop next s)) e ∙ back_only b b w (drop next s) })
-
--- nothing behind the last field
-pub whole_end : {A : Type 0} (m : Layout A) {s : List ℕ} {ok : Bool} {v : A} {next : ℕ} → Reads m s 0 ok v next → next ≤ length s
-    → whole m s ≡ only (ok && eqb next (length s)) v
-whole_end m {s} {ok} {v} {next} p h = ap wholly p.is ∙ by (eqb next (length s)) refl ok
-  where
-    by : (x : Bool) → eqb next (length s) ≡ x → (ok : Bool) → wholly (only ok (v, drop next s)) ≡ only (ok && x) v
-    by x e false = refl
-    by true e true = ap (λ (t : List ℕ). wholly (some (v, t))) (drop_of_length-le s {i = next} (omega (arith, eqb-true next (length s) e)))
-    by false e true = ap (λ (t : List ℕ). wholly (some (v, t))) (drop-cons s next 0 (omega (arith, eqb-false next (length s) e)))
-
--- ---- the value: beyond what any price has it is out of bounds, whichever sort it is of
-
-far : (z : ℤ) → either_side most_cents z ≡ false → (k : ℕ) → in_bounds (value_of k z) ≡ false
-far z e (suc k) = e
-far (pos n) e zero = lt-leb n 100_000 (omega (arith, leb-false n most_cents e))
-far (negsuc n) e zero = le-ltb n 100_000 (omega (arith, ltb-false n most_cents e))
-
-abbrev block : {B : Type 0} → (Value → Layout B) → Layout B
-block K =
-    (next_field meaning value_in) >>= λ h. (next_field meaning letter_in (48 ∷ 49 ∷ [])) >>= λ fixed. must (in_bounds (value_of (fixed - 48) h)) >>= λ _. K
-    (value_of (fixed - 48) h)
-
-when_none : {B : Type 0} (a : Bool) (o : Option B) → o ≡ none → when a o ≡ none
-when_none true o e = e
-when_none false o e = refl
-
-and_no : (b : Bool) → (b && false) ≡ false
-and_no true = refl
-and_no false = refl
-
-module _ {B : Type 0} (K : Value → Layout B) {s : List ℕ} {at : ℕ} {f g : Field} (p : NextIs s at f) (q : NextIs s f.next g)
-    (good flag-good : Bool) (z : ℤ) (flag : ℕ)
-    (v : near (value_in (text_of s f)) ≡ only good z) (l : letter_in (48 ∷ 49 ∷ []) (text_of s g) ≡ only flag-good flag)
-    {ok : Bool} {w : B} {end : ℕ} (k : Reads (K (value_of (flag - 48) z)) s g.next ok w end) where
-  broken : {o : Option (B × List ℕ)} → good ≡ false → o ≡ none
-      → o ≡ only ((f.good && good) && ((g.good && flag-good) && (in_bounds (value_of (flag - 48) z) && ok))) (w, drop end s)
-  broken e n =
-      n ∙ sym (ap (λ (b : Bool). only ((f.good && b) && ((g.good && flag-good) && (in_bounds (value_of (flag - 48) z) && ok))) (w, drop end s)) e
-      ∙ ap (λ (b : Bool). only (b && ((g.good && flag-good) && (in_bounds (value_of (flag - 48) z) && ok))) (w, drop end s)) (and_no f.good))
-
-  -- the three ways: no amount, one beyond all prices, and this one
-  pub value_then : Reads (block K) s at ((f.good && good) && ((g.good && flag-good) && (in_bounds (value_of (flag - 48) z) && ok))) w end
-  value_then = by (value_in (text_of s f)) refl v
-    where
-      no : (good : Bool) → none ≡ only good z → good ≡ false
-      no true e = absurd (none-ne-some z e)
-      no false e = refl
-
-      by : (o : Option ℤ) → value_in (text_of s f) ≡ o → near o ≡ only good z
-          → Reads (block K) s at ((f.good && good) && ((g.good && flag-good) && (in_bounds (value_of (flag - 48) z) && ok))) w end
-      by none e n = record { is = broken (no good n) (then_broken _ _ (meaning_reads next_field value_in false z p.reads e) (and_no f.good)) }
-      by (some y) e n = side (either_side most_cents y) refl n
-        where
-          side : (x : Bool) → either_side most_cents y ≡ x → only x y ≡ only good z
-              → Reads (block K) s at ((f.good && good) && ((g.good && flag-good) && (in_bounds (value_of (flag - 48) z) && ok))) w end
-          side false d n =
-              let m : (must (in_bounds (value_of (flag - 48) y)) >>= λ _. K (value_of (flag - 48) y)) (drop g.next s) ≡ none
-              = then_broken _ _ (if_reads {s = s} {at = g.next} (in_bounds (value_of (flag - 48) y)) tt) (far y d (flag - 48)) in
-              record {
-                is = broken (no good n) (then_when _ _ (meaning_reads next_field value_in true y p.reads e)
-                    (then_when _ _ (meaning_reads next_field (letter_in (48 ∷ 49 ∷ [])) flag-good flag q.reads l) m
-                    ∙ when_none (g.good && flag-good) none refl) ∙ when_none (f.good && true) none refl);
-              }
-          side true d n = yes good n
-            where
-              yes : (good : Bool) → some y ≡ only good z
-                  → Reads (block K) s at ((f.good && good) && ((g.good && flag-good) && (in_bounds (value_of (flag - 48) z) && ok))) w end
-              yes false n = absurd (none-ne-some y (sym n))
-              yes true n = then_reads _ _ (meaning_reads next_field value_in true z p.reads (e ∙ n))
-                  (then_reads _ _ (meaning_reads next_field (letter_in (48 ∷ 49 ∷ [])) flag-good flag q.reads l)
-                  (then_reads _ _ (if_reads (in_bounds (value_of (flag - 48) z)) tt) k))
-
--- ---- the currency
-
-pub currency_reads : {s : List ℕ} {at : ℕ} {f : Field} {c : Capitals} → NextIs s at f → CapitalsAre (text_of s f) c
-    → Reads (next_field such is_currency) s at (f.good && c.good) (letters_of c.currency) f.next
-currency_reads {s} {at} {f} {c} p q = by c.good q.good q.is
-  where
-    by : (b : Bool) → is_currency (text_of s f) ≡ b → (b ≡ true → text_of s f ≡ letters_of c.currency)
-        → Reads (next_field such is_currency) s at (f.good && b) (letters_of c.currency) f.next
-    by true e g =
-        subst (λ (v : List ℕ). Reads (next_field such is_currency) s at (f.good && true) v f.next) (g refl)
-        (reads_as (such_reads next_field is_currency p.reads) (ap (λ (b : Bool). f.good && b) e) refl)
-    by false e g =
-        record {
-          is = (such_reads next_field is_currency p.reads).is
-              ∙ (ap (λ (b : Bool). only {A = List ℕ × List ℕ} (f.good && b) (text_of s f, drop f.next s)) e ∙ no f.good);
-        }
-      where
-        no : (x : Bool)
-            → only {A = List ℕ × List ℕ} (x && false) (text_of s f, drop f.next s)
-            ≡ only {A = List ℕ × List ℕ} (x && false) (letters_of c.currency, drop f.next s)
-        no true = refl
-        no false = refl
 
 -- ---- where a name starts
 
-module _ {line : List ℕ} {at : ℕ} {f g : Field} (p : NextIs line at f) (q : NextIs line f.next g) (a : f.good ≡ true) (b : g.good ≡ true) where
+module _ {line : List ℕ} {at : ℕ} {f g : Field} (p : NextIs line at f) (q : NextIs line f.next g) where
   behind : (u : List ℕ) × (drop at line ≡ semicolon ∷ u) × (field u ≡ some (text_of line f, drop f.next line))
-  behind = next_behind (drop at line) (p.reads.is ∙ ap (λ (x : Bool). only x (text_of line f, drop f.next line)) a)
+  behind = next_behind (drop at line) p.reads.is
 
   after : (u : List ℕ) × (drop f.next line ≡ semicolon ∷ u) × (field u ≡ some (text_of line g, drop g.next line))
-  after = next_behind (drop f.next line) (q.reads.is ∙ ap (λ (x : Bool). only x (text_of line g, drop g.next line)) b)
+  after = next_behind (drop f.next line) q.reads.is
 
   rest_at : drop (at + 1) line ≡ behind.0
   rest_at = sym (drop-drop 1 at line) ∙ ap (drop 1) behind.1
@@ -158,146 +51,262 @@ module _ {line : List ℕ} {at : ℕ} {f g : Field} (p : NextIs line at f) (q : 
   starts_reads : field (drop (at + 1) line) ≡ some (text_of line f, semicolon ∷ after.0)
   starts_reads = ap field rest_at ∙ (behind.2 ∙ ap (λ (u : List ℕ). some (text_of line f, u)) after.1)
 
+-- ---- one field: what its text means decides
+
+module _ {A B : Type 0} where
+  under : (o : Option A) {f g : A → Option B} → ((a : A) → f a ≡ g a) → if_some o none f ≡ if_some o none g
+  under none h = refl
+  under (some a) h = h a
+
+  no_some : (o : Option A) → if_some {A = A} {B = Option B} o none (λ a. none) ≡ none
+  no_some none = refl
+  no_some (some a) = refl
+
+no_when : {A : Type 0} (b : Bool) → when {A = A} b none ≡ none
+no_when true = refl
+no_when false = refl
+
+module _ {B : Type 0} (m : Layout (List ℕ)) {s t rest : List ℕ} (e : m s ≡ some (t, rest)) where
+  such_then : (p : List ℕ → Bool) (K : List ℕ → Layout B) → wholly (((m such p) >>= K) s) ≡ when (p t) (wholly (K t rest))
+  such_then p K = ap (λ (o : Option (List ℕ × List ℕ)). wholly (and_then (and_then o (λ a. give_if (p a) a)) K)) e ∙ by (p t)
+    where
+      by : (b : Bool) → wholly (and_then (give_if b t rest) K) ≡ when b (wholly (K t rest))
+      by true = refl
+      by false = refl
+
+  meaning_then : {A : Type 0} (f : List ℕ → Option A) (K : A → Layout B)
+      → wholly (((m meaning f) >>= K) s) ≡ if_some (f t) none (λ a. wholly (K a rest))
+  meaning_then f K = ap (λ (o : Option (List ℕ × List ℕ)). wholly (and_then (and_then o (λ a. back (f a))) K)) e ∙ by (f t)
+    where
+      by : (o : Option _) → wholly (and_then (back o rest) K) ≡ if_some o none (λ a. wholly (K a rest))
+      by none = refl
+      by (some a) = refl
+
+module _ {B : Type 0} {s : List ℕ} {at : ℕ} {f : Field} (q : NextIs s at f) where
+  next_such : (p : List ℕ → Bool) (K : List ℕ → Layout B)
+      → wholly (((next_field such p) >>= K) (drop at s)) ≡ when (p (text_of s f)) (wholly (K (text_of s f) (drop f.next s)))
+  next_such = such_then next_field q.reads.is
+
+  next_meaning : {A : Type 0} (g : List ℕ → Option A) (K : A → Layout B)
+      → wholly (((next_field meaning g) >>= K) (drop at s)) ≡ if_some (g (text_of s f)) none (λ a. wholly (K a (drop f.next s)))
+  next_meaning = meaning_then next_field q.reads.is
+
+must_then : {B : Type 0} (b : Bool) (K : Unit {0} → Layout B) (s : List ℕ) → wholly ((must b >>= K) s) ≡ when b (wholly (K tt s))
+must_then true K s = refl
+must_then false K s = refl
+
+give_end : {A : Type 0} (a : A) (s : List ℕ) (at : ℕ) → at ≤ length s → wholly (some (a, drop at s)) ≡ only (eqb at (length s)) a
+give_end a s at h = by (eqb at (length s)) refl
+  where
+    by : (x : Bool) → eqb at (length s) ≡ x → wholly (some (a, drop at s)) ≡ only x a
+    by true e = ap (λ (t : List ℕ). wholly (some (a, t))) (drop_of_length-le s {i = at} (omega (arith, eqb-true at (length s) e)))
+    by false e = ap (λ (t : List ℕ). wholly (some (a, t))) (drop-cons s at 0 (omega (arith, eqb-false at (length s) e)))
+
+-- ---- groups of fields
+
+three_then : {A B C D : Type 0} (a : Option A) (b : Option B) (c : Option C) (R : A → B → C → Option D)
+    → if_some a none (λ x. if_some b none (λ y. if_some c none (R x y))) ≡ if_some (all_three a b c) none (λ k. R k.0 k.1.0 k.1.1)
+three_then none b c R = refl
+three_then (some x) none c R = refl
+three_then (some x) (some y) none R = refl
+three_then (some x) (some y) (some z) R = refl
+
+abbrev row_with : List ℕ → List ℕ → ℕ × (ℕ × ℕ) → List ℕ → Value → List ℕ → ℕ × (ℕ × ℕ) → NamedRow
+row_with article condition kinds name value currency span =
+    record {
+      name = name;
+      row = record {
+        article = article;
+        condition = condition;
+        sort = kinds.0;
+        level = kinds.1.0;
+        rule = kinds.1.1 - 48;
+        text = 0;
+        value = value;
+        currency = currency;
+        from = span.0;
+        to = span.1.0;
+        up_to = span.1.1;
+        rounding = 0;
+      };
+    }
+
 -- ---- the whole line
 
-regroup : (a b k₁ k₂ k₃ n v₁ v₂ v₃ c d₁ d₂ d₃ e z : Bool)
-    → ((a && (b && (k₁ && (k₂ && (k₃ && (n && (v₁ && (v₂ && (v₃ && (c && (d₁ && (d₂ && (d₃ && (e && true)))))))))))))) && z)
-    ≡ ((a && b) && (k₁ && (k₂ && k₃)) && n && (v₁ && (v₂ && v₃)) && c && (d₁ && (d₂ && d₃)) && e && z)
-regroup a b k₁ k₂ k₃ n v₁ v₂ v₃ c d₁ d₂ d₃ e z = simp (and_assoc, and-true)
-
--- what follows the value in a line
-abbrev behind_value : List ℕ → List ℕ → ℕ → ℕ → ℕ → List ℕ → Value → Layout NamedRow
-behind_value article condition sort level rule name value = do
-  currency ← next_field such is_currency
-  from ← next_field meaning date_in
-  to ← next_field meaning date_in
-  up_to ← next_field meaning quantity_in
-  _ ← next_field such is_empty
-  give
-      (record {
-        name = name;
-        row = record {
-          article = article;
-          condition = condition;
-          sort = sort;
-          level = level;
-          rule = rule - 48;
-          text = 0;
-          value = value;
-          currency = currency;
-          from = from;
-          to = to;
-          up_to = up_to;
-          rounding = 0;
-        };
-      })
-
 module _ {line : List ℕ} {fs : List Field} (p : FieldsAre line fs) where
-  module _ {t : Bool} (names : Says (names_fit line (nth fs 0) (nth fs 1)) t) {n : Bool}
-      (named : Says (all name_byte (text_of line (nth fs 5))) n) {k : Kinds}
-      (kinds : Kinded line (nth fs 2) (nth fs 3) (nth fs 4) k) {v : Priced} (value : ValueAre line (nth fs 6) (nth fs 7) v)
-      {c : Capitals} (capitals : CapitalsAre (text_of line (nth fs 8)) c) {s : Span} (span : Spanned line (nth fs 9) (nth fs 10) (nth fs 11) s) where
-    abbrev good : Bool
-    good =
-        t && k.good && ((nth fs 5).good && n) && v.good && ((nth fs 8).good && c.good) && s.good &&
-        ((nth fs 12).good && eqb (nth fs 12).count 0) && eqb (nth fs 12).next (length line)
+  abbrev t : ℕ → List ℕ
+  t j = text_of line (nth fs j)
 
+  text : (j : ℕ) → j < 13 → TextIs line (nth fs j)
+  text j h = field_text p j h
+
+  -- what stands behind the currency, behind the value, behind the kinds
+  abbrev from_span : (ℕ × (ℕ × ℕ) → NamedRow) → Option NamedRow
+  from_span R = if_some (span_in (t 9) (t 10) (t 11)) none (λ s. when (is_empty (t 12)) (only (eqb (nth fs 12).next (length line)) (R s)))
+
+  abbrev from_value : (Value → List ℕ → ℕ × (ℕ × ℕ) → NamedRow) → Option NamedRow
+  from_value R = if_some (worth_in (t 6) (t 7)) none (λ v. when (is_currency (t 8)) (from_span (R v (t 8))))
+
+  abbrev from_name : ℕ × (ℕ × ℕ) → Option NamedRow
+  from_name k = when (all name_byte (t 5)) (from_value (row_with (t 0) (t 1) k (t 5)))
+
+  abbrev from_kinds : Option NamedRow
+  from_kinds = if_some (kinds_in (t 2) (t 3) (t 4)) none from_name
+
+  worth_then : (R : Value → Option NamedRow) → if_some (value_in (t 6)) none (λ h. if_some (letter_in (48 ∷ 49 ∷ []) (t 7)) none (λ f.
+      when (in_bounds (value_of (f - 48) h)) (R (value_of (f - 48) h)))) ≡ if_some (worth_in (t 6) (t 7)) none R
+  unfolding worth_in
+  worth_then R = by (value_in (t 6)) (letter_in (48 ∷ 49 ∷ []) (t 7))
+    where
+      by : (v : Option _) (l : Option ℕ) → if_some v none (λ h. if_some l none (λ f. when (in_bounds (value_of (f - 48) h)) (R (value_of (f - 48) h))))
+          ≡ if_some (if_some v none (λ h. if_some l none (λ f. only (in_bounds (value_of (f - 48) h)) (value_of (f - 48) h)))) none R
+      by none l = refl
+      by (some h) none = refl
+      by (some h) (some f) = go (in_bounds (value_of (f - 48) h))
+        where
+          go : (b : Bool) → when b (R (value_of (f - 48) h)) ≡ if_some (only b (value_of (f - 48) h)) none R
+          go true = refl
+          go false = refl
+
+  row_is : whole price_line line ≡ when (is_name 1 40 (t 0)) (when (is_name 0 20 (t 1)) from_kinds)
+  unfolding kinds_in span_in
+  row_is =
+      such_then field p.first.reads.is _ _ ∙ ap (when (is_name 1 40 (t 0))) (
+      next_such (p.each 0 (omega arith)) _ _ ∙ ap (when (is_name 0 20 (t 1))) (
+      (next_meaning (p.each 1 (omega arith)) _ _ ∙ under (letter_in (83 ∷ 80 ∷ []) (t 2)) (λ sort.
+      next_meaning (p.each 2 (omega arith)) _ _ ∙ under (letter_in (66 ∷ 88 ∷ 68 ∷ []) (t 3)) (λ level.
+      next_meaning (p.each 3 (omega arith)) _ _ ∙ under (letter_in (49 ∷ 50 ∷ []) (t 4)) (λ rule.
+      next_such (p.each 4 (omega arith)) _ _ ∙ ap (when (all name_byte (t 5))) (
+      (next_meaning (p.each 5 (omega arith)) _ _ ∙ under (value_in (t 6)) (λ h.
+      next_meaning (p.each 6 (omega arith)) _ _ ∙ under (letter_in (48 ∷ 49 ∷ []) (t 7)) (λ f.
+      must_then (in_bounds (value_of (f - 48) h)) _ _ ∙ ap (when (in_bounds (value_of (f - 48) h))) (
+      next_such (p.each 7 (omega arith)) _ _ ∙ ap (when (is_currency (t 8))) (
+      (next_meaning (p.each 8 (omega arith)) _ _ ∙ under (date_in (t 9)) (λ from.
+      next_meaning (p.each 9 (omega arith)) _ _ ∙ under (date_in (t 10)) (λ to.
+      next_meaning (p.each 10 (omega arith)) _ _ ∙ under (quantity_in (t 11)) (λ up_to.
+      next_such (p.each 11 (omega arith)) _ _ ∙ ap (when (is_empty (t 12))) (
+      give_end _ line _ (text 12 (omega arith)).next_fits)))))
+      ∙ three_then (date_in (t 9)) (date_in (t 10)) (quantity_in (t 11)) (λ x y z. when (is_empty (t 12))
+      (only (eqb (nth fs 12).next (length line)) (row_with (t 0) (t 1) (sort, (level, rule)) (t 5) (value_of (f - 48) h) (t 8) (x, (y, z))))))))))
+      ∙ worth_then (λ v. when (is_currency (t 8)) (from_span (row_with (t 0) (t 1) (sort, (level, rule)) (t 5) v (t 8)))))))))
+      ∙ three_then (letter_in (83 ∷ 80 ∷ []) (t 2)) (letter_in (66 ∷ 88 ∷ 68 ∷ []) (t 3)) (letter_in (49 ∷ 50 ∷ []) (t 4)) (λ x y z. from_name (x, (y, z)))))
+
+  -- ---- where one part means nothing, there is no row
+
+  in_kinds : ((k : ℕ × (ℕ × ℕ)) → from_name k ≡ none) → GivesNone (whole price_line line)
+  in_kinds h =
+      record {
+        is = row_is
+            ∙ (ap (when (is_name 1 40 (t 0))) (ap (when (is_name 0 20 (t 1))) (under (kinds_in (t 2) (t 3) (t 4)) h ∙ no_some (kinds_in (t 2) (t 3) (t 4)))
+            ∙ no_when (is_name 0 20 (t 1))) ∙ no_when (is_name 1 40 (t 0)));
+      }
+
+  in_value : ((R : List ℕ → ℕ × (ℕ × ℕ) → NamedRow) → when (is_currency (t 8)) (from_span (R (t 8))) ≡ none) → GivesNone (whole price_line line)
+  in_value h =
+      in_kinds (λ k. ap (when (all name_byte (t 5))) (under (worth_in (t 6) (t 7)) (λ v. h (row_with (t 0) (t 1) k (t 5) v)) ∙ no_some (worth_in (t 6) (t 7)))
+      ∙ no_when (all name_byte (t 5)))
+
+  in_span : ((r : NamedRow) → when (is_empty (t 12)) (only (eqb (nth fs 12).next (length line)) r) ≡ none) → GivesNone (whole price_line line)
+  in_span h =
+      in_value (λ R. ap (when (is_currency (t 8))) (under (span_in (t 9) (t 10) (t 11)) (λ s. h (R (t 8) s)) ∙ no_some (span_in (t 9) (t 10) (t 11)))
+      ∙ no_when (is_currency (t 8)))
+
+  pub names_not : {b : Bool} → Says ((is_name 1 40 (t 0) && is_name 0 20 (t 1)) && all name_byte (t 5)) b → b ≡ false → GivesNone (whole price_line line)
+  names_not q e = record { is = row_is ∙ by (is_name 1 40 (t 0)) (is_name 0 20 (t 1)) (all name_byte (t 5)) (q.is ∙ e) }
+    where
+      by : (x y z : Bool) → ((x && y) && z) ≡ false
+          → when x (when y (if_some (kinds_in (t 2) (t 3) (t 4)) none (λ k. when z (from_value (row_with (t 0) (t 1) k (t 5)))))) ≡ none
+      by true true true f = absurd (false≢true (sym f))
+      by true true false f = no_some (kinds_in (t 2) (t 3) (t 4))
+      by true false z f = refl
+      by false y z f = refl
+
+  pub kinds_not : GivesNone (kinds_in (t 2) (t 3) (t 4)) → GivesNone (whole price_line line)
+  kinds_not q =
+      record {
+        is = row_is
+            ∙ (ap (when (is_name 1 40 (t 0))) (ap (when (is_name 0 20 (t 1))) (ap (λ (o : Option (ℕ × (ℕ × ℕ))). if_some o none from_name) q.is)
+            ∙ no_when (is_name 0 20 (t 1))) ∙ no_when (is_name 1 40 (t 0)));
+      }
+
+  pub priced_not : GivesNone (worth_in (t 6) (t 7)) → GivesNone (whole price_line line)
+  priced_not q =
+      in_kinds (λ k. ap (when (all name_byte (t 5)))
+      (ap (λ (o : Option Value). if_some o none (λ v. when (is_currency (t 8)) (from_span (row_with (t 0) (t 1) k (t 5) v (t 8))))) q.is)
+      ∙ no_when (all name_byte (t 5)))
+
+  pub currency_not : Says (is_currency (t 8)) false → GivesNone (whole price_line line)
+  currency_not q = in_value (λ R. ap (λ (b : Bool). when b (from_span (R (t 8)))) q.is)
+
+  pub span_not : GivesNone (span_in (t 9) (t 10) (t 11)) → GivesNone (whole price_line line)
+  span_not q =
+      in_value (λ R. ap (when (is_currency (t 8)))
+      (ap (λ (o : Option (ℕ × (ℕ × ℕ))). if_some o none (λ s. when (is_empty (t 12)) (only (eqb (nth fs 12).next (length line)) (R (t 8) s)))) q.is)
+      ∙ no_when (is_currency (t 8)))
+
+  pub last_full : ((nth fs 12).count ≡ 0 → ⊥) → GivesNone (whole price_line line)
+  last_full n =
+      in_span (λ r. ap (λ (b : Bool). when b (only (eqb (nth fs 12).next (length line)) r)) (ne_eqb (length (t 12)) 0
+      (λ e. n (sym (text 12 (omega arith)).count ∙ e))))
+
+  pub last_behind : ((nth fs 12).next ≡ length line → ⊥) → GivesNone (whole price_line line)
+  last_behind n =
+      in_span (λ r. ap (λ (b : Bool). when (is_empty (t 12)) (only b r)) (ne_eqb (nth fs 12).next (length line) n) ∙ no_when (is_empty (t 12)))
+
+  -- ---- and where each of them means something, there is
+
+  module _ {b : Bool} (names : Says ((is_name 1 40 (t 0) && is_name 0 20 (t 1)) && all name_byte (t 5)) b) (g : b ≡ true)
+      {k : Kinds} (kinds : Kinded line (nth fs 2) (nth fs 3) (nth fs 4) k) {v : Priced} (value : ValueAre line (nth fs 6) (nth fs 7) v)
+      {c : Currency} (capitals : CapitalsAre (t 8) c) {s : Span} (span : Spanned line (nth fs 9) (nth fs 10) (nth fs 11) s)
+      (empty : (nth fs 12).count ≡ 0) (end : (nth fs 12).next ≡ length line) where
     abbrev read : PriceLine
-    read = record { article = nth fs 0; condition = nth fs 1; name = nth fs 5; start = (nth fs 4).next + 1; kinds = k; priced = v; currency = c.currency; span = s; good = good }
+    read = record { article = nth fs 0; condition = nth fs 1; name = nth fs 5; start = (nth fs 4).next + 1; kinds = k; priced = v; currency = c; span = s }
 
-    text : (j : ℕ) → j < 13 → TextIs line (nth fs j)
-    text j h = field_text p j h
+    is_all : ((is_name 1 40 (t 0) && is_name 0 20 (t 1)) && all name_byte (t 5)) ≡ true
+    is_all = names.is ∙ g
 
-    is_name_lem : (lo hi j : ℕ) → j < 13 → is_name lo hi (text_of line (nth fs j)) ≡ (between lo hi (nth fs j).count && all name_byte (text_of line (nth fs j)))
-    is_name_lem lo hi j h = ap (λ (m : ℕ). between lo hi m && all name_byte (text_of line (nth fs j))) (text j h).count
+    is_article : is_name 1 40 (t 0) ≡ true
+    is_article = and_left (is_name 1 40 (t 0)) _ (and_left (is_name 1 40 (t 0) && is_name 0 20 (t 1)) _ is_all)
 
-    line_reads : Reads price_line line 0
-        (((nth fs 0).good && is_name 1 40 (text_of line (nth fs 0))) &&
-        (((nth fs 1).good && is_name 0 20 (text_of line (nth fs 1))) &&
-        (((nth fs 2).good && kinds.is_sort) &&
-        (((nth fs 3).good && kinds.is_a_level) &&
-        (((nth fs 4).good && kinds.is_rule) &&
-        (((nth fs 5).good && all name_byte (text_of line (nth fs 5))) &&
-        (((nth fs 6).good && v.amount.good) &&
-        (((nth fs 7).good && value.is_flag) &&
-        (in_bounds (Worth v.flag v.amount) &&
-        (((nth fs 8).good && c.good) &&
-        (((nth fs 9).good && span.is_from) &&
-        (((nth fs 10).good && span.is_to) &&
-        (((nth fs 11).good && span.is_upto) && (((nth fs 12).good && is_empty (text_of line (nth fs 12))) && true))))))))))))))
-        (row_on line read) (nth fs 12).next
+    is_condition : is_name 0 20 (t 1) ≡ true
+    is_condition = and_right (is_name 1 40 (t 0)) _ (and_left (is_name 1 40 (t 0) && is_name 0 20 (t 1)) _ is_all)
+
+    is_named : all name_byte (t 5) ≡ true
+    is_named = and_right (is_name 1 40 (t 0) && is_name 0 20 (t 1)) _ is_all
+
+    abbrev made : Value → List ℕ → ℕ × (ℕ × ℕ) → NamedRow
+    made = row_with (t 0) (t 1) (k.sort, (k.level, k.rule)) (t 5)
+
+    the_row : whole price_line line ≡ some (row_on line read)
     unfolding row_on
-    line_reads =
-        then_reads _ _ (such_reads field (is_name 1 40) p.first.reads)
-        (then_reads _ _ (such_reads next_field (is_name 0 20) (p.each 0 (omega arith)).reads)
-        (then_reads _ _ (meaning_reads next_field (letter_in (83 ∷ 80 ∷ [])) kinds.is_sort k.sort (p.each 1 (omega arith)).reads kinds.sort)
-        (then_reads _ _ (meaning_reads next_field (letter_in (66 ∷ 88 ∷ 68 ∷ [])) kinds.is_a_level k.level (p.each 2 (omega arith)).reads
-        kinds.level)
-        (then_reads _ _ (meaning_reads next_field (letter_in (49 ∷ 50 ∷ [])) kinds.is_rule k.rule (p.each 3 (omega arith)).reads kinds.rule)
-        (then_reads _ _ (such_reads next_field (all name_byte) (p.each 4 (omega arith)).reads)
-        (value_then (behind_value (text_of line (nth fs 0)) (text_of line (nth fs 1)) k.sort k.level k.rule (text_of line (nth fs 5)))
-        (p.each 5 (omega arith)) (p.each 6 (omega arith)) v.amount.good value.is_flag (signed_by v.amount.minus v.amount.hundredths)
-        v.flag value.amount.is value.flag
-        (then_reads _ _ (currency_reads (p.each 7 (omega arith)) capitals)
-        (then_reads _ _ (meaning_reads next_field date_in span.is_from s.from (p.each 8 (omega arith)).reads span.from)
-        (then_reads _ _ (meaning_reads next_field date_in span.is_to s.to (p.each 9 (omega arith)).reads span.to)
-        (then_reads _ _ (meaning_reads next_field quantity_in span.is_upto s.upto (p.each 10 (omega arith)).reads span.upto)
-        (then_reads _ _ (such_reads next_field is_empty (p.each 11 (omega arith)).reads) give_reads)))))))))))
+    the_row =
+        row_is
+        ∙ (ap (λ (b : Bool). when b (when (is_name 0 20 (t 1)) from_kinds)) is_article
+        ∙ (ap (λ (b : Bool). when b from_kinds) is_condition
+        ∙ (ap (λ (o : Option (ℕ × (ℕ × ℕ))). if_some o none from_name) kinds.is
+        ∙ (ap (λ (b : Bool). when b (from_value made)) is_named
+        ∙ (ap (λ (o : Option Value). if_some o none (λ v. when (is_currency (t 8)) (from_span (made v (t 8))))) value.is
+        ∙ (ap (λ (b : Bool). when b (from_span (made (Worth v.flag v.amount) (t 8)))) capitals.good
+        ∙ (ap (λ (o : Option (ℕ × (ℕ × ℕ))). if_some o none
+        (λ s. when (is_empty (t 12)) (only (eqb (nth fs 12).next (length line)) (made (Worth v.flag v.amount) (t 8) s)))) span.is
+        ∙ (ap (λ (b : Bool). when b (only (eqb (nth fs 12).next (length line)) (made (Worth v.flag v.amount) (t 8) (s.from, (s.to, s.upto)))))
+        (eq-eqb (length (t 12)) 0 ((text 12 (omega arith)).count ∙ empty))
+        ∙ (ap (λ (b : Bool). only b (made (Worth v.flag v.amount) (t 8) (s.from, (s.to, s.upto)))) (eq-eqb (nth fs 12).next (length line) end)
+        ∙ ap (λ (x : List ℕ). some (made (Worth v.flag v.amount) x (s.from, (s.to, s.upto)))) capitals.is)))))))))
 
     pub line_is : LineIs line read
     line_is = record {
-      is = whole_end price_line line_reads (text 12 (omega arith)).next_fits ∙ ap (λ (b : Bool). only b (row_on line read)) (regroup
-          ((nth fs 0).good && is_name 1 40 (text_of line (nth fs 0))) ((nth fs 1).good && is_name 0 20 (text_of line (nth fs 1)))
-          ((nth fs 2).good && kinds.is_sort) ((nth fs 3).good && kinds.is_a_level) ((nth fs 4).good && kinds.is_rule)
-          ((nth fs 5).good && all name_byte (text_of line (nth fs 5)))
-          ((nth fs 6).good && v.amount.good) ((nth fs 7).good && value.is_flag) (in_bounds (Worth v.flag v.amount))
-          ((nth fs 8).good && c.good)
-          ((nth fs 9).good && span.is_from) ((nth fs 10).good && span.is_to) ((nth fs 11).good && span.is_upto)
-          ((nth fs 12).good && is_empty (text_of line (nth fs 12))) (eqb (nth fs 12).next (length line))
-          ∙ (λ i. both_names i && kinds.good i && ((nth fs 5).good && named.is i) && value.good i &&
-          ((nth fs 8).good && c.good) && span.good i && ((nth fs 12).good && eqb ((text 12 (omega arith)).count i) 0) && eqb (nth fs 12).next
-          (length line)));
+      is = the_row;
       article = text 0 (omega arith);
       condition = text 1 (omega arith);
       name = text 5 (omega arith);
-      starts = λ g. name_starts g;
-      short = λ g. fit (nth fs 0).good (nth fs 1).good (names.is ∙ and_left t _ (and_left (t && k.good) _ (to_name g)));
+      starts = record {
+        fits = starts_at (p.each 4 (omega arith)) (p.each 5 (omega arith));
+        rest = (after (p.each 4 (omega arith)) (p.each 5 (omega arith))).0;
+        reads = starts_reads (p.each 4 (omega arith)) (p.each 5 (omega arith));
+      };
+      short = (
+        omega (arith, (text 0 (omega arith)).count, between_high 1 40 (length (t 0)) (and_left (between 1 40 (length (t 0))) _ is_article)),
+        omega (arith, (text 1 (omega arith)).count, between_high 0 20 (length (t 1)) (and_left (between 0 20 (length (t 1))) _ is_condition)),
+      );
     }
-      where
-        -- what is good up to the value, and up to the name before it
-        to_value : good ≡ true → (t && k.good && ((nth fs 5).good && n) && v.good) ≡ true
-        to_value g =
-            and_left (t && k.good && ((nth fs 5).good && n) && v.good) _
-            (and_left (t && k.good && ((nth fs 5).good && n) && v.good && ((nth fs 8).good && c.good)) _
-            (and_left (t && k.good && ((nth fs 5).good && n) && v.good && ((nth fs 8).good && c.good) && s.good) _
-            (and_left (t && k.good && ((nth fs 5).good && n) && v.good && ((nth fs 8).good && c.good) && s.good &&
-            ((nth fs 12).good && eqb (nth fs 12).count 0)) _ g)))
-
-        to_name : good ≡ true → (t && k.good && ((nth fs 5).good && n)) ≡ true
-        to_name g = and_left (t && k.good && ((nth fs 5).good && n)) _ (to_value g)
-
-        name_starts : good ≡ true → NameStarts line read
-        name_starts g =
-            let a : (nth fs 5).good ≡ true = and_left (nth fs 5).good _ (and_right (t && k.good) _ (to_name g)) in
-            let d : v.good ≡ true = and_right (t && k.good && ((nth fs 5).good && n)) _ (to_value g) in
-            let b : (nth fs 6).good ≡ true = and_left (nth fs 6).good _ (and_left ((nth fs 6).good && v.amount.good) _ (value.good ∙ d)) in
-            record {
-              fits = starts_at (p.each 4 (omega arith)) (p.each 5 (omega arith)) a b;
-              rest = (after (p.each 4 (omega arith)) (p.each 5 (omega arith)) a b).0;
-              reads = starts_reads (p.each 4 (omega arith)) (p.each 5 (omega arith)) a b;
-            }
-
-        fit : (x y : Bool)
-            → ((x && (between 1 40 (nth fs 0).count && all name_byte (text_of line (nth fs 0)))) && (y && (between 0 20 (nth fs 1).count && all name_byte (text_of line (nth fs 1))))) ≡ true
-            → ((nth fs 0).count ≤ 40) × ((nth fs 1).count ≤ 20)
-        fit true true e = (
-          between_high 1 40 (nth fs 0).count
-              (and_left (between 1 40 (nth fs 0).count) (all name_byte (text_of line (nth fs 0))) (and_left (between 1 40 (nth fs 0).count && all name_byte (text_of line (nth fs 0))) _ e)),
-          between_high 0 20 (nth fs 1).count
-              (and_left (between 0 20 (nth fs 1).count) (all name_byte (text_of line (nth fs 1))) (and_right (between 1 40 (nth fs 0).count && all name_byte (text_of line (nth fs 0))) _ e)),
-        )
-        fit true false e = absurd (false≢true (sym (and_no (between 1 40 (nth fs 0).count && all name_byte (text_of line (nth fs 0)))) ∙ e))
-        fit false y e = absurd (false≢true e)
-
-        both_names : (((nth fs 0).good && is_name 1 40 (text_of line (nth fs 0))) && ((nth fs 1).good && is_name 0 20 (text_of line (nth fs 1)))) ≡ t
-        both_names = (λ i. ((nth fs 0).good && is_name_lem 1 40 0 (omega arith) i) && ((nth fs 1).good && is_name_lem 0 20 1 (omega arith) i)) ∙ names.is

@@ -1,45 +1,46 @@
 -- A field's text means what its bytes mean.
 use Prim.Native.Nat.{ℕ}
-use mathlib.Core.Path.{refl, ◌∙◌}
-use mathlib.Core.Bool.{Bool}
-use mathlib.Core.List.{List, [], ◌∷◌}
-use Rattle.rules.specs.Lists.{all}
+use mathlib.Core.Path.{◌≡◌, ◌∙◌, ap}
+use mathlib.Core.Bool.{Bool, false}
+use mathlib.Core.List.{List}
+use lib.Dec.{eqb}
+use Rattle.rules.specs.Lists.{all, any}
 use Rattle.rules.specs.Bytes.{name_byte}
+use Rattle.file_rules.specs.Decimals.{date_in, quantity_in, value_in}
+use Rattle.file_rules.specs.PriceLine.{is_currency, letter_in}
+use Rattle.std.specs.Prelude.{Some, None, MatchOption}
+use Rattle.std.specs.declared.option.Option.{Option as Returned}
 use Rattle.layout.specs.Reads.{part}
 use Rattle.layout.specs.Ensures.{Says}
 use Rattle.fields.specs.declared.field.Field.{Field}
-use Rattle.figures.specs.declared.Figure.{Figure}
-use Rattle.figures.specs.declared.Amount.{Amount}
-use Rattle.figures.specs.declared.Letter.{Letter}
-use Rattle.figures.specs.declared.Capitals.{Capitals}
+use Rattle.fields.specs.Given.{GivesNone, Agrees}
 use Rattle.fields.specs.Field.{text_of, TextIs}
-use Rattle.figures.specs.Figures.{QuantityIs, DateIs, AmountIs, LetterIs, CapitalsAre}
-use Rattle.figures.proofs.MeaningLaws.{quantity_text, date_text, letter_text, amount_text, capitals_text}
+use Rattle.figures.specs.declared.Amount.{Amount}
+use Rattle.rules.specs.declared.Currency.{Currency}
+use Rattle.figures.specs.Figures.{near, AmountIs, CapitalsAre}
+use Rattle.fields.proofs.GivenLaws.{agrees_as}
+use Rattle.figures.proofs.MeaningLaws.{quantity_text, date_text, letter_text, value_text, currency_text, capitals_text}
 
 module _ {line : List ℕ} {f : Field} (t : TextIs line f) where
   pub named_means : {r : Bool} → Says (all name_byte (part line f.from f.to)) r → Says (all name_byte (text_of line f)) r
   named_means p = record { is = t.names ∙ p.is }
 
-  pub sort_means : {r : Letter} → LetterIs (83 ∷ 80 ∷ []) (part line f.from f.to) r → LetterIs (83 ∷ 80 ∷ []) (text_of line f) r
-  sort_means p = record { is = letter_text t refl p }
+  pub letter_means : (few : List ℕ) → any (eqb 34) few ≡ false → (r : Returned ℕ) → Agrees (letter_in few (part line f.from f.to)) r
+      → Agrees (letter_in few (text_of line f)) r
+  letter_means few h r = agrees_as (letter_text t few h) r
 
-  pub level_means : {r : Letter} → LetterIs (66 ∷ 88 ∷ 68 ∷ []) (part line f.from f.to) r → LetterIs (66 ∷ 88 ∷ 68 ∷ []) (text_of line f) r
-  level_means p = record { is = letter_text t refl p }
+  pub day_means : (r : Returned ℕ) → Agrees (date_in (part line f.from f.to)) r → Agrees (date_in (text_of line f)) r
+  day_means r = agrees_as (date_text t) r
 
-  pub rule_means : {r : Letter} → LetterIs (49 ∷ 50 ∷ []) (part line f.from f.to) r → LetterIs (49 ∷ 50 ∷ []) (text_of line f) r
-  rule_means p = record { is = letter_text t refl p }
+  pub number_means : (r : Returned ℕ) → Agrees (quantity_in (part line f.from f.to)) r → Agrees (quantity_in (text_of line f)) r
+  number_means r = agrees_as (quantity_text t) r
 
-  pub flag_means : {r : Letter} → LetterIs (48 ∷ 49 ∷ []) (part line f.from f.to) r → LetterIs (48 ∷ 49 ∷ []) (text_of line f) r
-  flag_means p = record { is = letter_text t refl p }
+  pub value_means : (r : Returned Amount) → MatchOption r (GivesNone (near (value_in (part line f.from f.to)))) (AmountIs (part line f.from f.to))
+      → MatchOption r (GivesNone (near (value_in (text_of line f)))) (AmountIs (text_of line f))
+  value_means None p = record { is = ap near (value_text t) ∙ p.is }
+  value_means (Some a) p = record { is = ap near (value_text t) ∙ p.is; below = p.below }
 
-  pub value_means : {r : Amount} → AmountIs (part line f.from f.to) r → AmountIs (text_of line f) r
-  value_means p = record { is = amount_text t p; below = p.below }
-
-  pub capitals_mean : {r : Capitals} → CapitalsAre (part line f.from f.to) r → CapitalsAre (text_of line f) r
-  capitals_mean p = capitals_text t p
-
-  pub day_means : {r : Figure} → DateIs (part line f.from f.to) r → DateIs (text_of line f) r
-  day_means p = record { is = date_text t p }
-
-  pub number_means : {r : Figure} → QuantityIs (part line f.from f.to) r → QuantityIs (text_of line f) r
-  number_means p = record { is = quantity_text t p }
+  pub capitals_mean : (r : Returned Currency) → MatchOption r (Says (is_currency (part line f.from f.to)) false) (CapitalsAre (part line f.from f.to))
+      → MatchOption r (Says (is_currency (text_of line f)) false) (CapitalsAre (text_of line f))
+  capitals_mean None p = record { is = currency_text t ∙ p.is }
+  capitals_mean (Some c) p = record { good = currency_text t ∙ p.good; is = capitals_text t p.good ∙ p.is }

@@ -1,19 +1,18 @@
 -- What functions over a line of the price file ensure.
-use Rattle.std.specs.Prelude.{ℕ, ◌+◌, ◌-◌, ◌≤◌, ◌<◌, ◌≡◌, List, [], ◌∷◌, Bool, true, false, ◌&&◌, length, drop, get_or}
-use Rattle.std.proofs.Math.Option.{some}
-use Rattle.rules.specs.Lists.{all, between}
-use Rattle.rules.specs.Bytes.{name_byte}
+use Rattle.std.specs.Prelude.{ℕ, ◌+◌, ◌-◌, ◌≤◌, ◌<◌, ◌≡◌, List, [], ◌∷◌, length, drop, get_or}
+use Rattle.std.proofs.Math.Option.{Option, some, none}
+use Rattle.rules.specs.Lists.{if_some}
 use Rattle.rules.specs.Layout.{whole}
 use Rattle.rules.specs.BookLayout.{value_of, in_bounds}
 use Rattle.file_rules.specs.Fields.{semicolon, field}
 use Rattle.file_rules.specs.PriceLine.{NamedRow, letter_in, price_line}
-use Rattle.file_rules.specs.Decimals.{date_in, quantity_in}
+use Rattle.file_rules.specs.Decimals.{date_in, quantity_in, value_in}
 use Rattle.rules.specs.declared.Value.{Value}
 use Rattle.layout.specs.Reads.{only}
 use Rattle.fields.specs.declared.field.Field.{Field}
 use Rattle.figures.specs.declared.Amount.{Amount}
 use Rattle.fields.specs.Field.{text_of, TextIs, FieldIs, NextIs}
-use Rattle.figures.specs.Figures.{signed_by, AmountIs, letters_of}
+use Rattle.figures.specs.Figures.{signed_by, letters_of}
 use Rattle.price_line.specs.declared.Kinds.{Kinds}
 use Rattle.price_line.specs.declared.Priced.{Priced}
 use Rattle.price_line.specs.declared.Span.{Span}
@@ -22,7 +21,7 @@ use Rattle.price_line.specs.declared.PriceLine.{PriceLine}
 -- ---- the fields
 
 abbrev pub zero_field : Field
-zero_field = record { from = 0; to = 0; count = 0; next = 0; good = false }
+zero_field = record { from = 0; to = 0; count = 0; next = 0 }
 
 abbrev pub nth : List Field → ℕ → Field
 nth fs k = get_or fs k zero_field
@@ -31,49 +30,44 @@ pub record FieldsAre (line : List ℕ) (fs : List Field) : Type 0 where
   pub first : FieldIs line 0 (nth fs 0)
   pub each : (k : ℕ) → k + 1 < 13 → NextIs line (nth fs k).next (nth fs (k + 1))
 
--- the first k of them were read, up to `at`
-pub record FieldsTo (line : List ℕ) (fs : List Field) (at k : ℕ) : Type 0 where
+-- the first k of them were read
+pub record FieldsTo (line : List ℕ) (fs : List Field) (k : ℕ) : Type 0 where
   pub long : length fs ≡ 13
   pub low : 1 ≤ k
   pub few : k ≤ 13
-  pub here : at ≡ (nth fs (k - 1)).next
-  pub fits : at ≤ length line
+  pub fits : (nth fs (k - 1)).next ≤ length line
   pub first : FieldIs line 0 (nth fs 0)
   pub each : (j : ℕ) → j + 1 < k → NextIs line (nth fs j).next (nth fs (j + 1))
 
--- ---- groups of fields: each is good where it was read and its text means something
+-- ---- groups of fields: what their texts mean, if each of them means something
 
-abbrev pub names_fit : List ℕ → Field → Field → Bool
-names_fit line a c =
-    (a.good && (between 1 40 a.count && all name_byte (text_of line a))) && (c.good && (between 0 20 c.count && all name_byte (text_of line c)))
+abbrev pub all_three : {A B C : Type 0} → Option A → Option B → Option C → Option (A × (B × C))
+all_three a b c = if_some a none (λ x. if_some b none (λ y. if_some c none (λ z. some (x, (y, z)))))
+
+unfoldable pub kinds_in : List ℕ → List ℕ → List ℕ → Option (ℕ × (ℕ × ℕ))
+kinds_in s l r = all_three (letter_in (83 ∷ 80 ∷ []) s) (letter_in (66 ∷ 88 ∷ 68 ∷ []) l) (letter_in (49 ∷ 50 ∷ []) r)
+
+unfoldable pub span_in : List ℕ → List ℕ → List ℕ → Option (ℕ × (ℕ × ℕ))
+span_in a b q = all_three (date_in a) (date_in b) (quantity_in q)
+
+-- a value that is out of bounds is none
+unfoldable pub worth_in : List ℕ → List ℕ → Option Value
+worth_in v f =
+    if_some (value_in v) none (λ h. if_some (letter_in (48 ∷ 49 ∷ []) f) none (λ fixed.
+    only (in_bounds (value_of (fixed - 48) h)) (value_of (fixed - 48) h)))
 
 pub record Kinded (line : List ℕ) (s l r : Field) (k : Kinds) : Type 0 where
-  pub is_sort : Bool
-  pub is_a_level : Bool
-  pub is_rule : Bool
-  pub sort : letter_in (83 ∷ 80 ∷ []) (text_of line s) ≡ only is_sort k.sort
-  pub level : letter_in (66 ∷ 88 ∷ 68 ∷ []) (text_of line l) ≡ only is_a_level k.level
-  pub rule : letter_in (49 ∷ 50 ∷ []) (text_of line r) ≡ only is_rule k.rule
-  pub good : ((s.good && is_sort) && ((l.good && is_a_level) && (r.good && is_rule))) ≡ k.good
+  pub is : kinds_in (text_of line s) (text_of line l) (text_of line r) ≡ some (k.sort, (k.level, k.rule))
 
 -- the value that an amount and its flag stand for
 abbrev pub Worth : ℕ → Amount → Value
 Worth flag a = value_of (flag - 48) (signed_by a.minus a.hundredths)
 
 pub record ValueAre (line : List ℕ) (v f : Field) (p : Priced) : Type 0 where
-  pub is_flag : Bool
-  pub amount : AmountIs (text_of line v) p.amount
-  pub flag : letter_in (48 ∷ 49 ∷ []) (text_of line f) ≡ only is_flag p.flag
-  pub good : ((v.good && p.amount.good) && ((f.good && is_flag) && in_bounds (Worth p.flag p.amount))) ≡ p.good
+  pub is : worth_in (text_of line v) (text_of line f) ≡ some (Worth p.flag p.amount)
 
 pub record Spanned (line : List ℕ) (a b q : Field) (s : Span) : Type 0 where
-  pub is_from : Bool
-  pub is_to : Bool
-  pub is_upto : Bool
-  pub from : date_in (text_of line a) ≡ only is_from s.from
-  pub to : date_in (text_of line b) ≡ only is_to s.to
-  pub upto : quantity_in (text_of line q) ≡ only is_upto s.upto
-  pub good : ((a.good && is_from) && ((b.good && is_to) && (q.good && is_upto))) ≡ s.good
+  pub is : span_in (text_of line a) (text_of line b) (text_of line q) ≡ some (s.from, (s.to, s.upto))
 
 -- ---- the line
 
@@ -105,9 +99,9 @@ pub record NameStarts (line : List ℕ) (r : PriceLine) : Type 0 where
   pub reads : field (drop r.start line) ≡ some (text_of line r.name, semicolon ∷ rest)
 
 pub record LineIs (line : List ℕ) (r : PriceLine) : Type 0 where
-  pub is : whole price_line line ≡ only r.good (row_on line r)
+  pub is : whole price_line line ≡ some (row_on line r)
   pub article : TextIs line r.article
   pub condition : TextIs line r.condition
   pub name : TextIs line r.name
-  pub starts : r.good ≡ true → NameStarts line r
-  pub short : r.good ≡ true → (r.article.count ≤ 40) × (r.condition.count ≤ 20)
+  pub starts : NameStarts line r
+  pub short : (r.article.count ≤ 40) × (r.condition.count ≤ 20)

@@ -7,7 +7,7 @@ use native.Mathlib.Omega.{arith}
 use lib.Dec.{leb}
 use lib.IntN.{ℤ}
 use lib.ListN.{length, set}
-use borrow.Author.Tests.{le-leb, lt-leb, leb-true, leb-false}
+use borrow.Author.Tests.{leb-true, leb-false}
 use Rattle.rules.specs.Bytes.{bytes_of, twos}
 use Rattle.rules.specs.BookLayout.{value_of}
 use Rattle.rules.specs.RowBytes.{name_bytes, flag_of, hundredths_of, value_bytes, row_body, row_bytes}
@@ -38,13 +38,7 @@ module _ {old : List ℕ} {at : ℕ} where
   pub number_put : (n : ℕ) {new : List ℕ} → Puts old at (bytes_of 4 n) new → PutsTo old at (bytes_of 4 n) new (at + 4)
   number_put n p = record { puts = p; ends = refl }
 
--- ---- digits, flags and signs
-
-pub flag_share : {b : ℕ} → b ≤ 48 → Number (flag_bit b) 256 0
-flag_share {b} h = record { is = sym (ap (λ (x : Bool). cond x 0 1) (le-leb b 48 h)); below = omega arith }
-
-pub flag_amount : {b : ℕ} → 48 < b → Number (flag_bit b) 256 1
-flag_amount {b} h = record { is = sym (ap (λ (x : Bool). cond x 0 1) (lt-leb b 48 h)); below = omega arith }
+-- ---- signs
 
 module _ (b : Bool) (n : ℕ) where
   pub twos_zero : n < 1 → Number (twos 4 (signed_by b n)) 4294967296 n

@@ -65,7 +65,7 @@ fn put_name(out: &mut [u8], at: usize, line: &[u8], f: Field) -> usize
 fn digit_of(byte: u8) -> u8
     ensures { Number (byte - 48) 256 result }
 {
-    if byte < b'0' { 0 } else { byte - b'0' }
+    byte.saturating_sub(b'0')
 }
 
 // Sort, level and rule, and the number of the text.
@@ -97,7 +97,7 @@ fn twos_of(amount: Amount) -> u32
 fn flag_of(byte: u8) -> u8
     ensures { Number (flag_bit byte) 256 result }
 {
-    if byte <= b'0' { 0 } else { 1 }
+    u8::from(b'0' < byte)
 }
 
 fn put_value(out: &mut [u8], at: usize, priced: Priced) -> usize

@@ -17,15 +17,6 @@ use Rattle.price_terms.specs.declared.Terms.{Terms}
 use Rattle.price_terms.specs.Terms.{flag_digit, two, kind_text, worth_by, worth_text, span_text, tail_text, TermsAre, SizeIs}
 use Rattle.price_terms.proofs.PartLaws.{two_length, four_length, room_one, room_two, two_put}
 
-module _ {t : List ℕ} {p : ℕ} where
-  pub terms_are : {text value from to upto rounding : ℕ} → Number (number_at 4 t (p + 3)) 4294967296 text
-      → Number (number_at 4 t (p + 8)) 4294967296 value → Number (number_at 4 t (p + 15)) 4294967296 from
-      → Number (number_at 4 t (p + 19)) 4294967296 to → Number (number_at 4 t (p + 23)) 4294967296 upto
-      → Number (number_at 2 t (p + 27)) 65536 rounding
-      → TermsAre t p (record { text = text; value = value; from = from; to = to; upto = upto; rounding = rounding })
-  terms_are a b c d e f =
-      record { text = a.is; value = b.is; from = c.is; to = d.is; upto = e.is; rounding = f.is }
-
 pub flag_none : {b : ℕ} → b ≡ 0 → Number (flag_digit b) 256 48
 flag_none e = record { is = sym (ap flag_digit e); below = omega arith }
 

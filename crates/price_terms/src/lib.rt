@@ -2,7 +2,6 @@
 #![tactic(auto)]
 
 ghost use Rattle.std.specs.Prelude.{◌+◌, ◌≤◌, ◌<◌, [], ◌∷◌, length, get_or};
-ghost use Rattle.kinds.specs.Fields.{number_at};
 ghost use Rattle.layout.specs.Ensures.{Says, Number, PutsTo};
 ghost use Rattle.decimals.specs.Texts.{ended, RoomFor};
 ghost use Rattle.price_terms.specs.Terms.{fit_terms, flag_digit, kind_text, worth_by, span_text, tail_text, TermsAre, SizeIs};
@@ -15,7 +14,7 @@ use layout::numbers::{four_at, two_at};
 use layout::strings::put_bytes;
 
 // The value by the unsigned number of its four bytes.
-#[derive(Clone, Copy)]
+#[derive(Clone, Copy, PartialEq, Eq)]
 pub struct Terms {
     pub text: u32,
     pub value: u32,
@@ -25,24 +24,17 @@ pub struct Terms {
     pub rounding: u16,
 }
 
-fn word(t: &[u8], at: usize) -> u32
-    requires { at + 4 ≤ length t.now }
-    ensures { Number (number_at 4 t.now at) 4294967296 result }
-{
-    four_at(t, at) as u32
-}
-
 // Of the record t, whose names end at p.
 pub fn terms_of(t: &[u8], p: usize) -> Terms
     requires { p + 29 ≤ length t.now }
     ensures { TermsAre t.now p result }
 {
     Terms {
-        text: word(t, p + 3),
-        value: word(t, p + 8),
-        from: word(t, p + 15),
-        to: word(t, p + 19),
-        upto: word(t, p + 23),
+        text: four_at(t, p + 3) as u32,
+        value: four_at(t, p + 8) as u32,
+        from: four_at(t, p + 15) as u32,
+        to: four_at(t, p + 19) as u32,
+        upto: four_at(t, p + 23) as u32,
         rounding: two_at(t, p + 27) as u16,
     }
 }
@@ -51,7 +43,7 @@ pub fn terms_of(t: &[u8], p: usize) -> Terms
 pub fn fits_line(terms: Terms) -> bool
     ensures { Says (fit_terms terms) result }
 {
-    (terms.rounding == 0) & ((terms.from <= 99_999_999) & (terms.to <= 99_999_999))
+    (terms.rounding == 0) & (terms.from <= 99_999_999) & (terms.to <= 99_999_999)
 }
 
 // The bytes of all columns behind the names, and of the line's end. Five columns have one byte each, the currency has three.

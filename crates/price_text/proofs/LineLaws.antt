@@ -1,14 +1,16 @@
 -- The line of a record: where its names end, how long it is, and what is written.
 use Prim.Native.Nat.{ℕ, ◌+◌, ◌-◌, ◌≤◌, ◌<◌}
 use mathlib.Core.Path.{◌≡◌, refl, sym, ◌∙◌, ap, subst}
-use mathlib.Core.Bool.{Bool, true, false, ◌&&◌, and-true}
+use mathlib.Core.Bool.{Bool, true, false, not, ◌&&◌, and-true}
 use mathlib.Core.List.{List, []}
 use mathlib.Core.Option.{Option, some, none}
 use native.Mathlib.Omega.{arith}
 use lib.Dec.{eqb, leb}
 use lib.ListN.{length, drop, get_or, length-drop}
 use lib.Seq.{length-take-le}
+use Rattle.std.proofs.Common.{Fits, w8}
 use Rattle.rules.specs.Lists.{all}
+use Rattle.rules.proofs.TestLaws.{so, not_so}
 use Rattle.rules.specs.Layout.{whole}
 use Rattle.rules.specs.Book.{Record, ArticleRecord, PriceRecord, RoundingRecord, PackagingRecord, SchemeRecord}
 use Rattle.rules.specs.BookLayout.{kinded}
@@ -26,7 +28,8 @@ use Rattle.quotes.specs.Names.{text_in}
 use Rattle.price_terms.specs.declared.Terms.{Terms}
 use Rattle.price_terms.specs.Terms.{TermsAre, fit_terms, SizeIs, two, kind_text, tail_text}
 use Rattle.price_terms.proofs.PartLaws.{two_length, room_one, room_two, two_put}
-use Rattle.price_text.specs.Line.{brings, line_of, names_text, term_text, Priced, Ready, LineIs}
+use Rattle.price_text.specs.Line.{brings, line_of, names_text, term_text, Priced}
+use Rattle.price_text.specs.Size.{fits, LineHolds, NoLineHolds}
 use Rattle.price_text.proofs.ColumnLaws.{line_as}
 
 -- ---- a record of another kind
@@ -48,12 +51,8 @@ module _ {t : List ℕ} (p : Accepted t) where
     unfolding line_of file_text
     no_bytes = ap file_text (brings_none t p n)
 
-    pub no_line : LineIs t (record { size = 0; fits = true })
-    no_line = record {
-      size = sym (ap length no_bytes);
-      fits = sym (ap (all fits_line) (brings_none t p n));
-      few = omega arith;
-    }
+    pub no_line : LineHolds t 0
+    no_line = record { fit = ap (all fits_line) (brings_none t p n); is = sym (ap length no_bytes); few = omega arith }
 
     pub no_line_put : {out : List ℕ} {at : ℕ} → RoomFor out at (line_of t) → PutsTo out at (line_of t) out at
     no_line_put {out} {at} r = subst (λ (s : List ℕ). PutsTo out at s out at) (sym no_bytes) (to_nothing (omega (arith, r.room)))
@@ -67,22 +66,25 @@ module _ {t : List ℕ} (p : Accepted t) where
     pub first_stands : 1 < length t
     first_stands = price_first price_kind
 
-    module _ {a : ℕ} (e : Number (name_stop t 1) 258 a) where
-      pub second_stands : a < length t
-      second_stands = price_second price_kind e
+    module _ (bytes : (i : ℕ) → Fits w8 (get_or t i 0)) where
+      article : Number (name_stop t 1) 258 (2 + get_or t 1 0)
+      article = record { is = omega arith; below = omega (arith, (bytes 1).fits) }
 
-      pub priced : {c : ℕ} → Number (name_stop t a) (a + 257) c → Priced t a c
-      priced g = record { here = price_names price_kind e g; short = e.below; brief = g.below }
+      pub second_stands : 2 + get_or t 1 0 < length t
+      second_stands = price_second price_kind article
+
+      condition : Number (name_stop t (2 + get_or t 1 0)) (2 + get_or t 1 0 + 257) (2 + get_or t 1 0 + 1 + get_or t (2 + get_or t 1 0) 0)
+      condition = record { is = refl; below = omega (arith, (bytes (2 + get_or t 1 0)).fits) }
+
+      pub priced : Priced t (2 + get_or t 1 0) (2 + get_or t 1 0 + 1 + get_or t (2 + get_or t 1 0) 0)
+      priced = record { here = price_names price_kind article condition; short = article.below; brief = condition.below }
 
 module _ {t : List ℕ} {a p : ℕ} (k : Priced t a p) where
   pub terms_there : p + 29 ≤ length t
   terms_there = omega (arith, k.here.long)
 
-  rule_small : get_or t (p + 2) 0 < 10
+  pub rule_small : get_or t (p + 2) 0 < 10
   rule_small = two_cases (λ (n : ℕ). n < 10) 1 2 (omega arith) (omega arith) (get_or t (p + 2) 0) (row_rule t a p k.here).is
-
-  pub ready : Ready t p
-  ready = record { there = terms_there; digit = rule_small }
 
   pub short_article : length (part t 2 a) < 256
   short_article =
@@ -112,19 +114,26 @@ module _ {t : List ℕ} {a p : ℕ} (k : Priced t a p) {r : Terms} (m : TermsAre
       ap length (line_as t a p k.here m)
       ∙ omega (arith, two_length (names_text t a p) (term_text t p r), two_length (kind_text t p r.text) (tail_text t p r))
 
-  fit : fit_terms r ≡ all fits_line (brings (whole kinded t))
+  fit : fit_terms r ≡ fits t
   unfolding row_at
   fit =
       (λ i. eqb (m.rounding i) 0 && (leb (m.from i) 99_999_999 && leb (m.to i) 99_999_999))
       ∙ (sym (and-true (fits_line (row_at t 1 a p))) ∙ sym (ap (λ (o : Option Record). all fits_line (brings o)) k.here.is))
 
-  pub line_is : {n s : ℕ} {f : Bool} → Number (length (names_text t a p)) 1030 n → SizeIs r s → Says (fit_terms r) f
-      → LineIs t (record { size = n + s; fits = f })
-  line_is x y z = record {
-    size = omega (arith, line_length, x.is, y.is t p (terms_there k));
-    fits = sym z.is ∙ fit;
-    few = omega (arith, x.below, y.few);
-  }
+  module _ {f : Bool} (z : Says (fit_terms r) f) where
+    pub no_fit : {n s : ℕ} → f ≡ false → Number (length (names_text t a p)) 1030 n → SizeIs r s → NoLineHolds t (n + s)
+    no_fit h x y = record {
+      unfit = sym fit ∙ (z.is ∙ h);
+      is = omega (arith, line_length, x.is, y.is t p (terms_there k));
+      few = omega (arith, x.below, y.few);
+    }
+
+    pub line_holds : {n s : ℕ} → f ≡ true → Number (length (names_text t a p)) 1030 n → SizeIs r s → LineHolds t (n + s)
+    line_holds h x y = record {
+      fit = sym fit ∙ (z.is ∙ h);
+      is = omega (arith, line_length, x.is, y.is t p (terms_there k));
+      few = omega (arith, x.below, y.few);
+    }
 
   module _ {out : List ℕ} {at : ℕ} where
     as_parts : RoomFor out at (line_of t) → RoomFor out at (two (names_text t a p) (term_text t p r))

@@ -1,11 +1,11 @@
 -- The line that a record of a book brings to a price file.
-use Rattle.std.specs.Prelude.{ℕ, ◌+◌, ◌≤◌, ◌<◌, ◌≡◌, true, false, List, [], length, get_or}
+use Rattle.std.specs.Prelude.{ℕ, ◌+◌, ◌<◌, true, false, List, []}
 use Rattle.std.proofs.Math.Option.{Option, some, none}
-use Rattle.rules.specs.Lists.{all, cons_some}
+use Rattle.rules.specs.Lists.{cons_some}
 use Rattle.rules.specs.Layout.{whole}
 use Rattle.rules.specs.Book.{Record, Row, PriceRecord, as_row}
 use Rattle.rules.specs.BookLayout.{kinded}
-use Rattle.file_rules.specs.PriceFile.{fits_line, file_text}
+use Rattle.file_rules.specs.PriceFile.{file_text}
 use Rattle.layout.specs.Reads.{part}
 use Rattle.kinds.specs.Fields.{row_at}
 use Rattle.records.specs.Asks.{TwoNames}
@@ -13,7 +13,6 @@ use Rattle.decimals.specs.Texts.{ended}
 use Rattle.quotes.specs.Names.{text_in}
 use Rattle.price_terms.specs.declared.Terms.{Terms}
 use Rattle.price_terms.specs.Terms.{two, kind_text, tail_text}
-use Rattle.price_text.specs.declared.Line.{Line}
 
 -- a price record brings a row, any other none
 abbrev pub brings : Option Record → List Row
@@ -30,11 +29,6 @@ pub record Priced (t : List ℕ) (a p : ℕ) : Type 0 where
   pub short : a < 258
   pub brief : p < a + 257
 
--- the terms behind p are there, and can be written
-pub record Ready (t : List ℕ) (p : ℕ) : Type 0 where
-  pub there : p + 29 ≤ length t
-  pub digit : get_or t (p + 2) 0 < 10
-
 -- ---- the line's parts
 
 abbrev pub names_text : List ℕ → ℕ → ℕ → List ℕ
@@ -42,8 +36,3 @@ names_text t a p = two (ended (text_in true (part t 2 a))) (ended (text_in false
 
 abbrev pub term_text : List ℕ → ℕ → Terms → List ℕ
 term_text t p r = two (kind_text t p r.text) (tail_text t p r)
-
-pub record LineIs (t : List ℕ) (r : Line) : Type 0 where
-  pub size : r.size ≡ length (line_of t)
-  pub fits : r.fits ≡ all fits_line (brings (whole kinded t))
-  pub few : r.size ≤ 1300

@@ -4,25 +4,23 @@ use mathlib.Core.Path.{◌≡◌, refl, sym, ◌∙◌, ap, subst}
 use mathlib.Core.List.{List, [], ◌∷◌, ◌++◌, append_assoc}
 use native.Mathlib.Omega.{arith}
 use lib.IntN.{ℤ, pos, negsuc}
-use lib.ListN.{length, length-append, set}
-use lib.Seq.{sets}
+use lib.ListN.{length, length-append}
 use Rattle.rules.specs.Letters.{text}
 use Rattle.rules.specs.Program.{digits, decimal, signed_decimal, currency_text, stretch_text}
 use Rattle.rules.specs.Question.{letters_of}
 use Rattle.rules.specs.declared.Currency.{Currency}
-use Rattle.layout.proofs.StoreLaws.{puts_of}
 use Rattle.stretches.specs.declared.Stretch.{Stretch}
 use Rattle.stretches.specs.Stretches.{as_stretch}
-use Rattle.printing.specs.Ensures.{Prints}
+use Rattle.layout.specs.Ensures.{PutsTo}
 use Rattle.printing.proofs.DigitLaws.{few_digits, prints_then}
 
 -- ---- a number and a blank
 
-module _ {out : List ℕ} {at : ℕ} (n : ℕ) (h : at + 21 ≤ length out) {front : List ℕ} {end : ℕ} (p : Prints out at (digits 20 n) front end) where
+module _ {out : List ℕ} {at : ℕ} (n : ℕ) (h : at + 21 ≤ length out) {front : List ℕ} {end : ℕ} (p : PutsTo out at (digits 20 n) front end) where
   pub blank_room : end < length front
-  blank_room = omega (arith, p.end, p.puts.long, few_digits 20 n)
+  blank_room = omega (arith, p.ends, p.puts.long, few_digits 20 n)
 
-  pub number_blank : {last : List ℕ} {r : ℕ} → Prints front end (32 ∷ []) last r → Prints out at (decimal n ++ text " ") last r
+  pub number_blank : {last : List ℕ} {r : ℕ} → PutsTo front end (32 ∷ []) last r → PutsTo out at (decimal n ++ text " ") last r
   number_blank q = prints_then p q
 
 -- ---- three letters and a blank
@@ -37,13 +35,6 @@ pub word_struck : (c : Currency) (refusal : ℕ) → (refusal ≡ 0 → ⊥) →
 }) ≡ currency_text refusal (letters_of c)
 word_struck c zero z = absurd (z refl)
 word_struck c (suc k) z = refl
-
-pub word_prints : (out : List ℕ) (at : ℕ) (w : Currency) → at + 4 ≤ length out
-    → Prints out at (letters_of w ++ text " ") (set (set (set (set out at w.0) (at + 1) w.1) (at + 2) w.2) (at + 3) 32) (at + 4)
-word_prints out at w h = record { puts = puts_of (omega arith) (go at (at + 1) (at + 2) (at + 3) (omega arith) (omega arith) (omega arith)); end = omega arith }
-  where
-    go : (i j k l : ℕ) → j ≡ suc i → k ≡ suc (suc i) → l ≡ suc (suc (suc i)) → set (set (set (set out i w.0) j w.1) k w.2) l 32 ≡ sets out i (w.0 ∷ w.1 ∷ w.2 ∷ 32 ∷ [])
-    go i j k l e f g = λ x. set (set (set (set out i w.0) (e x) w.1) (f x) w.2) (g x) 32
 
 -- ---- a whole line
 
@@ -68,30 +59,30 @@ joined a b c d e =
     ∙ sym (by a (b ++ (s ++ cd)))
 
 module _ {out : List ℕ} {at : ℕ} (s : Stretch) (h : at + 89 ≤ length out)
-    {o₁ : List ℕ} {a : ℕ} (p₁ : Prints out at (decimal s.first.0 ++ text " ") o₁ a) where
+    {o₁ : List ℕ} {a : ℕ} (p₁ : PutsTo out at (decimal s.first.0 ++ text " ") o₁ a) where
   pub room₁ : a + 68 ≤ length o₁
-  room₁ = omega (arith, p₁.end, p₁.puts.long, few_number s.first.0)
+  room₁ = omega (arith, p₁.ends, p₁.puts.long, few_number s.first.0)
 
-  module _ {o₂ : List ℕ} {b : ℕ} (p₂ : Prints o₁ a (decimal s.last.0 ++ text " ") o₂ b) where
+  module _ {o₂ : List ℕ} {b : ℕ} (p₂ : PutsTo o₁ a (decimal s.last.0 ++ text " ") o₂ b) where
     pub room₂ : b + 47 ≤ length o₂
-    room₂ = omega (arith, room₁, p₂.end, p₂.puts.long, few_number s.last.0)
+    room₂ = omega (arith, room₁, p₂.ends, p₂.puts.long, few_number s.last.0)
 
-    module _ {o₃ : List ℕ} {c : ℕ} (p₃ : Prints o₂ b (decimal s.outcome.refusal ++ text " ") o₃ c) where
+    module _ {o₃ : List ℕ} {c : ℕ} (p₃ : PutsTo o₂ b (decimal s.outcome.refusal ++ text " ") o₃ c) where
       pub room₃ : c + 26 ≤ length o₃
-      room₃ = omega (arith, room₂, p₃.end, p₃.puts.long, few_number s.outcome.refusal)
+      room₃ = omega (arith, room₂, p₃.ends, p₃.puts.long, few_number s.outcome.refusal)
 
-      module _ {word : Currency} (is : letters_of word ≡ currency_text s.outcome.refusal (letters_of s.outcome.currency)) {o₄ : List ℕ} {d : ℕ} (p₄ : Prints o₃ c (letters_of word ++ text " ") o₄ d) where
+      module _ {word : Currency} (is : letters_of word ≡ currency_text s.outcome.refusal (letters_of s.outcome.currency)) {o₄ : List ℕ} {d : ℕ} (p₄ : PutsTo o₃ c (letters_of word ++ text " ") o₄ d) where
         pub room₄ : d + 22 ≤ length o₄
-        room₄ = omega (arith, room₃, p₄.end, p₄.puts.long)
+        room₄ = omega (arith, room₃, p₄.ends, p₄.puts.long)
 
-        module _ {o₅ : List ℕ} {e : ℕ} (p₅ : Prints o₄ d (signed_decimal s.outcome.unit.0) o₅ e) where
+        module _ {o₅ : List ℕ} {e : ℕ} (p₅ : PutsTo o₄ d (signed_decimal s.outcome.unit.0) o₅ e) where
           pub room₅ : e < length o₅
-          room₅ = omega (arith, room₄, p₅.end, p₅.puts.long, few_signed s.outcome.unit.0)
+          room₅ = omega (arith, room₄, p₅.ends, p₅.puts.long, few_signed s.outcome.unit.0)
 
-          pub line_prints : {o₆ : List ℕ} {r : ℕ} → Prints o₅ e (10 ∷ []) o₆ r → Prints out at (stretch_text (as_stretch s)) o₆ r
+          pub line_prints : {o₆ : List ℕ} {r : ℕ} → PutsTo o₅ e (10 ∷ []) o₆ r → PutsTo out at (stretch_text (as_stretch s)) o₆ r
           line_prints {o₆} {r} p₆ =
-              subst (λ (bs : List ℕ). Prints out at bs o₆ r) (joined (decimal s.first.0) (decimal s.last.0) (decimal s.outcome.refusal) (currency_text s.outcome.refusal (letters_of s.outcome.currency)) (signed_decimal s.outcome.unit.0))
-              (prints_then p₁ (prints_then p₂ (prints_then p₃ (prints_then (subst (λ (bs : List ℕ). Prints o₃ c (bs ++ text " ") o₄ d) is p₄) (prints_then p₅ p₆)))))
+              subst (λ (bs : List ℕ). PutsTo out at bs o₆ r) (joined (decimal s.first.0) (decimal s.last.0) (decimal s.outcome.refusal) (currency_text s.outcome.refusal (letters_of s.outcome.currency)) (signed_decimal s.outcome.unit.0))
+              (prints_then p₁ (prints_then p₂ (prints_then p₃ (prints_then (subst (λ (bs : List ℕ). PutsTo o₃ c (bs ++ text " ") o₄ d) is p₄) (prints_then p₅ p₆)))))
 
 -- a line is at most 89 bytes
 pub line_short : (s : Stretch) → length (stretch_text (as_stretch s)) ≤ 89

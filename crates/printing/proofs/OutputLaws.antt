@@ -7,7 +7,7 @@ use native.Mathlib.Omega.{arith}
 use native.Mathlib.Numerals.{add-one}
 use lib.Dec.{eqb, leb}
 use lib.ListN.{length, take, drop, get_or, replicate, length-drop, length-map, get_or-map}
-use lib.Seq.{sets, take-suc, take_all, get_or-take, length-take-le, take_at}
+use lib.Seq.{take-suc, take_all, get_or-take, length-take-le, take_at}
 use borrow.Author.Tests.{eq-eqb, ne_eqb, le-leb, lt-leb}
 use Rattle.rules.specs.Lists.{join}
 use Rattle.rules.specs.Letters.{text}
@@ -15,7 +15,7 @@ use Rattle.rules.specs.Calendar.{Stretch, calendar, stretches_bytes, most_days, 
 use Rattle.rules.specs.Bytes.{own_length}
 use Rattle.rules.specs.Program.{digits, decimal, stretch_text, end_of, asked, printed, output, most_input}
 use Rattle.rules.specs.Refusals.{Result, done, refused, over}
-use Rattle.layout.proofs.StoreLaws.{puts_of, puts_front}
+use Rattle.layout.proofs.StoreLaws.{puts_front}
 use Rattle.stretches.specs.declared.Stretch as Declared
 use Rattle.stretches.specs.declared.Stretches.{Stretches}
 use Rattle.stretches.specs.Stretches.{as_stretch, no_stretch}
@@ -24,7 +24,7 @@ use Rattle.calendar.specs.Listing.{stretches_in, listed, ListingIs, Refused}
 use Rattle.calendar.proofs.ByteLaws.{stretches_count, bytes_length}
 use Rattle.calendar.proofs.CallLaws.{two_parts}
 use Rattle.printing.specs.declared.output.Printed.{Printed}
-use Rattle.printing.specs.Ensures.{Prints}
+use Rattle.layout.specs.Ensures.{PutsTo}
 use Rattle.printing.specs.Input.{FrontIs}
 use Rattle.printing.specs.Output.{lines_text, listed_text, Few, Printable, Printing, OutputIs}
 use Rattle.printing.proofs.DigitLaws.{prints_none, prints_then, few_digits}
@@ -36,12 +36,16 @@ join_append : (xs : List (List ℕ)) (y : List ℕ) → join (xs ++ (y ∷ [])) 
 join_append [] y = append-nil y
 join_append (x ∷ xs) y = ap (λ zs. x ++ zs) (join_append xs y) ∙ sym (append_assoc x (join xs) y)
 
-map_append : (f : Stretch → List ℕ) (xs : List Stretch) (y : Stretch) → map f (xs ++ (y ∷ [])) ≡ map f xs ++ (f y ∷ [])
+map_append : (f : Declared.Stretch → List ℕ) (xs : List Declared.Stretch) (y : Declared.Stretch) → map f (xs ++ (y ∷ [])) ≡ map f xs ++ (f y ∷ [])
 map_append f [] y = refl
 map_append f (x ∷ xs) y = ap (λ zs. f x ∷ zs) (map_append f xs y)
 
-module _ {old : List ℕ} {r : Stretches} where
-  pub print_start : Printable old r → Printing old r old 0 0
+map_twice : (f : Stretch → List ℕ) (g : Declared.Stretch → Stretch) (xs : List Declared.Stretch) → map (λ s. f (g s)) xs ≡ map f (map g xs)
+map_twice f g [] = refl
+map_twice f g (x ∷ xs) = ap (λ zs. f (g x) ∷ zs) (map_twice f g xs)
+
+module _ {old : List ℕ} {ss : List Declared.Stretch} where
+  pub print_start : Printable old ss → Printing old ss old 0 0
   print_start p = record {
     place = omega arith;
     printable = p;
@@ -49,64 +53,53 @@ module _ {old : List ℕ} {r : Stretches} where
     so_far = prints_none old 0 (omega arith);
   }
 
-  module _ {out : List ℕ} {at i : ℕ} (w : Printing old r out at i) where
-    within : r.n ≤ length r.list
-    within = omega (arith, w.printable.few, w.printable.long)
-
-    pub print_room : i < r.n → at + 89 ≤ length out
+  module _ {out : List ℕ} {at i : ℕ} (w : Printing old ss out at i) where
+    pub print_room : i < length ss → at + 89 ≤ length out
     print_room h = omega (arith, w.short, w.printable.few, w.printable.room, w.so_far.puts.long)
 
-    -- the next stretch
-    taken : i < r.n → take (i + 1) (stretches_in r) ≡ take i (stretches_in r) ++ (as_stretch (get_or r.list i no_stretch) ∷ [])
-    taken h =
-        let l : i < length (stretches_in r) = rw (stretches_count r within) h in
-        ap (λ (k : ℕ). take k (stretches_in r)) (add-one i)
-        ∙ take-suc (stretches_in r) i (as_stretch no_stretch) l
-        ∙ ap (λ (s : Stretch). take i (stretches_in r) ++ (s ∷ [])) (get_or-map as_stretch (take r.n r.list) i no_stretch ∙ ap as_stretch (get_or-take r.n r.list i no_stretch h))
-
-    pub print_again : i < r.n → {new : List ℕ} {end : ℕ} → Prints out at (stretch_text (as_stretch (get_or r.list i no_stretch))) new end → Printing old r new end (i + 1)
+    pub print_again : i < length ss → {new : List ℕ} {end : ℕ} → PutsTo out at (stretch_text (as_stretch (get_or ss i no_stretch))) new end → Printing old ss new end (i + 1)
     print_again h {new} {end} p =
-        let next : Declared.Stretch = get_or r.list i no_stretch in
+        let next : Declared.Stretch = get_or ss i no_stretch in
+        let line : Declared.Stretch → List ℕ = λ s. stretch_text (as_stretch s) in
+        let taken : take (i + 1) ss ≡ take i ss ++ (next ∷ []) = ap (λ (k : ℕ). take k ss) (add-one i) ∙ take-suc ss i no_stretch h in
         record {
           place = omega arith;
           printable = w.printable;
-          short = omega (arith, w.short, p.end, line_short next);
-          so_far = subst (λ (bs : List ℕ). Prints old 0 bs new end)
-              (sym (ap (λ (ss : List Stretch). join (map stretch_text ss)) (taken h) ∙ ap join (map_append stretch_text (take i (stretches_in r)) (as_stretch next)) ∙ join_append (map stretch_text (take i (stretches_in r))) (stretch_text (as_stretch next))))
+          short = omega (arith, w.short, p.ends, line_short next);
+          so_far = subst (λ (bs : List ℕ). PutsTo old 0 bs new end)
+              (sym (ap lines_text taken ∙ ap join (map_append line (take i ss) next) ∙ join_append (map line (take i ss)) (line next)))
               (prints_then w.so_far p);
         }
 
-    pub print_end : r.n ≤ i → Prints old 0 (lines_text r) out at
-    print_end h =
-        subst (λ (ss : List Stretch). Prints old 0 (join (map stretch_text ss)) out at) (take_all i (stretches_in r) (rw (stretches_count r within) h)) w.so_far
+    pub print_end : length ss ≤ i → PutsTo old 0 (lines_text ss) out at
+    print_end h = subst (λ (xs : List Declared.Stretch). PutsTo old 0 (lines_text xs) out at) (take_all i ss h) w.so_far
 
 -- ---- the refusal
 
-pub word_prints : (out : List ℕ) → 8 ≤ length out → Prints out 0 (text "refusal ") (sets out 0 (text "refusal ")) 8
-word_prints out h = record { puts = puts_of (omega arith) refl; end = refl }
+module _ {out : List ℕ} (h : 97544 ≤ length out) (number : ℕ) {front : List ℕ} {behind : ℕ} (p : PutsTo out 0 (text "refusal ") front behind) where
+  pub number_room : behind + 20 ≤ length front
+  number_room = omega (arith, p.ends, p.puts.long)
 
-module _ {out : List ℕ} (h : 97544 ≤ length out) (number : ℕ) {front : List ℕ} (p : Prints out 0 (text "refusal ") front 8) where
-  pub number_room : 8 + 20 ≤ length front
-  number_room = omega (arith, p.puts.long)
-
-  module _ {next : List ℕ} {end : ℕ} (q : Prints front 8 (digits 20 number) next end) where
+  module _ {next : List ℕ} {end : ℕ} (q : PutsTo front behind (digits 20 number) next end) where
     pub end_room : end < length next
-    end_room = omega (arith, p.puts.long, q.puts.long, q.end, few_digits 20 number)
+    end_room = omega (arith, p.ends, p.puts.long, q.puts.long, q.ends, few_digits 20 number)
 
-    pub refusal_prints : {last : List ℕ} {r : ℕ} → Prints next end (10 ∷ []) last r → Prints out 0 (text "refusal " ++ (decimal number ++ text "\n")) last r
+    pub refusal_prints : {last : List ℕ} {r : ℕ} → PutsTo next end (10 ∷ []) last r → PutsTo out 0 (text "refusal " ++ (decimal number ++ text "\n")) last r
     refusal_prints l = prints_then p (prints_then q l)
 
 -- ---- either
 
 module _ (l : Listing) {out new : List ℕ} {r : ℕ} where
-  pub lists_lines : l.number ≡ 0 → Prints out 0 (lines_text l.stretches) new r → Prints out 0 (listed_text l) new r
-  lists_lines z p = rw (eq-eqb l.number 0 z) p
+  pub lists_lines : l.number ≡ 0 → {ss : List Declared.Stretch} → ss ≡ take l.stretches.n l.stretches.list → PutsTo out 0 (lines_text ss) new r → PutsTo out 0 (listed_text l) new r
+  lists_lines z {ss} e p =
+      let same : lines_text ss ≡ join (map stretch_text (stretches_in l.stretches)) = ap lines_text e ∙ ap join (map_twice stretch_text as_stretch (take l.stretches.n l.stretches.list)) in
+      rw (eq-eqb l.number 0 z) (subst (λ (bs : List ℕ). PutsTo out 0 bs new r) same p)
 
-  pub lists_refusal : (l.number ≡ 0 → ⊥) → Prints out 0 (text "refusal " ++ (decimal l.number ++ text "\n")) new r → Prints out 0 (listed_text l) new r
+  pub lists_refusal : (l.number ≡ 0 → ⊥) → PutsTo out 0 (text "refusal " ++ (decimal l.number ++ text "\n")) new r → PutsTo out 0 (listed_text l) new r
   lists_refusal z p = rw (ne_eqb l.number 0 z) p
 
-pub can_print : {l : Listing} → Few l → {out : List ℕ} → 97544 ≤ length out → Printable out l.stretches
-can_print f h = record { long = f.long; few = f.few; room = h }
+pub can_print : {l : Listing} → Few l → {out : List ℕ} → 97544 ≤ length out → {ss : List Declared.Stretch} → ss ≡ take l.stretches.n l.stretches.list → Printable out ss
+can_print {l} f h e = record { few = rw e (rw (length-take-le l.stretches.n l.stretches.list (omega (arith, f.few, f.long))) f.few); room = h }
 
 pub few_listed : {o : Result (List Stretch)} {l : Listing} → ListingIs o l → Few l
 few_listed h = record { long = h.long; few = h.few }
@@ -172,14 +165,14 @@ module _ (input : List ℕ) where
 
 -- ---- all of it
 
-pub output_is : (input : List ℕ) {l : Listing} → ListingIs (asked input) l → {new : List ℕ} {n : ℕ} → Prints (replicate 97544 0) 0 (listed_text l) new n → OutputIs input (record { bytes = new; n = n })
+pub output_is : (input : List ℕ) {l : Listing} → ListingIs (asked input) l → {new : List ℕ} {n : ℕ} → PutsTo (replicate 97544 0) 0 (listed_text l) new n → OutputIs input (record { bytes = new; n = n })
 unfolding output
 output_is input {l} i {new} {n} p =
-    let e : n ≡ length (listed_text l) = p.end ∙ omega arith in
+    let e : n ≡ length (listed_text l) = p.ends ∙ omega arith in
     record {
       all = puts_front p.puts ∙ ap (λ (bs : List ℕ). over bs (replicate 97544 0)) (ap printed (sym i.is));
       is = ap (take n) (puts_front p.puts) ∙ take_at (listed_text l) _ n (sym e) ∙ ap printed (sym i.is);
-      within = omega (arith, p.end, p.puts.room, p.puts.long);
+      within = omega (arith, p.ends, p.puts.room, p.puts.long);
     }
 
 -- so many bytes there are to write

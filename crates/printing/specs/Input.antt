@@ -2,16 +2,10 @@
 use Rattle.std.specs.Prelude.{ℕ, ◌^◌, ◌≤◌, ◌<◌, ◌≡◌, List, length, take, drop}
 use Rattle.rules.specs.Bytes.{big, own_length}
 
--- `r` is the lesser of two numbers
-pub record Least (n most r : ℕ) : Type 0 where
-  pub below : r ≤ n
-  pub within : r ≤ most
-  pub one : r < n → r ≡ most
-
--- the first i of m bytes make the number n
-pub record Reading (s : List ℕ) (m n i : ℕ) : Type 0 where
-  pub place : i ≤ m
-  pub few : m ≤ 4
+-- the first i of at most four bytes make the number n
+pub record Reading (s : List ℕ) (n i : ℕ) : Type 0 where
+  pub place : i ≤ length s
+  pub few : length s ≤ 4
   pub is : n ≡ big (take i s)
   pub small : n < 256 ^ i
 

@@ -1,12 +1,13 @@
 // Numbers in plain decimal.
 ghost use Rattle.std.specs.Prelude.{◌+◌, ◌≤◌, ◌<◌, ◌≡◌, length, nat_abs};
 ghost use Rattle.rules.specs.Program.{digits, signed_decimal};
-ghost use Rattle.printing.specs.Ensures.{sign_of, Prints};
+ghost use Rattle.layout.specs.Ensures.{PutsTo};
+ghost use Rattle.printing.specs.Ensures.{sign_of};
 
 // A number of at most k digits, from `at` on. The digits in front come first, by the same function.
 pub fn put_digits(out: &mut [u8], at: usize, k: usize, n: u64) -> usize
     requires { at + k ≤ length out.old }
-    ensures { Prints out.old at (digits k n) out.new result }
+    ensures { PutsTo out.old at (digits k n) out.new result }
 {
     if k == 0 {
         return at;
@@ -20,21 +21,10 @@ pub fn put_digits(out: &mut [u8], at: usize, k: usize, n: u64) -> usize
     end + 1
 }
 
-// How far a number is from zero. The least of all has no counterpart above zero, so one is added behind.
-pub fn distance(z: i64) -> u64
-    ensures { result ≡ nat_abs z }
-{
-    if 0 <= z {
-        z as u64
-    } else {
-        (-1 - z) as u64 + 1
-    }
-}
-
 // A sign, where the number is below zero.
 fn put_sign(out: &mut [u8], at: usize, z: i64) -> usize
     requires { at < length out.old }
-    ensures { Prints out.old at (sign_of z) out.new result }
+    ensures { PutsTo out.old at (sign_of z) out.new result }
 {
     if 0 <= z {
         return at;
@@ -45,8 +35,8 @@ fn put_sign(out: &mut [u8], at: usize, z: i64) -> usize
 
 pub fn put_signed(out: &mut [u8], at: usize, z: i64) -> usize
     requires { at + 21 ≤ length out.old }
-    ensures { Prints out.old at (signed_decimal z) out.new result }
+    ensures { PutsTo out.old at (signed_decimal z) out.new result }
 {
     let start = put_sign(out, at, z);
-    put_digits(out, start, 20, distance(z))
+    put_digits(out, start, 20, z.unsigned_abs())
 }

@@ -3,26 +3,19 @@ ghost use Rattle.std.specs.Prelude.{◌≡◌, ◌^◌, length};
 ghost use Rattle.rules.specs.Bytes.{own_length};
 ghost use Rattle.rules.specs.Program.{end_of};
 ghost use Rattle.layout.specs.Ensures.{Number};
-ghost use Rattle.printing.specs.Input.{Least, FrontIs};
+ghost use Rattle.printing.specs.Input.{FrontIs};
 
 use layout::numbers::{four_at, wide};
-
-fn least(n: usize, most: usize) -> usize
-    ensures { Least n most result }
-{
-    if n < most { n } else { most }
-}
 
 // The number in the first four bytes, or in as many as there are.
 fn own_length(s: &[u8]) -> usize
     ensures { Number (own_length s.now) (2 ^ 32) result }
 {
-    let m = least(4, s.len());
+    let end = 4.min(s.len());
+    let front = &s[..end];
     let mut n = 0;
-    let mut i = 0;
-    while i < m {
-        n = n * 256 + wide(s[i]);
-        i += 1;
+    for b in front {
+        n = n * 256 + wide(*b);
     }
     n
 }
@@ -31,8 +24,7 @@ fn own_length(s: &[u8]) -> usize
 pub fn front(s: &[u8]) -> usize
     ensures { FrontIs s.now result }
 {
-    let n = own_length(s);
-    least(n, s.len())
+    own_length(s).min(s.len())
 }
 
 // An end date of another length is read as 0, which is no day.

@@ -3,16 +3,19 @@ ghost use Rattle.std.specs.Prelude.{◌+◌, ◌≤◌, length, ◌++◌};
 ghost use Rattle.rules.specs.Letters.{text};
 ghost use Rattle.rules.specs.Program.{decimal, asked};
 ghost use Rattle.calendar.specs.Listing.{ListingIs};
-ghost use Rattle.printing.specs.Ensures.{Prints};
+ghost use Rattle.layout.specs.Ensures.{PutsTo};
 ghost use Rattle.printing.specs.Output.{lines_text, listed_text, Few, Printable, OutputIs};
 
 use crate::decimal::put_digits;
 use crate::input::{end_of, front};
-use crate::stretch_line::{put_byte, put_stretch};
-use calendar::listing::{Listing, listing_of, refused};
-use stretches::Stretches;
+use crate::stretch_line::put_stretch;
+use calendar::listing::{Listing, listing_of};
+use layout::strings::put_bytes;
+use rules::Refusal;
+use stretches::Stretch;
 
 // The first n bytes count; behind them stand zeros. A line takes at most 89, and there are at most 1,096.
+// As it is: an array with its count, since the theorems on what is printed (`prints_the_rules`, `one_output`) speak of both.
 #[derive(Drop)]
 pub struct Printed {
     pub bytes: [u8; 97544],
@@ -20,54 +23,34 @@ pub struct Printed {
 }
 
 // Each stretch on its line.
-fn put_stretches(out: &mut [u8], stretches: Stretches) -> usize
-    requires { Printable out.old stretches }
-    ensures { Prints out.old 0 (lines_text stretches) out.new result }
+fn put_stretches(out: &mut [u8], stretches: &[Stretch]) -> usize
+    requires { Printable out.old stretches.now }
+    ensures { PutsTo out.old 0 (lines_text stretches.now) out.new result }
 {
-    let list = stretches.list;
-    let n = stretches.n;
     let mut at = 0;
-    let mut i = 0;
-    while i < n {
-        at = put_stretch(out, at, list[i]);
-        i += 1;
+    for stretch in stretches {
+        at = put_stretch(out, at, *stretch);
     }
     at
 }
 
-// The word.
-fn put_refusal_word(out: &mut [u8])
-    requires { 8 ≤ length out.old }
-    ensures { Prints out.old 0 (text "refusal ") out.new 8 }
-{
-    out[0] = b'r';
-    out[1] = b'e';
-    out[2] = b'f';
-    out[3] = b'u';
-    out[4] = b's';
-    out[5] = b'a';
-    out[6] = b'l';
-    out[7] = b' ';
-}
-
 fn put_refusal(out: &mut [u8], number: u8) -> usize
     requires { 97544 ≤ length out.old }
-    ensures { Prints out.old 0 (text "refusal " ++ (decimal number ++ text "\n")) out.new result }
+    ensures { PutsTo out.old 0 (text "refusal " ++ (decimal number ++ text "\n")) out.new result }
 {
-    put_refusal_word(out);
-    let end = put_digits(out, 8, 20, number as u64);
-    put_byte(out, end, b'\n')
+    let behind = put_bytes(out, 0, b"refusal ");
+    let end = put_digits(out, behind, 20, number as u64);
+    put_bytes(out, end, b"\n")
 }
 
 // Nothing but the refusal, or the lines.
 fn put_listing(out: &mut [u8], listing: Listing) -> usize
     requires in_bounds { 97544 ≤ length out.old }
     requires few { Few listing }
-    ensures { Prints out.old 0 (listed_text listing) out.new result }
+    ensures { PutsTo out.old 0 (listed_text listing) out.new result }
 {
-    let stretches = listing.stretches;
     if listing.number == 0 {
-        return put_stretches(out, stretches);
+        return put_stretches(out, listing.stretches.as_slice());
     }
     put_refusal(out, listing.number)
 }
@@ -77,7 +60,7 @@ fn listing_in(input: &[u8]) -> Listing
     ensures { ListingIs (asked input.now) result }
 {
     if 65536 < input.len() {
-        return refused(1);
+        return Listing::from(Refusal::BrokenBook);
     }
     let b = front(input);
     let behind = &input[b..];

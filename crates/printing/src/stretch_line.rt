@@ -4,27 +4,20 @@ ghost use Rattle.rules.specs.Letters.{text};
 ghost use Rattle.rules.specs.Question.{letters_of};
 ghost use Rattle.rules.specs.Program.{decimal, currency_text, stretch_text};
 ghost use Rattle.stretches.specs.Stretches.{as_stretch};
-ghost use Rattle.printing.specs.Ensures.{Prints};
+ghost use Rattle.layout.specs.Ensures.{PutsTo};
 
 use crate::decimal::{put_digits, put_signed};
+use layout::strings::put_bytes;
 use rules::Currency;
 use stretches::Stretch;
-
-pub fn put_byte(out: &mut [u8], at: usize, b: u8) -> usize
-    requires { at < length out.old }
-    ensures { Prints out.old at (b ∷ []) out.new result }
-{
-    out[at] = b;
-    at + 1
-}
 
 // A number and a blank.
 fn put_number(out: &mut [u8], at: usize, n: u64) -> usize
     requires { at + 21 ≤ length out.old }
-    ensures { Prints out.old at (decimal n ++ text " ") out.new result }
+    ensures { PutsTo out.old at (decimal n ++ text " ") out.new result }
 {
     let end = put_digits(out, at, 20, n);
-    put_byte(out, end, b' ')
+    put_bytes(out, end, b" ")
 }
 
 // Three letters, or three strokes for a refused day.
@@ -41,19 +34,15 @@ fn word_of(refusal: u8, currency: Currency) -> Currency
 // They and a blank.
 fn put_word(out: &mut [u8], at: usize, word: Currency) -> usize
     requires { at + 4 ≤ length out.old }
-    ensures { Prints out.old at (letters_of word ++ text " ") out.new result }
+    ensures { PutsTo out.old at (letters_of word ++ text " ") out.new result }
 {
-    out[at] = word.0;
-    out[at + 1] = word.1;
-    out[at + 2] = word.2;
-    out[at + 3] = b' ';
-    at + 4
+    put_bytes(out, at, &[word.0, word.1, word.2, b' '])
 }
 
 // First day, last day, refusal, currency, unit total.
 pub fn put_stretch(out: &mut [u8], at: usize, stretch: Stretch) -> usize
     requires { at + 89 ≤ length out.old }
-    ensures { Prints out.old at (stretch_text (as_stretch stretch)) out.new result }
+    ensures { PutsTo out.old at (stretch_text (as_stretch stretch)) out.new result }
 {
     let outcome = stretch.outcome;
     let word = word_of(outcome.refusal, outcome.currency);
@@ -62,5 +51,5 @@ pub fn put_stretch(out: &mut [u8], at: usize, stretch: Stretch) -> usize
     let c = put_number(out, b, outcome.refusal as u64);
     let d = put_word(out, c, word);
     let e = put_signed(out, d, outcome.unit.0);
-    put_byte(out, e, b'\n')
+    put_bytes(out, e, b"\n")
 }

@@ -1,11 +1,10 @@
 -- Properties at a place: tests of a value's bytes, values, and properties; each of them ends somewhere, or there is none.
 use Prim.Native.Nat.{ℕ, zero, suc, ◌+◌, ◌-◌, ◌≤◌, ◌<◌}
 use mathlib.Core.Path.{◌≡◌, refl, sym, ◌∙◌, ap}
-use mathlib.Core.Bool.{Bool, true, false, ◌&&◌, not, and-true, and-false, and_assoc}
+use mathlib.Core.Bool.{Bool, true, false, ◌&&◌, and-true, and-false, and_assoc}
 use mathlib.Core.List.{List, [], ◌∷◌}
 use native.Mathlib.Omega.{arith}
 use native.Mathlib.Decide.{dec_lt}
-use native.Mathlib.Nat.{suc-ne-zero}
 use lib.Dec.{eqb, leb, ltb}
 use lib.ListN.{length, take, drop, get_or}
 use Rattle.rules.specs.Lists.{all, any, between}
@@ -17,14 +16,11 @@ use Rattle.layout.specs.Reads.{Reads, part, name_stop, name_at}
 use Rattle.layout.specs.Counted.{Ends}
 use Rattle.layout.specs.Ensures.{Says, Number, NameEnd}
 use Rattle.layout.proofs.LayoutLaws.{then_reads, then_broken, such_reads, reads_as, byte_at, one_of_reads, give_reads, sized_such, sized_byte, sized_one_of}
-use Rattle.layout.proofs.NameLaws.{name_empty, name_cut, name_good, name_bad}
+use Rattle.layout.proofs.NameLaws.{name_cut, name_good, name_bad}
 use Rattle.layout.proofs.ReadingLaws.{wants_any, wants_then, wanted}
 use Rattle.layout.proofs.CountedLaws.{ends_none, such_good, such_bad, SomeEnd, CountedEnd, counted_any}
 use Rattle.layout.proofs.NameEndLaws.{name_ends, name_any}
 use Rattle.properties.specs.Properties.{property_at, property_stop}
-
-pub value_byte_lem : (b : ℕ) {t u : Bool} → Says (name_byte b) t → Says (any (eqb b) (32 ∷ 160 ∷ 92 ∷ [])) u → Says (name_byte b && value_byte b) (t && not u)
-value_byte_lem b p q = record { is = rw (p.is, q.is) }
 
 -- ---- values
 
@@ -41,9 +37,6 @@ module _ (width : ℕ) (s : List ℕ) (at : ℕ) where
   -- no name, no value
   no_value : NameEnd 1 width s at 0 → Ends (name 1 width such all value_byte) name_at name_stop s at 0
   no_value p = ends_none (then_broken _ _ p.reads refl)
-
-  pub value_empty : length s ≤ at → Ends (name 1 width such all value_byte) name_at name_stop s at 0
-  value_empty h = no_value (name_empty 1 width s at h)
 
   module _ {n top : ℕ} (size : Number (get_or s at 0) top n) (h : at < length s) where
     pub value_cut : length s - (at + 1) < n → Ends (name 1 width such all value_byte) name_at name_stop s at 0
@@ -73,10 +66,6 @@ module _ (width : ℕ) (s : List ℕ) (at : ℕ) where
 -- ---- properties
 
 module _ {s : List ℕ} {at r : ℕ} (width : ℕ) where
-  pub value_given : (state : ℕ) → state ≡ 0 → Ends (name 1 width such all value_byte) name_at name_stop s at r → Ends (value_for width state) name_at name_stop s at r
-  value_given zero e p = p
-  value_given (suc state) e p = absurd (suc-ne-zero state e)
-
   pub value_none : (state : ℕ) → (state ≡ 0 → ⊥) → NameEnd 0 0 s at r → Ends (value_for width state) name_at name_stop s at r
   value_none zero e p = absurd (e refl)
   value_none (suc state) e p = name_ends p

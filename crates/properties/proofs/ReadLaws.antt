@@ -1,28 +1,23 @@
--- A property that stands there: what is known of it, and the property by value.
+-- A property that stands there: what is known of it.
 use Prim.Native.Nat.{ℕ, zero, suc, ◌+◌, ◌-◌, ◌≤◌, ◌<◌}
-use mathlib.Core.Path.{◌≡◌, refl, sym, ◌∙◌}
-use mathlib.Core.Bool.{true, false≢true}
+use mathlib.Core.Path.{refl}
+use mathlib.Core.Bool.{true}
 use mathlib.Core.List.{List, [], ◌∷◌}
 use native.Mathlib.Omega.{arith}
-use native.Mathlib.Decide.{dec_lt}
 use lib.Dec.{eqb}
 use lib.ListN.{length, drop, get_or, length-drop}
 use lib.Seq.{length-take-le}
-use borrow.Author.Tests.{ne_eqb}
 use Rattle.rules.specs.Lists.{any, between}
 use Rattle.rules.specs.Layout.{◌such◌, byte}
 use Rattle.rules.specs.Bytes.{one_of}
 use Rattle.rules.specs.Question.{property, value_for}
-use Rattle.rules.specs.declared.State.{State}
-use Rattle.rules.specs.declared.State.TheVariants.{Valued, Hidden, Unselected}
 use Rattle.rules.proofs.TestLaws.{between_high}
 use Rattle.layout.specs.Reads.{Reads}
 use Rattle.layout.specs.Counted.{Stands}
-use Rattle.layout.specs.Ensures.{Number}
 use Rattle.layout.proofs.LayoutLaws.{such_reads, reads_as, byte_at, one_of_reads}
 use Rattle.layout.proofs.ReadingLaws.{then_good, then_behind}
 use Rattle.layout.proofs.NameEndLaws.{name_any, name_size}
-use Rattle.properties.specs.Properties.{property_at, property_stop, PropertyIs, StateIs}
+use Rattle.properties.specs.Properties.{property_at, property_stop}
 use Rattle.properties.proofs.PropertyLaws.{value_any}
 
 -- ---- what is known of it
@@ -41,19 +36,6 @@ module _ {s : List ℕ} {at : ℕ} (p : Stands property property_at property_sto
   state_read : Reads (one_of (0 ∷ 1 ∷ 2 ∷ [])) s (at + 1) (any (eqb (get_or s (at + 1) 0)) (0 ∷ 1 ∷ 2 ∷ [])) (get_or s (at + 1) 0) (at + 2)
   state_read = one_of_reads s at (0 ∷ 1 ∷ 2 ∷ []) 1 (omega (arith, p.fits))
 
-  pub property_wide : get_or s at 0 ≤ 30
-  property_wide = between_high 1 30 (get_or s at 0) (then_good _ _ width_read p.reads)
-
-  pub property_state : get_or s (at + 1) 0 ≤ 2
-  property_state = one_of_three (get_or s (at + 1) 0) (then_good _ _ state_read (then_behind _ _ width_read p.reads))
-    where
-      one_of_three : (b : ℕ) → any (eqb b) (0 ∷ 1 ∷ 2 ∷ []) ≡ true → b ≤ 2
-      one_of_three b e = go (dec_lt 2 b)
-        where
-          go : Dec (2 < b) → b ≤ 2
-          go (no h) = omega arith
-          go (yes h) = absurd (false≢true (sym (rw (ne_eqb b 0 (λ i. omega arith), ne_eqb b 1 (λ i. omega arith), ne_eqb b 2 (λ i. omega arith))) ∙ e))
-
   -- its value has no more bytes than it is wide
   pub property_short : get_or s (at + 2) 0 ≤ get_or s at 0
   property_short =
@@ -64,33 +46,3 @@ module _ {s : List ℕ} {at : ℕ} (p : Stands property property_at property_sto
   pub property_fits : length (property_at s at).value ≤ (property_at s at).width
   property_fits =
       omega (arith, property_short, length-take-le (at + 2 + 1 + get_or s (at + 2) 0 - (at + 2 + 1)) (drop (at + 2 + 1) s) (rw length-drop (omega (arith, p.fits))))
-
--- ---- by value
-
-pub state_valued : (n : ℕ) → n ≡ 0 → StateIs n Valued
-state_valued n e = record { is = e }
-
-pub state_hidden : (n : ℕ) → n ≡ 1 → StateIs n Hidden
-state_hidden n e = record { is = e }
-
-pub state_unselected : (n : ℕ) → n ≤ 2 → ((Unit {0}) × (n ≡ 0 → ⊥)) × (n ≡ 1 → ⊥) → StateIs n Unselected
-state_unselected n h e = record { is = third n h e.0.1 e.1 }
-  where
-    third : (n : ℕ) → n ≤ 2 → (n ≡ 0 → ⊥) → (n ≡ 1 → ⊥) → n ≡ 2
-    third n h a b = omega arith
-
-module _ {s : List ℕ} {at : ℕ} (p : Stands property property_at property_stop s at) where
-  pub property_is : {width size top top' : ℕ} {state : State} → Number (get_or s at 0) top width → StateIs (get_or s (at + 1) 0) state → Number (get_or s (at + 2) 0) top' size
-      → PropertyIs s at (record { width = width; state = state; value = record { at = at + 3; size = size } })
-  property_is {width} {size} {state = state} w t v =
-      let three : at + 2 + 1 ≡ at + 3 = omega arith in
-      let n : at + 3 + get_or s (at + 2) 0 - (at + 3) ≡ get_or s (at + 2) 0 = omega arith in
-      record {
-        is = rw (w.is, v.is, ← t.is, three, n);
-        next = omega (arith, v.is);
-        fits = record {
-          inside = omega (arith, p.fits, v.is);
-          short = omega (arith, property_short p, w.is, v.is);
-          wide = omega (arith, property_wide p, w.is);
-        };
-      }

@@ -9,10 +9,11 @@ ghost use Rattle.rules.specs.Question.{property, value_for, value_byte};
 ghost use Rattle.layout.specs.Ensures.{Says};
 ghost use Rattle.layout.specs.Reads.{name_stop, name_at};
 ghost use Rattle.layout.specs.Counted.{Ends, Stands};
+ghost use Rattle.layout.specs.Ends.{EndOrNone};
 ghost use Rattle.properties.specs.Properties.{property_at, property_stop, PropertiesEnd, StateIs, PropertyIs};
 
 use layout::names::{is_name_byte, name_end};
-use layout::numbers::{is_of_three, wide};
+use layout::numbers::{is_one_of, wide};
 use rules::{Part, State};
 
 // A property read by value. Its value stays in the question, and where that ends the property ends.
@@ -28,46 +29,40 @@ pub struct PropertyParts {
 fn is_value_byte(b: u8) -> bool
     ensures { Says (name_byte b && value_byte b) result }
 {
-    is_name_byte(b) & !is_of_three(b, b' ', 160, b'\\')
+    is_name_byte(b) & !is_one_of(b, &[b' ', 160, b'\\'])
 }
 
 // A flag to the end, with no way out before it: many bytes are then tested at a time.
 fn all_value_bytes(s: &[u8]) -> bool
     ensures { Says (all (λ b. name_byte b && value_byte b) s.now) result }
 {
-    let mut ok = true;
-    let mut i = 0;
-    while i < s.len() {
-        ok = ok & is_value_byte(s[i]);
-        i += 1;
-    }
-    ok
+    s.iter().fold(true, |ok, b| ok & is_value_byte(*b))
 }
 
-// The end of the value of a valued property, or 0: a name of its own kind of bytes, which are read once.
-fn valued_end(s: &[u8], at: usize, width: usize) -> usize
+// Where the value of a valued property ends, if one stands there: a name of its own kind of bytes, which are read once.
+fn valued_end(s: &[u8], at: usize, width: usize) -> Option<usize>
     requires { at ≤ length s.now }
-    ensures { Ends (name 1 width such all value_byte) name_at name_stop s.now at result }
+    ensures { EndOrNone (Ends (name 1 width such all value_byte) name_at name_stop s.now at) result }
 {
     if s.len() <= at {
-        return 0;
+        return None;
     }
     let n = wide(s[at]);
     let from = at + 1;
     if s.len() - from < n {
-        return 0;
+        return None;
     }
     let end = from + n;
     if (1 <= n) & (n <= width) & all_value_bytes(&s[from..end]) {
-        end
+        Some(end)
     } else {
-        0
+        None
     }
 }
 
-fn value_end(s: &[u8], at: usize, width: usize, state: u8) -> usize
+fn value_end(s: &[u8], at: usize, width: usize, state: u8) -> Option<usize>
     requires { at ≤ length s.now }
-    ensures { Ends (value_for width state) name_at name_stop s.now at result }
+    ensures { EndOrNone (Ends (value_for width state) name_at name_stop s.now at) result }
 {
     if state == 0 {
         return valued_end(s, at, width);
@@ -75,45 +70,41 @@ fn value_end(s: &[u8], at: usize, width: usize, state: u8) -> usize
     name_end(s, at, 0, 0)
 }
 
-// The end of the property at `at`, or 0.
-fn property_end(s: &[u8], at: usize) -> usize
+// Where the property at `at` ends, if one stands there.
+fn property_end(s: &[u8], at: usize) -> Option<usize>
     requires { at ≤ length s.now }
-    ensures { Ends property property_at property_stop s.now at result }
+    ensures { EndOrNone (Ends property property_at property_stop s.now at) result }
 {
     if s.len() - at < 2 {
-        return 0;
+        return None;
     }
     let width = wide(s[at]);
     let state = s[at + 1];
-    let end = value_end(s, at + 2, width, state);
-    if (1 <= width) & (width <= 30) & is_of_three(state, 0, 1, 2) {
-        end
+    let end = value_end(s, at + 2, width, state)?;
+    if (1 <= width) & (width <= 30) & is_one_of(state, &[0, 1, 2]) {
+        Some(end)
     } else {
-        0
+        None
     }
 }
 
-// The end of the properties, whose count stands at `at`, or 0.
-pub fn properties_end(s: &[u8], at: usize) -> usize
+// Where the properties end whose count stands at `at`, if as many stand there.
+pub fn properties_end(s: &[u8], at: usize) -> Option<usize>
     requires { at ≤ length s.now }
-    ensures { PropertiesEnd s.now at result }
+    ensures { EndOrNone (PropertiesEnd s.now at) result }
 {
     if s.len() <= at {
-        return 0;
+        return None;
     }
-    let mut n = wide(s[at]);
+    let n = wide(s[at]);
     if 32 < n {
-        return 0;
+        return None;
     }
     let mut end = at + 1;
-    while 0 < n {
-        end = property_end(s, end);
-        if end < 1 {
-            return 0;
-        }
-        n -= 1;
+    for _ in 0..n {
+        end = property_end(s, end)?;
     }
-    end
+    Some(end)
 }
 
 // ---- of an accepted question

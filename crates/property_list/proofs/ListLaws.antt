@@ -65,6 +65,12 @@ module _ {s : List ℕ} {end : ℕ} where
         rest = λ ok next q. inv.rest ok next (reads_as (times_step n p.reads q) (rw (lt-ltb 0 r h)) refl);
       })
 
+  -- the next of n properties, i of which are passed
+  pub list_next : {n i r : ℕ} → Left s end (n - i) → i < n → HeldEnds s end r → 0 < r → Left s r (n - (i + 1))
+  list_next {n} {i} inv g p h =
+      let e : n - i - 1 ≡ n - (i + 1) = omega arith in
+      rw e at (list_again inv (omega arith) p h)
+
   -- nothing is left: the list reads to here
   pub list_reads : Left s end 0 → Reads held_list s 0 true (held_from s 1 (get_or s 0 0)) end
   unfolding values_at

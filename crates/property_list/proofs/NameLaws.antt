@@ -1,39 +1,26 @@
 -- Names compared, small letters as capitals, byte by byte.
-use Prim.Native.Nat.{ℕ, ◌+◌, ◌≤◌}
-use mathlib.Core.Path.{◌≡◌, refl, sym, subst}
-use mathlib.Core.Bool.{Bool, true, false, not, ◌&&◌}
-use mathlib.Core.List.{List, map}
+use Prim.Native.Nat.{ℕ}
+use mathlib.Core.Path.{◌≡◌, refl, ap}
+use mathlib.Core.Bool.{Bool, false, ◌&&◌}
+use mathlib.Core.List.{List, [], ◌∷◌, map}
+use native.Mathlib.Omega.{arith}
 use lib.Dec.{eqb}
-use lib.ListN.{length, get_or, length-map, get_or-map}
+use lib.ListN.{length, length-map}
+use Rattle.std.specs.List.{list_all, zip}
 use Rattle.rules.specs.Lists.{same}
 use Rattle.rules.specs.Bytes.{raise}
-use Rattle.rules.proofs.TestLaws.{so, not_so}
-use Rattle.layout.specs.Ensures.{Says, Number}
-use Rattle.layout.proofs.NameLaws.{Comparing, compare_not, compare_start, compare_again, compare_end}
-
-pub letters_alike : (x y : ℕ) {u v : ℕ} → Number (raise x) 256 u → Number (raise y) 256 v → Says (eqb (raise x) (raise y)) (eqb u v)
-letters_alike x y p q = record { is = rw (p.is, q.is) refl }
+use Rattle.layout.specs.Ensures.{Says}
+use Rattle.layout.proofs.NameLaws.{compare_not}
 
 module _ (a b : List ℕ) where
   pub raised_not : (length a ≡ length b → ⊥) → Says (same (map raise a) (map raise b)) false
   raised_not n = compare_not (map raise a) (map raise b) (rw (length-map a raise, length-map b raise) n)
 
-  pub raised_start : length a ≡ length b → Comparing (map raise a) (map raise b) true 0
-  raised_start e = compare_start (map raise a) (map raise b) (rw (length-map a raise, length-map b raise) e)
+raised_same : (a b : List ℕ) → length a ≡ length b → list_all (λ (p : ℕ × ℕ). eqb (raise p.0) (raise p.1)) (zip a b) ≡ same (map raise a) (map raise b)
+raised_same [] [] e = refl
+raised_same [] (y ∷ b) e = absurd (omega arith)
+raised_same (x ∷ a) [] e = absurd (omega arith)
+raised_same (x ∷ a) (y ∷ b) e = ap (λ t. eqb (raise x) (raise y) && t) (raised_same a b (omega arith))
 
-  module _ (i : ℕ) (inv : Comparing (map raise a) (map raise b) true i) where
-    again : {t : Bool} → Says (eqb (raise (get_or a i 0)) (raise (get_or b i 0))) t → Comparing (map raise a) (map raise b) (true && t) (i + 1)
-    again {t} p =
-        subst (λ v. Comparing (map raise a) (map raise b) v (i + 1)) p.is
-        (rw (← get_or-map raise a i 0, ← get_or-map raise b i 0) (compare_again (map raise a) (map raise b) true i inv))
-
-    pub raised_again : {t : Bool} → Says (eqb (raise (get_or a i 0)) (raise (get_or b i 0))) t → not t ≡ false → Comparing (map raise a) (map raise b) true (i + 1)
-    raised_again {t} p e = subst (λ v. Comparing (map raise a) (map raise b) v (i + 1)) (so t e) (again p)
-
-    pub raised_apart : {t : Bool} → Says (eqb (raise (get_or a i 0)) (raise (get_or b i 0))) t → not t ≡ true → Says (same (map raise a) (map raise b)) false
-    raised_apart {t} p e =
-        let c : Comparing (map raise a) (map raise b) false (i + 1) = subst (λ v. Comparing (map raise a) (map raise b) v (i + 1)) (not_so t e) (again p) in
-        record { is = sym c.rest }
-
-    pub raised_end : length a ≤ i → Says (same (map raise a) (map raise b)) true
-    raised_end h = compare_end (map raise a) (map raise b) true i inv (rw length-map h)
+pub raised_all : (a b : List ℕ) → length a ≡ length b → {r : Bool} → r ≡ list_all (λ (p : ℕ × ℕ). eqb (raise p.0) (raise p.1)) (zip a b) → Says (same (map raise a) (map raise b)) r
+raised_all a b e f = record { is = rw (f, raised_same a b e) }

@@ -55,28 +55,6 @@ module _ {s : List ℕ} {at : ℕ} (p : HeldStands s at) where
   pub kind_is : {n : ℕ} → Number (get_or s at 0) 256 n → KindIs s at (at + 1 + n)
   kind_is q = rw q.is (record { is = refl; behind = omega arith; stands = kind_stands })
 
--- ---- where a value ends
-
-module _ {s : List ℕ} {at : ℕ} (p : ValueStands s at) where
-  pub stop_none : get_or s at 0 ≡ 0 → at + 1 ≡ value_stop (get_or s at 0) s (at + 1)
-  stop_none e = rw e
-
-  pub stop_there : get_or s at 0 ≡ 1 → at + 1 < length s
-  stop_there e =
-      let f : name_stop s (at + 1) ≤ length s = rw e at p.fits in
-      omega arith
-
-  pub stop_text : {r : ℕ} → get_or s at 0 ≡ 1 → r ≡ name_stop s (at + 1) → r ≡ value_stop (get_or s at 0) s (at + 1)
-  stop_text e f = rw (e, f)
-
-  pub stop_number : (get_or s at 0 ≡ 0 → ⊥) → (get_or s at 0 ≡ 1 → ⊥) → at + 9 ≡ value_stop (get_or s at 0) s (at + 1)
-  stop_number n m = go (get_or s at 0) n m
-    where
-      go : (k : ℕ) → (k ≡ 0 → ⊥) → (k ≡ 1 → ⊥) → at + 9 ≡ value_stop k s (at + 1)
-      go zero n m = absurd (n refl)
-      go (suc zero) n m = absurd (m refl)
-      go (suc (suc k)) n m = omega arith
-
 -- ---- the first property of a name
 
 here_is : (s : List ℕ) (r : ℕ) → 0 < r → value_here s r ≡ value_at (get_or s r 0) s (r + 1)

@@ -1,5 +1,5 @@
 -- The slots of a list of properties: the slot of a name, and the loop that fills them.
-use Prim.Native.Nat.{ℕ, zero, suc, ◌+◌, ◌-◌, ◌*◌, ◌%◌, ◌≤◌, ◌<◌}
+use Prim.Native.Nat.{ℕ, zero, suc, ◌+◌, ◌-◌, ◌*◌, ◌%◌, ◌≤◌, ◌<◌, min}
 use mathlib.Core.Path.{◌≡◌, refl, sym, ◌∙◌, ap, subst}
 use mathlib.Core.Bool.{Bool, true, false}
 use mathlib.Core.List.{List, [], ◌∷◌, map}
@@ -8,7 +8,6 @@ use native.Mathlib.Omega.{arith}
 use native.Mathlib.Decide.{dec_lt, ℕ_discrete}
 use lib.ListN.{length, get_or, set, replicate, length-set, length-replicate, get_or-replicate}
 use lib.Seq.{get_or-set_same, get_or-set_other}
-use borrow.Author.Tests.{lt-ltb, le-ltb}
 use Rattle.rules.specs.Lists.{same, is_some}
 use Rattle.rules.specs.Bytes.{raise}
 use Rattle.rules.proofs.ListLaws.{same_eq}
@@ -17,7 +16,7 @@ use Rattle.layout.specs.Ensures.{Number}
 use Rattle.layout.proofs.CountedLaws.{pass_here, pass_again}
 use Rattle.relation_rules.specs.Truth.{properties_of, value_in}
 use Rattle.property_list.specs.Listed.{value_stop, HeldStands, held_from, KindIs}
-use Rattle.property_list.specs.Slots.{slot_in, slot_of, least_of, HeldPass, LooksFrom, SlotsOf}
+use Rattle.property_list.specs.Slots.{slot_in, slot_of, HeldPass, LooksFrom, SlotsOf}
 use Rattle.property_list.proofs.ListLaws.{listed}
 use Rattle.property_list.proofs.PositionLaws.{stop_is, stop_further, some_left, look_again}
 
@@ -80,11 +79,11 @@ pub record Filling (s slots : List ℕ) (at : ℕ) : Type 0 where
   pub passing : HeldPass s at left
   pub each : (name : List ℕ) → Filled s name at (get_or slots (slot_of name) 0)
 
-least_lower : (a b : ℕ) → a < b → least_of a b ≡ a
-least_lower a b h = rw (lt-ltb a b h)
+least_lower : (a b : ℕ) → a < b → min a b ≡ a
+least_lower a b h = omega arith
 
-least_upper : (a b : ℕ) → b ≤ a → least_of a b ≡ b
-least_upper a b h = rw (le-ltb a b h)
+least_upper : (a b : ℕ) → b ≤ a → min a b ≡ b
+least_upper a b h = omega arith
 
 module _ (s : List ℕ) (k : is_some (properties_of s) ≡ true) where
   looks_all : (name : List ℕ) → LooksFrom s name 1
@@ -124,10 +123,10 @@ module _ {s slots : List ℕ} {at : ℕ} (inv : Filling s slots at) where
     further = stop_further (fill_here h) p f
 
     new : List ℕ
-    new = set slots slot (least_of (get_or slots slot 0) at)
+    new = set slots slot (min (get_or slots slot 0) at)
 
     -- the property's own slot has it, or one before it
-    own_slot : (name : List ℕ) → Filled s name at (get_or slots slot 0) → Dec (get_or slots slot 0 < at) → Filled s name q (least_of (get_or slots slot 0) at)
+    own_slot : (name : List ℕ) → Filled s name at (get_or slots slot 0) → Dec (get_or slots slot 0 < at) → Filled s name q (min (get_or slots slot 0) at)
     own_slot name w (yes l) =
         let e = least_lower (get_or slots slot 0) at l in
         rw e (record { entered = λ i. w.entered l; empty = λ i. absurd (omega (arith, further.0)) })
@@ -150,14 +149,14 @@ module _ {s slots : List ℕ} {at : ℕ} (inv : Filling s slots at) where
     unfolding new
     each_on name (yes e) =
         let w = inv.each name in
-        rw e (subst (Filled s name q) (sym (get_or-set_same slots slot (least_of (get_or slots slot 0) at) 0 (omega (arith, inv.long, is.below)))) (own_slot name (rw e at w) (dec_lt (get_or slots slot 0) at)))
+        rw e (subst (Filled s name q) (sym (get_or-set_same slots slot (min (get_or slots slot 0) at) 0 (omega (arith, inv.long, is.below)))) (own_slot name (rw e at w) (dec_lt (get_or slots slot 0) at)))
     each_on name (no n) =
-        subst (Filled s name q) (sym (get_or-set_other slots slot (slot_of name) (least_of (get_or slots slot 0) at) 0 n)) (other name n (inv.each name) (dec_lt (get_or slots (slot_of name) 0) at))
+        subst (Filled s name q) (sym (get_or-set_other slots slot (slot_of name) (min (get_or slots slot 0) at) 0 n)) (other name n (inv.each name) (dec_lt (get_or slots (slot_of name) 0) at))
 
-    pub fill_again : {x : ℕ} → x ≡ least_of (get_or slots slot 0) at → Filling s (set slots slot x) q
+    pub fill_again : {x : ℕ} → x ≡ min (get_or slots slot 0) at → Filling s (set slots slot x) q
     unfolding new
     fill_again e = rw e (record {
-      long = length-set slots slot (least_of (get_or slots slot 0) at) ∙ inv.long;
+      long = length-set slots slot (min (get_or slots slot 0) at) ∙ inv.long;
       left = inv.left - 1;
       passing = pass_again inv.passing (some_left inv.passing h) (stop_is p f);
       each = λ name. each_on name (ℕ_discrete (slot_of name) slot);

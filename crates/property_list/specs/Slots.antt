@@ -1,5 +1,5 @@
 -- Where to look for a name in a list of properties: names share slots, and a slot has the first property that it is worth to look from.
-use Rattle.std.specs.Prelude.{ℕ, ◌+◌, ◌-◌, ◌*◌, ◌%◌, ◌≡◌, true, cond, List, map, ltb, length, get_or}
+use Rattle.std.specs.Prelude.{ℕ, ◌+◌, ◌-◌, ◌*◌, ◌%◌, ◌≡◌, true, List, map, length, get_or}
 use Rattle.std.proofs.Math.Option.{some}
 use Rattle.rules.specs.Lists.{is_some}
 use Rattle.rules.specs.Bytes.{raise}
@@ -13,9 +13,6 @@ slot_in l = (length l + 11 * get_or l 0 0 + 41 * get_or l (length l - 1) 0) % 12
 
 unfoldable pub slot_of : List ℕ → ℕ
 slot_of name = slot_in (map raise name)
-
-abbrev pub least_of : ℕ → ℕ → ℕ
-least_of a b = cond (ltb a b) a b
 
 -- n properties are left from `at` on, up to the end of the list
 abbrev pub HeldPass : List ℕ → ℕ → ℕ → Type 0

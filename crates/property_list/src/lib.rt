@@ -7,45 +7,43 @@ pub mod slots;
 
 ghost use Rattle.std.specs.Prelude.{◌≤◌, ◌<◌, ◌≡◌, length};
 ghost use Rattle.rules.specs.Lists.{is_some};
+ghost use Rattle.layout.specs.Ends.{EndOrNone};
 ghost use Rattle.relation_rules.specs.Truth.{properties_of};
 ghost use Rattle.property_list.specs.Listed.{ValueEnds, HeldEnds};
 
 use layout::names::name_end;
 use layout::numbers::wide;
 
-// The end of a value of this kind at `at`, or 0: nothing, a string behind its length byte, a number of eight bytes.
-fn value_end(s: &[u8], at: usize, kind: u8) -> usize
+// Where a value of this kind at `at` ends, if one stands there: nothing, a string behind its length byte, a number of eight bytes.
+fn value_end(s: &[u8], at: usize, kind: u8) -> Option<usize>
     requires at_nonzero { 0 < at }
     requires at_in_bounds { at ≤ length s.now }
-    ensures { ValueEnds kind s.now at result }
+    ensures { EndOrNone (ValueEnds kind s.now at) result }
 {
     if kind == 0 {
-        return at;
+        return Some(at);
     }
     if kind == 1 {
         return name_end(s, at, 0, 255);
     }
     if s.len() - at < 8 {
-        return 0;
+        return None;
     }
-    at + 8
+    Some(at + 8)
 }
 
-// The end of the property at `at`, or 0.
-fn held_end(s: &[u8], at: usize) -> usize
+// Where the property at `at` ends, if one stands there.
+fn held_end(s: &[u8], at: usize) -> Option<usize>
     requires { at ≤ length s.now }
-    ensures { HeldEnds s.now at result }
+    ensures { EndOrNone (HeldEnds s.now at) result }
 {
-    let stop = name_end(s, at, 0, 255);
-    if stop < 1 {
-        return 0;
-    }
+    let stop = name_end(s, at, 0, 255)?;
     if s.len() <= stop {
-        return 0;
+        return None;
     }
     let kind = s[stop];
     if 2 < kind {
-        return 0;
+        return None;
     }
     value_end(s, stop + 1, kind)
 }
@@ -57,17 +55,16 @@ pub fn properties_ok(p: &[u8]) -> bool
     if p.len() < 1 {
         return false;
     }
-    let mut n = wide(p[0]);
+    let n = wide(p[0]);
     if 64 < n {
         return false;
     }
     let mut end = 1;
-    while 0 < n {
-        end = held_end(p, end);
-        if end < 1 {
+    for _ in 0..n {
+        let Some(next) = held_end(p, end) else {
             return false;
-        }
-        n -= 1;
+        };
+        end = next;
     }
     end == p.len()
 }

@@ -19,12 +19,5 @@ pub fn same_raised(a: &[u8], b: &[u8]) -> bool
     if a.len() != b.len() {
         return false;
     }
-    let mut i = 0;
-    while i < a.len() {
-        if !same_letter(a[i], b[i]) {
-            return false;
-        }
-        i += 1;
-    }
-    true
+    a.iter().zip(b).all(|(x, y)| same_letter(*x, *y))
 }

@@ -1,6 +1,7 @@
 // An accepted list of properties: where the value of a name stands in it.
 ghost use Rattle.std.specs.Prelude.{◌+◌, ◌<◌, ◌≡◌, length, get_or};
 ghost use Rattle.layout.specs.Reads.{name_stop};
+ghost use Rattle.layout.specs.Ends.{EndOrNone};
 ghost use Rattle.property_list.specs.Listed.{HeldStands, ValueStands, KindIs, PositionIs, value_stop};
 ghost use Rattle.property_list.specs.Slots.{SlotsOf};
 
@@ -39,10 +40,10 @@ pub fn kind_position(p: &[u8], at: usize) -> usize
     at + 1 + wide(p[at])
 }
 
-// The position of the kind byte of the first property that has this name, in any letters, or 0.
-pub fn position_of(p: &[u8], slots: &[usize; SLOTS], name: &[u8]) -> usize
+// The position of the kind byte of the first property that has this name, in any letters, if one has it.
+pub fn position_of(p: &[u8], slots: &[usize; SLOTS], name: &[u8]) -> Option<usize>
     requires { SlotsOf p.now slots.now }
-    ensures { PositionIs p.now name.now result }
+    ensures { EndOrNone (PositionIs p.now name.now) result }
 {
     let slot = slot_of(name);
     let mut at = slots[slot];
@@ -50,9 +51,9 @@ pub fn position_of(p: &[u8], slots: &[usize; SLOTS], name: &[u8]) -> usize
         let from = at + 1;
         let kind = kind_position(p, at);
         if same_raised(&p[from..kind], name) {
-            return kind;
+            return Some(kind);
         }
         at = value_stop(p, kind);
     }
-    0
+    None
 }

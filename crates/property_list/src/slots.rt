@@ -4,7 +4,7 @@ ghost use Rattle.std.specs.Prelude.{◌≡◌, true};
 ghost use Rattle.rules.specs.Lists.{is_some};
 ghost use Rattle.layout.specs.Ensures.{Number};
 ghost use Rattle.relation_rules.specs.Truth.{properties_of};
-ghost use Rattle.property_list.specs.Slots.{slot_of, SlotsOf, least_of};
+ghost use Rattle.property_list.specs.Slots.{slot_of, SlotsOf};
 
 use crate::positions::{kind_position, value_stop};
 use layout::names::raise_byte;
@@ -25,12 +25,6 @@ pub fn slot_of(name: &[u8]) -> usize
     (size + 11 * first + 41 * last) % SLOTS
 }
 
-fn least_of(a: usize, b: usize) -> usize
-    ensures { result ≡ least_of a b }
-{
-    if a < b { a } else { b }
-}
-
 // An empty slot has the end of the list.
 pub fn slots_of(p: &[u8]) -> [usize; SLOTS]
     requires { is_some (properties_of p.now) ≡ true }
@@ -42,7 +36,7 @@ pub fn slots_of(p: &[u8]) -> [usize; SLOTS]
         let from = at + 1;
         let kind = kind_position(p, at);
         let slot = slot_of(&p[from..kind]);
-        slots[slot] = least_of(slots[slot], at);
+        slots[slot] = slots[slot].min(at);
         at = value_stop(p, kind);
     }
     slots

@@ -152,10 +152,6 @@ module _ (version : ℕ) {s : List ℕ} {at : ℕ} (p : GrantStands version s at
   pub factor_most : (granted_at version s at).factor ≤ most_factor
   factor_most = (gives_granted version (gives_factor version)).sure (drop at s) (granted_at version s at) (drop (granted_stop version s at) s) p.reads.is
 
-  pub factor_plain : (version ≡ 2 → ⊥) → FactorIs version s at 1000
-  unfolding granted_at
-  factor_plain n = record { is = rw (ne_eqb version 2 n); most = omega arith }
-
   module _ {r : ℕ} (stop : NameStop version s at r) where
     pub factor_room : version ≡ 2 → r + 2 ≤ length s
     factor_room e = rw (eq-eqb version 2 e) at stop.fits

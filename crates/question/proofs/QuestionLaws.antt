@@ -67,6 +67,9 @@ module _ (s : List ℕ) (h : 5 ≤ length s) where
       pub question_is : {t u : Bool} → 1 ≤ a → 1 ≤ g → Says (question_head_ok s) t → Says (terms_ok s a) u → (t && u && eqb end (length s)) ≡ is_some (question_of s)
       question_is {t} {u} i j e f = sym (question_some ∙ rw (e.is, f.is, lt-ltb 0 a i, lt-ltb 0 g j) (sym (and_assoc t u (eqb end (length s)))))
 
+      pub question_endless : end ≡ 0 → false ≡ is_some (question_of s)
+      question_endless e = sym (question_some ∙ rw (ne_eqb end (length s) (λ i. omega arith)) (simp and-false))
+
     module _ (l : 12 ≤ length s - a) {g : ℕ} (q : GrantedEnd (version_of s) s (a + 12) g) where
       pub question_ungranted : g < 1 → false ≡ is_some (question_of s)
       question_ungranted i =

@@ -14,12 +14,14 @@ use crate::names::{granted_end, names_stop};
 use days::Day;
 use layout::heads::question_head_ok;
 use layout::names::name_end;
-use layout::numbers::{four_at, is_capital, is_either, wide};
+use layout::numbers::{four_at, is_capital, is_one_of, wide};
 use properties::properties_end;
 
 // A question, read by value. The names in it stay there: `granted` is the position of the first granted name's length byte,
 // `conditions` how many there are, and the version says whether each has a factor behind it; `properties` is that of the first property, `count` how many there are.
 // A currency of three zeros: none is asked.
+// As it is: version and sort are the bytes of the question, since the functions on names promise what they do of every version, `is_row` and `survey` of
+// every sort.
 #[derive(Clone, Copy)]
 pub struct Ask {
     pub article: rules::Part,
@@ -50,7 +52,7 @@ fn terms_ok(s: &[u8], a: usize) -> bool
 {
     let date = four_at(s, a + 4);
     let quantity = four_at(s, a + 8);
-    is_either(s[a], b'S', b'P')
+    is_one_of(s[a], &[b'S', b'P'])
         & currency_ok(s[a + 1], s[a + 2], s[a + 3])
         & Day::is_day(date as u32)
         & (1 <= quantity)
@@ -64,18 +66,18 @@ pub fn question_ok(s: &[u8]) -> bool
     if s.len() < 5 {
         return false;
     }
-    let a = name_end(s, 5, 1, 40);
-    if a < 1 {
+    let Some(a) = name_end(s, 5, 1, 40) else {
         return false;
-    }
+    };
     if s.len() - a < 12 {
         return false;
     }
-    let g = granted_end(s, a + 12, s[4]);
-    if g < 1 {
+    let Some(g) = granted_end(s, a + 12, s[4]) else {
         return false;
-    }
-    let end = properties_end(s, g);
+    };
+    let Some(end) = properties_end(s, g) else {
+        return false;
+    };
     question_head_ok(s) & terms_ok(s, a) & (end == s.len())
 }
 

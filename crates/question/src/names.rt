@@ -1,5 +1,6 @@
 // The granted names of a question. In version 2 each has its factor behind it, in two bytes.
 ghost use Rattle.std.specs.Prelude.{◌≤◌, length};
+ghost use Rattle.layout.specs.Ends.{EndOrNone};
 ghost use Rattle.question.specs.Asked.{NameStop, FactorIs, NextIs, NamesEnd};
 ghost use Rattle.question.specs.Parts.{GrantEnds, GrantStands, GrantedEnd, NamesStand};
 
@@ -7,49 +8,42 @@ use layout::names::name_end;
 use layout::numbers::{two_at, wide};
 use rules::{MOST_FACTOR, PLAIN_FACTOR, WITH_FACTORS};
 
-// The end of the granted name at `at` with its factor, or 0.
-fn grant_end(s: &[u8], at: usize, version: u8) -> usize
+// Where the granted name at `at` ends with its factor, if both stand there.
+fn grant_end(s: &[u8], at: usize, version: u8) -> Option<usize>
     requires { at ≤ length s.now }
-    ensures { GrantEnds version s.now at result }
+    ensures { EndOrNone (GrantEnds version s.now at) result }
 {
-    let end = name_end(s, at, 1, 20);
-    if end < 1 {
-        return 0;
-    }
+    let end = name_end(s, at, 1, 20)?;
     if version == WITH_FACTORS {
         if s.len() - end < 2 {
-            return 0;
+            return None;
         }
         let most = MOST_FACTOR as usize;
         if most < two_at(s, end) {
-            return 0;
+            return None;
         }
-        return end + 2;
+        return Some(end + 2);
     }
-    end
+    Some(end)
 }
 
-// The end of the granted names, whose count stands at `at`, or 0.
-pub fn granted_end(s: &[u8], at: usize, version: u8) -> usize
+// Where the granted names end whose count stands at `at`, if as many stand there.
+pub fn granted_end(s: &[u8], at: usize, version: u8) -> Option<usize>
     requires { at ≤ length s.now }
-    ensures { GrantedEnd version s.now at result }
+    ensures { EndOrNone (GrantedEnd version s.now at) result }
 {
     if s.len() <= at {
-        return 0;
+        return None;
     }
-    let mut n = wide(s[at]);
+    let n = wide(s[at]);
     if 32 < n {
-        return 0;
+        return None;
     }
     let mut end = at + 1;
-    while 0 < n {
-        end = grant_end(s, end, version);
-        if end < 1 {
-            return 0;
-        }
-        n -= 1;
+    for _ in 0..n {
+        end = grant_end(s, end, version)?;
     }
-    end
+    Some(end)
 }
 
 // ---- of an accepted question
@@ -93,10 +87,8 @@ pub fn names_stop(s: &[u8], at: usize, n: usize, version: u8) -> usize
     ensures { NamesEnd version s.now at n result }
 {
     let mut end = at;
-    let mut left = n;
-    while 0 < left {
+    for _ in 0..n {
         end = next_name(s, end, version);
-        left -= 1;
     }
     end
 }

@@ -17,8 +17,9 @@ use Rattle.rules.specs.Questions.{one_question, questions_of}
 use Rattle.rules.proofs.ListLaws.{present}
 use Rattle.layout.specs.Reads.{part, only}
 use Rattle.layout.proofs.FromLaws.{more, from_end, from_broken, from_step}
+use Rattle.questions.specs.declared.Lent.{Lent}
 use Rattle.questions.specs.declared.Questions.{Questions}
-use Rattle.questions.specs.Questions.{QuestionAt, QuestionEnd, questions_from, no_question, StandAt, QuestionsAre, QuestionsHere}
+use Rattle.questions.specs.Questions.{QuestionAt, NoneAt, EndsAt, questions_from, no_question, nowhere, StandAt, NoQuestions, QuestionsRead}
 use Rattle.questions.proofs.EndLaws.{end_reads, shrinks}
 
 -- ---- the definition's list
@@ -75,68 +76,43 @@ some_left s at h e = first (one_question (get_or s at 0 ∷ drop (suc at) s)) (a
     first none e = none-ne-some [] e
     first (some (a, t)) e = last a (to_end (length (drop (suc at) s)) one_question t) e
 
--- the same places, written otherwise
-moved : {s : List ℕ} {q : Question} {a b c d : ℕ} → a ≡ c → b ≡ d → QuestionAt s a b q → QuestionAt s c d q
-moved {s} {q} {a} {b} {c} {d} e f h = subst (λ (x : ℕ). QuestionAt s x d q) e (subst (λ (x : ℕ). QuestionAt s a x q) f h)
+-- the same place, written otherwise
+moved : {s : List ℕ} {q : Question} {l m : Lent} → l ≡ m → QuestionAt s l q → QuestionAt s m q
+moved {s} {q} e h = subst (λ (x : Lent). QuestionAt s x q) e h
 
 -- ---- the walk
 
 -- of these questions the first n have gone by
-pub record Gone (s starts ends : List ℕ) (n at : ℕ) (qs : List Question) : Type 0 where
+pub record Gone (s : List ℕ) (ls : List Lent) (n at : ℕ) (qs : List Question) : Type 0 where
   pub rest : questions_from s at ≡ some (drop n qs)
   pub many : n ≤ length qs
-  pub each : StandAt s starts ends n qs
+  pub each : StandAt s ls n qs
 
-pub record Reading (s : List ℕ) (most : ℕ) (starts ends : List ℕ) (n at : ℕ) : Type 0 where
+pub record Reading (s : List ℕ) (most : ℕ) (ls : List Lent) (n at : ℕ) : Type 0 where
   pub fits : at ≤ length s
   pub room : most ≤ 500
   pub few : n ≤ most
-  pub starts_long : length starts ≡ 500
-  pub ends_long : length ends ≡ 500
+  pub long : length ls ≡ 500
   pub same : is_some (questions_from s 0) ≡ is_some (questions_from s at)
-  pub gone : (qs : List Question) → questions_from s 0 ≡ some qs → Gone s starts ends n at qs
-
--- nothing is told of bytes that are not such questions
-abbrev none_told : Questions
-none_told = record { ok = false; count = 0; starts = replicate 500 0; ends = replicate 500 0 }
+  pub gone : (qs : List Question) → questions_from s 0 ≡ some qs → Gone s ls n at qs
 
 module _ (s : List ℕ) (most : ℕ) where
-  refuses : questions_of most s ≡ none → QuestionsAre s most none_told
-  refuses e = record {
-    ok = sym (ap is_some e);
-    few = omega arith;
-    count = λ qs f. absurd (none-ne-some qs (sym e ∙ f));
-    each = λ qs f. absurd (none-ne-some qs (sym e ∙ f));
-    empty = λ f. refl;
-  }
-
-  pub reading_start : most ≤ 500 → Reading s most (replicate 500 0) (replicate 500 0) 0 0
-  reading_start h = record {
-    fits = omega arith;
-    room = h;
-    few = omega arith;
-    starts_long = length-replicate {A = ℕ} 500 0;
-    ends_long = length-replicate {A = ℕ} 500 0;
-    same = refl;
-    gone = λ qs e. record { rest = e; many = omega arith; each = λ j l. absurd (omega arith) };
-  }
-
-  module _ {starts ends : List ℕ} {n at : ℕ} (inv : Reading s most starts ends n at) where
-    none_if : ((qs : List Question) → questions_from s 0 ≡ some qs → length qs ≤ most → ⊥) → QuestionsAre s most none_told
-    none_if h = refuses (go (questions_of most s) refl)
+  module _ {ls : List Lent} {n at : ℕ} (inv : Reading s most ls n at) where
+    none_if : ((qs : List Question) → questions_from s 0 ≡ some qs → length qs ≤ most → ⊥) → NoQuestions s most
+    none_if h = record { is = go (questions_of most s) refl }
       where
         go : (o : Option (List Question)) → questions_of most s ≡ o → questions_of most s ≡ none
         go none e = e
         go (some qs) e = let x = few_some most (questions_from s 0) qs (sym (questions_few most s) ∙ e) in absurd (h qs x.0 x.1)
 
-    pub reading_end : length s ≤ at → QuestionsAre s most (record { ok = true; count = n; starts = starts; ends = ends })
+    pub reading_end : length s ≤ at → QuestionsRead s most (record { count = n; stretches = ls })
     unfolding questions_from
     reading_end h = record {
-      ok = sym (ap is_some (questions_few most s ∙ ap (few most) all.1 ∙ ap (λ (b : Bool). only b all.0) not_many));
+      ok = ap is_some (questions_few most s ∙ ap (few most) all.1 ∙ ap (λ (b : Bool). only b all.0) not_many);
       few = inv.few;
+      long = inv.long;
       count = λ qs e. as_many qs (is qs e);
       each = λ qs e. (inv.gone qs (is qs e)).each;
-      empty = λ e. absurd (false≢true (sym e));
     }
       where
         none_left : questions_from s at ≡ some []
@@ -158,89 +134,69 @@ module _ (s : List ℕ) (most : ℕ) where
         not_many = le-leb (length all.0) most (omega (arith, as_many all.0 all.1, inv.few))
 
     module _ (h : at < length s) where
-      pub reading_here : at ≤ length s
-      reading_here = inv.fits
-
       -- another one, where there may be none
-      pub reading_many : most ≤ n → QuestionsAre s most none_told
+      pub reading_many : most ≤ n → NoQuestions s most
       reading_many l = none_if λ qs e k.
           let g = inv.gone qs e in
           let z : drop n qs ≡ [] = drop_of_length-le qs {i = n} (omega (arith, g.many)) in
           some_left s at h (g.rest ∙ ap some z)
 
-      module _ {end : ℕ} (e : QuestionEnd s at end) where
-        pub reading_broken : end < 1 → QuestionsAre s most none_told
+      pub reading_broken : NoneAt s at → NoQuestions s most
+      unfolding questions_from
+      reading_broken e = none_if λ qs f k.
+          none-ne-some (drop n qs)
+          (sym (from_broken one_question s at shrinks {a = no_question} {next = at} h (record { is = e.none })) ∙ (inv.gone qs f).rest)
+
+      module _ {end : ℕ} (e : EndsAt s at end) where
+        abbrev here : Lent
+        here = record { start = at; end = end }
+
+        -- the question here, and those behind it
+        q : (q : Question) × (question_of (part s at end) ≡ some q)
+        q = present (question_of (part s at end)) e.here.ok
+
+        step : questions_from s at ≡ more q.0 (questions_from s end)
         unfolding questions_from
-        reading_broken l = none_if λ qs f k.
-            none-ne-some (drop n qs)
-            (sym (from_broken one_question s at shrinks {a = no_question} {next = at} h (record { is = e.none l })) ∙ (inv.gone qs f).rest)
+        step = from_step one_question s at shrinks (end_reads e q.1)
 
-        module _ (g : 1 ≤ end) where
-          pub reading_less : length s - end < length s - at
-          reading_less = omega (arith, e.low g)
+        pub reading_again : n < most → Reading s most (set ls n (record { start = at; end = end })) (n + 1) end
+        reading_again l = record {
+          fits = e.here.fits;
+          room = inv.room;
+          few = omega arith;
+          long = length-set ls n here ∙ inv.long;
+          same = inv.same ∙ ap is_some step ∙ some_more q.0 (questions_from s end);
+          gone = λ qs f. let x = inv.gone qs f in go qs x (questions_from s end) refl (sym x.rest ∙ step);
+        }
+          where
+            go : (qs : List Question) → Gone s ls n at qs → (o : Option (List Question)) → questions_from s end ≡ o
+                → some (drop n qs) ≡ more q.0 (questions_from s end) → Gone s (set ls n here) (n + 1) end qs
+            go qs x none f i = absurd (none-ne-some (drop n qs) (sym (i ∙ ap (more q.0) f)))
+            go qs x (some rs) f i =
+                let are : drop n qs ≡ q.0 ∷ rs = some-injective (drop n qs) (q.0 ∷ rs) (i ∙ ap (more q.0) f) in
+                let longer : n + 1 ≤ length qs = omega (arith, ap length are, length-drop n qs) in
+                record {
+                  rest = f ∙ ap some (ap (drop 1) (sym are) ∙ drop-drop 1 n qs);
+                  many = longer;
+                  each = λ j k. each j k (dec_lt j n);
+                }
+              where
+                is_here : get_or qs n no_question ≡ q.0
+                is_here =
+                    let z : n ≡ n + 0 = omega arith in
+                    ap (λ (k : ℕ). get_or qs k no_question) z
+                    ∙ sym (get_or-drop n qs 0 no_question)
+                    ∙ ap (λ (l : List Question). get_or l 0 no_question) (some-injective (drop n qs) (q.0 ∷ rs) (i ∙ ap (more q.0) f))
 
-          -- the question here, and those behind it
-          q : (q : Question) × (question_of (part s at end) ≡ some q)
-          q = present (question_of (part s at end)) (e.here g).ok
-
-          step : questions_from s at ≡ more q.0 (questions_from s end)
-          unfolding questions_from
-          step = from_step one_question s at shrinks (end_reads e g q.1)
-
-          pub reading_again : n < most → Reading s most (set starts n at) (set ends n end) (n + 1) end
-          reading_again l = record {
-            fits = (e.here g).fits;
-            room = inv.room;
-            few = omega arith;
-            starts_long = length-set starts n at ∙ inv.starts_long;
-            ends_long = length-set ends n end ∙ inv.ends_long;
-            same = inv.same ∙ ap is_some step ∙ some_more q.0 (questions_from s end);
-            gone = λ qs f. let x = inv.gone qs f in go qs x (questions_from s end) refl (sym x.rest ∙ step);
-          }
-            where
-              go : (qs : List Question) → Gone s starts ends n at qs → (o : Option (List Question)) → questions_from s end ≡ o
-                  → some (drop n qs) ≡ more q.0 (questions_from s end) → Gone s (set starts n at) (set ends n end) (n + 1) end qs
-              go qs x none f i = absurd (none-ne-some (drop n qs) (sym (i ∙ ap (more q.0) f)))
-              go qs x (some rs) f i =
-                  let are : drop n qs ≡ q.0 ∷ rs = some-injective (drop n qs) (q.0 ∷ rs) (i ∙ ap (more q.0) f) in
-                  let longer : n + 1 ≤ length qs = omega (arith, ap length are, length-drop n qs) in
-                  record {
-                    rest = f ∙ ap some (ap (drop 1) (sym are) ∙ drop-drop 1 n qs);
-                    many = longer;
-                    each = λ j k. each j k (dec_lt j n);
-                  }
-                where
-                  is_here : get_or qs n no_question ≡ q.0
-                  is_here =
-                      let z : n ≡ n + 0 = omega arith in
-                      ap (λ (k : ℕ). get_or qs k no_question) z
-                      ∙ sym (get_or-drop n qs 0 no_question)
-                      ∙ ap (λ (l : List Question). get_or l 0 no_question) (some-injective (drop n qs) (q.0 ∷ rs) (i ∙ ap (more q.0) f))
-
-                  each : (j : ℕ) → j < n + 1 → Dec (j < n)
-                      → QuestionAt s (get_or (set starts n at) j 0) (get_or (set ends n end) j 0) (get_or qs j no_question)
-                  each j k (yes m) =
-                      let other : j ≡ n → ⊥ = λ e. omega arith in
-                      moved (sym (get_or-set_other starts n j at 0 other)) (sym (get_or-set_other ends n j end 0 other)) (x.each j m)
-                  each j k (no m) =
-                      let j_is : n ≡ j = omega arith in
-                      let in_starts : n < length starts = omega (arith, inv.starts_long, inv.room) in
-                      let in_ends : n < length ends = omega (arith, inv.ends_long, inv.room) in
-                      let here : QuestionAt s at end (get_or qs n no_question) =
-                      record { low = (e.here g).low; fits = (e.here g).fits; is = q.1 ∙ ap some (sym is_here) } in
-                      subst (λ (y : ℕ). QuestionAt s (get_or (set starts n at) y 0) (get_or (set ends n end) y 0) (get_or qs y no_question)) j_is
-                      (moved (sym (get_or-set_same starts n at 0 in_starts)) (sym (get_or-set_same ends n end 0 in_ends)) here)
-
--- ---- for the crates above
-
--- the questions that were read stand there
-pub read_here : {s : List ℕ} {most : ℕ} {r : Questions} → most ≤ 500 → QuestionsAre s most r → QuestionsHere s r.starts r.ends r.count
-read_here {s} {most} {r} h are = go (questions_of most s) refl r.ok refl
-  where
-    go : (o : Option (List Question)) → questions_of most s ≡ o → (b : Bool) → r.ok ≡ b → QuestionsHere s r.starts r.ends r.count
-    go (some qs) e b f = record {
-      few = omega (arith, are.few);
-      each = λ j l. let x = are.each qs e j l in record { low = x.low; fits = x.fits; ok = ap is_some x.is };
-    }
-    go none e true f = absurd (false≢true (sym (ap is_some e) ∙ sym are.ok ∙ f))
-    go none e false f = record { few = omega (arith, are.few); each = λ j l. absurd (omega (arith, are.empty f)) }
+                each : (j : ℕ) → j < n + 1 → Dec (j < n)
+                    → QuestionAt s (get_or (set ls n here) j nowhere) (get_or qs j no_question)
+                each j k (yes m) =
+                    let other : j ≡ n → ⊥ = λ e. omega arith in
+                    moved (sym (get_or-set_other ls n j here nowhere other)) (x.each j m)
+                each j k (no m) =
+                    let j_is : n ≡ j = omega arith in
+                    let in_ls : n < length ls = omega (arith, inv.long, inv.room) in
+                    let its : QuestionAt s here (get_or qs n no_question) =
+                    record { low = e.here.low; fits = e.here.fits; is = q.1 ∙ ap some (sym is_here) } in
+                    subst (λ (y : ℕ). QuestionAt s (get_or (set ls n here) y nowhere) (get_or qs y no_question)) j_is
+                    (moved (sym (get_or-set_same ls n here nowhere in_ls)) its)

@@ -7,93 +7,86 @@ ghost use Rattle.questions.specs.Questions.{QuestionEnd, QuestionsAre, QuestionH
 use layout::numbers::four_at;
 use question::{ask_of, question_ok};
 
-// Whether all bytes are questions. If so, there are `count` of them, and each stands from its start to its end.
-#[derive(Drop)]
-pub struct Questions {
-    pub ok: bool,
-    pub count: usize,
-    pub starts: [usize; 500],
-    pub ends: [usize; 500],
+// Where a question stands in the lent bytes.
+#[derive(Clone, Copy)]
+pub struct Lent {
+    pub start: usize,
+    pub end: usize,
 }
 
-const NO_QUESTIONS: Questions = Questions {
-    ok: false,
-    count: 0,
-    starts: [0; 500],
-    ends: [0; 500],
-};
+const NOWHERE: Lent = Lent { start: 0, end: 0 };
 
-// The end of the question at `at`, which says its own length; 0 if there is none.
-fn question_end(s: &[u8], at: usize) -> usize
+// There are `count` of them: so many of the stretches count.
+// As it is: an array with its count, since the library takes no heap.
+#[derive(Drop)]
+pub struct Questions {
+    pub count: usize,
+    pub stretches: [Lent; 500],
+}
+
+// The end of the question at `at`, which says its own length.
+fn question_end(s: &[u8], at: usize) -> Option<usize>
     requires { at ≤ length s.now }
     ensures { QuestionEnd s.now at result }
 {
     if s.len() - at < 5 {
-        return 0;
+        return None;
     }
     let n = four_at(s, at);
     if s.len() - at < n {
-        return 0;
+        return None;
     }
     let end = at + n;
-    if question_ok(&s[at..end]) { end } else { 0 }
+    if question_ok(&s[at..end]) {
+        Some(end)
+    } else {
+        None
+    }
 }
 
 // At most so many questions, with nothing left over.
-pub fn questions_of(s: &[u8], most: usize) -> Questions
+pub fn questions_of(s: &[u8], most: usize) -> Option<Questions>
     requires { most ≤ 500 }
     ensures { QuestionsAre s.now most result }
 {
-    let mut starts = [0; 500];
-    let mut ends = [0; 500];
+    let mut stretches = [NOWHERE; 500];
     let mut count = 0;
     let mut at = 0;
     while at < s.len() {
         if most <= count {
-            return NO_QUESTIONS;
+            return None;
         }
-        let end = question_end(s, at);
-        if end < 1 {
-            return NO_QUESTIONS;
-        }
-        starts[count] = at;
-        ends[count] = end;
+        let end = question_end(s, at)?;
+        stretches[count] = Lent { start: at, end };
         count += 1;
         at = end;
     }
-    Questions {
-        ok: true,
-        count,
-        starts,
-        ends,
-    }
+    Some(Questions { count, stretches })
 }
 
 // ---- what they ask for
 
 // Where the asked article is named, and the sort of its rows.
 #[derive(Clone, Copy)]
-struct Name {
-    start: usize,
-    end: usize,
-    sort: u8,
+pub struct Name {
+    pub start: usize,
+    pub end: usize,
+    pub sort: u8,
 }
 
-// The same of each of many questions.
-#[derive(Drop)]
-pub struct Names {
-    pub starts: [usize; 500],
-    pub ends: [usize; 500],
-    pub sorts: [u8; 500],
-}
+const NO_NAME: Name = Name {
+    start: 0,
+    end: 0,
+    sort: 0,
+};
 
-fn name_in(s: &[u8], from: usize, to: usize) -> Name
-    requires { QuestionHere s.now from to }
-    ensures { NameIs s.now from to result }
+fn name_in(s: &[u8], lent: Lent) -> Name
+    requires { QuestionHere s.now lent }
+    ensures { NameIs s.now lent result }
 {
-    let ask = ask_of(&s[from..to]);
+    let ask = ask_of(&s[lent.start..lent.end]);
     let article = ask.article;
-    let start = from + article.at;
+    let start = lent.start + article.at;
     Name {
         start,
         end: start + article.size,
@@ -101,25 +94,14 @@ fn name_in(s: &[u8], from: usize, to: usize) -> Name
     }
 }
 
-// Of each of the first n questions.
-pub fn names_in(s: &[u8], starts: &[usize; 500], ends: &[usize; 500], n: usize) -> Names
-    requires { QuestionsHere s.now starts.now ends.now n }
-    ensures { NamesAre s.now starts.now ends.now n result }
+// Of each of the questions.
+pub fn names_in(s: &[u8], stretches: &[Lent]) -> [Name; 500]
+    requires { QuestionsHere s.now stretches.now }
+    ensures { NamesAre s.now stretches.now result }
 {
-    let mut names = [0; 500];
-    let mut stops = [0; 500];
-    let mut sorts = [0; 500];
-    let mut j = 0;
-    while j < n {
-        let name = name_in(s, starts[j], ends[j]);
-        names[j] = name.start;
-        stops[j] = name.end;
-        sorts[j] = name.sort;
-        j += 1;
+    let mut names = [NO_NAME; 500];
+    for (j, lent) in stretches.iter().enumerate() {
+        names[j] = name_in(s, *lent);
     }
-    Names {
-        starts: names,
-        ends: stops,
-        sorts,
-    }
+    names
 }

@@ -37,9 +37,9 @@ pub record Flagging (picks : List Pick) (n : ℕ) (flags : List Bool) (i : ℕ) 
   pub rest : (p : ℕ) → p < 256 → (get_or flags p false || any (λ x. eqb x p) (places_of (drop i (views_in picks n)))) ≡ any (λ x. eqb x p) (places_of (views_in picks n))
 
 module _ (picks : List Pick) (n : ℕ) where
-  pub flag_start : length picks ≡ 99 → n ≤ 99 → Flagging picks n (replicate 256 false) 0
-  flag_start k l = record {
-    lines = omega arith;
+  pub flag_start : n ≤ length picks → Flagging picks n (replicate 256 false) 0
+  flag_start k = record {
+    lines = k;
     long = length-replicate 256 false;
     rest = λ p l. rw (get_or-replicate 256 p false false l);
   }

@@ -19,9 +19,9 @@ pub record UnusedFor (table places : List ℕ) (set : ℕ) : Type 0 where
 
 -- the rows are those that the definition chooses, and what is said of them and of the granted names is so
 pub record Quoted (b : List ℕ) (q : Question) (r : Quote) : Type 0 where
-  pub picked : PickedAre b q r.rows r.n
-  pub judged : VerdictIs r.rows r.n r.verdict
-  pub idle : UnusedIs q.granted (map (λ v. v.place) (views_in r.rows r.n)) r.unused.0
+  pub picked : PickedAre b q r.picks.rows r.picks.n
+  pub judged : VerdictIs r.picks.rows r.picks.n r.verdict
+  pub idle : UnusedIs q.granted (map (λ v. v.place) (views_in r.picks.rows r.picks.n)) r.unused.0
 
 pub record QuoteIs (b number table : List ℕ) (terms : Terms) (r : Quote) : Type 0 where
   pub of : (q : Question) → Asks q number table terms → Quoted b q r

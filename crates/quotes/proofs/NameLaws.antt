@@ -1,7 +1,9 @@
 -- Names in quotes and without: when they need them, how long they are, and what is written.
-use Prim.Native.Nat.{ℕ, ◌+◌, ◌≤◌, ◌<◌}
+use Prim.Native.Nat.{ℕ, suc, ◌+◌, ◌≤◌, ◌<◌}
 use mathlib.Core.Path.{◌≡◌, refl, sym, ◌∙◌, ap, subst}
-use mathlib.Core.Bool.{Bool, true, false, ◌&&◌, ◌||◌, or-false, or_assoc, and-false}
+use Rattle.std.specs.List.{count_by}
+use Rattle.std.proofs.lemmas.List.Sums.{count_by-le-length, sum_by-cons}
+use mathlib.Core.Bool.{Bool, true, false, cond}
 use mathlib.Core.List.{List, [], ◌∷◌, ◌++◌, append-nil, append_assoc}
 use native.Mathlib.Omega.{arith}
 use native.Mathlib.Numerals.{add-one}
@@ -9,51 +11,15 @@ use lib.Dec.{eqb}
 use lib.ListN.{length, drop, get_or, length-append, drop_of_length-le}
 use lib.Seq.{drop-cons}
 use borrow.Author.Tests.{eq-eqb, ne_eqb}
-use Rattle.rules.specs.Lists.{any}
-use Rattle.file_rules.specs.Fields.{semicolon, quote, starts_with, twice_if, doubled, in_quotes, field_text, first_field_text}
+use Rattle.file_rules.specs.Fields.{quote, twice_if, doubled, in_quotes, field_text, first_field_text}
 use Rattle.layout.specs.Ensures.{Says, Number, PutsTo}
 use Rattle.layout.proofs.StoreLaws.{to_nothing, to_then}
 use Rattle.decimals.specs.Texts.{ended, RoomFor}
 use Rattle.decimals.proofs.ColumnLaws.{ended_length, end_behind}
-use Rattle.quotes.specs.Names.{quotes_in, doubled_byte, quoted, text_in, Finding, Doubling}
+use Rattle.quotes.specs.Names.{quotes_in, doubled_byte, quoted, text_in}
 
 next : (s : List ℕ) (i : ℕ) → i < length s → drop i s ≡ get_or s i 0 ∷ drop (i + 1) s
 next s i h = drop-cons s i 0 h ∙ ap (λ (k : ℕ). get_or s i 0 ∷ drop k s) (sym (add-one i))
-
--- ---- when
-
-module _ (s : List ℕ) where
-  pub find_start : Finding s false 0
-  find_start = record { is = refl }
-
-  module _ {found : Bool} {i : ℕ} (p : Finding s found i) where
-    pub find_on : i < length s → Finding s (found || eqb semicolon (get_or s i 0)) (i + 1)
-    find_on h = record {
-      is = p.is
-          ∙ (ap (λ (t : List ℕ). found || any (eqb semicolon) t) (next s i h)
-          ∙ sym (or_assoc found (eqb semicolon (get_or s i 0)) (any (eqb semicolon) (drop (i + 1) s))));
-    }
-
-    pub find_end : length s ≤ i → Says (any (eqb semicolon) s) found
-    find_end h = record { is = p.is ∙ (ap (λ (t : List ℕ). found || any (eqb semicolon) t) (drop_of_length-le s {i = i} h) ∙ or-false found) }
-
-starts : (c : ℕ) (s : List ℕ) → 1 ≤ length s → starts_with c s ≡ eqb (get_or s 0 0) c
-starts c [] h = absurd (omega arith)
-starts c (b ∷ s) h = refl
-
-module _ (s : List ℕ) (first : Bool) where
-  pub needs_none : length s < 1 → Says (quotes_in first s) false
-  needs_none h = record { is = by s h }
-    where
-      by : (s : List ℕ) → length s < 1 → quotes_in first s ≡ false
-      by [] h = ap (λ (b : Bool). b || false) (and-false first)
-      by (b ∷ s) h = absurd (omega arith)
-
-  pub needs_by : {found : Bool} → 1 ≤ length s → Says (any (eqb semicolon) s) found
-      → Says (quotes_in first s) ((first && eqb (get_or s 0 0) 35) || (eqb (get_or s 0 0) 34 || found))
-  needs_by h p = record {
-    is = λ i. (first && starts 35 s h i) || (starts 34 s h i || p.is i);
-  }
 
 -- ---- how long
 
@@ -82,21 +48,19 @@ doubled_last : (s : List ℕ) (i : ℕ) → length s ≤ i → doubled (drop i s
 unfolding doubled
 doubled_last s i h = ap doubled (drop_of_length-le s {i = i} h)
 
-module _ (s : List ℕ) where
-  pub double_start : Doubling s 0 0
-  double_start = record { is = omega arith; few = omega arith; within = omega arith }
+-- as many bytes as stand there, and one more for each quote
+doubled_length : (s : List ℕ) → length (doubled s) ≡ length s + count_by (λ b. eqb b quote) s
+unfolding doubled
+doubled_length [] = refl
+doubled_length (b ∷ s) = by (eqb b quote) (doubled_length s) ∙ sym (ap (λ (n : ℕ). suc (length s) + n) (sum_by-cons (λ b. cond (eqb b quote) 1 0) b s))
+  where
+    by : (t : Bool) → length (doubled s) ≡ length s + count_by (λ b. eqb b quote) s
+        → length (twice_if t b (doubled s)) ≡ suc (length s) + (cond t 1 0 + count_by (λ b. eqb b quote) s)
+    by true i = omega arith
+    by false i = omega arith
 
-  module _ {n i : ℕ} (p : Doubling s n i) where
-    pub double_on : {m : ℕ} → i < length s → Number (length (doubled_byte (get_or s i 0))) 3 m → Doubling s (n + m) (i + 1)
-    double_on h q = record {
-      is = omega
-          (arith, p.is, q.is, ap length (doubled_next s i h), length-append (doubled_byte (get_or s i 0)) (doubled (drop (i + 1) s)));
-      few = omega (arith, p.few, q.below);
-      within = omega arith;
-    }
-
-    pub double_end : length s < 256 → length s ≤ i → Number (length (doubled s)) 512 n
-    double_end g h = record { is = omega (arith, p.is, ap length (doubled_last s i h)); below = omega (arith, p.few, p.within) }
+pub doubled_number : {n : ℕ} (s : List ℕ) → n ≡ count_by (λ b. eqb b quote) s → length s < 256 → Number (length (doubled s)) 512 (length s + n)
+doubled_number s e h = record { is = omega (arith, e, doubled_length s); below = omega (arith, e, count_by-le-length (λ b. eqb b quote) s) }
 
 -- ---- the name
 

@@ -1,9 +1,8 @@
 // A name as a field of a price file, with the semicolon behind it: in quotes where reading needs them, and then its own quotes twice.
 #![tactic(auto)]
 
-ghost use Rattle.std.specs.Prelude.{◌<◌, eqb, length};
-ghost use Rattle.rules.specs.Lists.{any};
-ghost use Rattle.file_rules.specs.Fields.{semicolon, doubled};
+ghost use Rattle.std.specs.Prelude.{◌<◌, length};
+ghost use Rattle.file_rules.specs.Fields.{doubled};
 ghost use Rattle.layout.specs.Ensures.{Says, Number, PutsTo};
 ghost use Rattle.decimals.specs.Texts.{ended, RoomFor};
 ghost use Rattle.quotes.specs.Names.{quotes_in, doubled_byte, quoted, text_in};
@@ -11,48 +10,24 @@ ghost use Rattle.quotes.specs.Names.{quotes_in, doubled_byte, quoted, text_in};
 use decimals::columns::put_byte;
 use layout::strings::put_bytes;
 
-// A flag to the end, with no way out before it: many bytes are then tested at a time.
-fn has_semicolon(s: &[u8]) -> bool
-    ensures { Says (any (eqb semicolon) s.now) result }
-{
-    let mut found = false;
-    let mut i = 0;
-    while i < s.len() {
-        found = found | (b';' == s[i]);
-        i += 1;
-    }
-    found
-}
-
 // The first field of a line must not make a remark of it.
 fn needs_quotes(s: &[u8], first: bool) -> bool
     ensures { Says (quotes_in first s.now) result }
 {
-    if s.len() < 1 {
+    let Some(byte) = s.first() else {
         return false;
-    }
-    (first & (s[0] == b'#')) | ((s[0] == b'"') | has_semicolon(s))
+    };
+    (first & (*byte == b'#')) | (*byte == b'"') | s.contains(&b';')
 }
 
 // ---- how many bytes
 
-fn times_of(byte: u8) -> usize
-    ensures { Number (length (doubled_byte byte)) 3 result }
-{
-    if byte == b'"' { 2 } else { 1 }
-}
-
+// A quote stands twice.
 fn doubled_size(s: &[u8]) -> usize
     requires { length s.now < 256 }
     ensures { Number (length (doubled s.now)) 512 result }
 {
-    let mut n = 0;
-    let mut i = 0;
-    while i < s.len() {
-        n += times_of(s[i]);
-        i += 1;
-    }
-    n
+    s.len() + s.iter().filter(|byte| **byte == b'"').count()
 }
 
 pub fn name_size(s: &[u8], first: bool) -> usize
@@ -84,10 +59,8 @@ fn put_doubled(out: &mut [u8], at: usize, s: &[u8]) -> usize
     ensures { PutsTo out.old at (doubled s.now) out.new result }
 {
     let mut to = at;
-    let mut i = 0;
-    while i < s.len() {
-        to = put_times(out, to, s[i]);
-        i += 1;
+    for byte in s {
+        to = put_times(out, to, *byte);
     }
     to
 }

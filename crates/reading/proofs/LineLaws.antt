@@ -1,17 +1,19 @@
 -- The rows of a file without a bad line, line by line: a line brings nothing, or a row in front of those of the lines behind it.
 use Prim.Native.Nat.{ℕ, suc, ◌+◌, ◌<◌}
-use mathlib.Core.Path.{◌≡◌, refl, sym, ◌∙◌, ap}
+use mathlib.Core.Path.{◌≡◌, sym, ◌∙◌, ap}
 use mathlib.Core.Bool.{Bool, true, false, ◌||◌}
 use mathlib.Core.List.{List, [], ◌∷◌, ◌++◌}
-use mathlib.Core.Option.{Option, some, some-injective, none-ne-some}
+use mathlib.Core.Option.{Option, some, none, some-injective, none-ne-some}
 use lib.ListN.{length, drop}
 use Rattle.rules.specs.PlacedRefusals.{ResultAt, Done, ◌>>=◌, or_refuse_at, or_zero_at}
 use Rattle.rules.proofs.PlacedRefusalLaws.{then_done, or_done, done_is}
 use Rattle.file_rules.specs.Fields.{is_blank, is_remark, lines_of}
-use Rattle.file_rules.specs.PriceLine.{NamedRow, alone, brought_by, brought}
+use Rattle.file_rules.specs.PriceLine.{NamedRow, price_line, alone, brought_by, brought}
 use Rattle.file_rules.specs.PriceFile.{lines_from}
-use Rattle.layout.specs.Reads.{only, part}
+use Rattle.layout.specs.Reads.{part}
 use Rattle.layout.specs.Ensures.{Says}
+use Rattle.rules.specs.Layout.{whole}
+use Rattle.fields.specs.Given.{GivesNone}
 use Rattle.fields.specs.Field.{CutAt}
 use Rattle.fields.proofs.LineLaws.{line_at}
 use Rattle.price_line.specs.declared.PriceLine.{PriceLine}
@@ -25,18 +27,14 @@ module _ (line : List ℕ) {t : Bool} (s : Says (is_blank line || is_remark line
   unfolding brought
   nothing_brought e = ap (λ (b : Bool). brought_by b line) (s.is ∙ e)
 
-  pub row_brought : {r : PriceLine} → t ≡ false → LineIs line r → brought line ≡ only r.good (row_on line r ∷ [])
-  unfolding brought
-  row_brought {r} e p = ap (λ (b : Bool). brought_by b line) (s.is ∙ e) ∙ (ap alone p.is ∙ by r.good)
-    where
-      by : (b : Bool) → alone (only b (row_on line r)) ≡ only b (row_on line r ∷ [])
-      by true = refl
-      by false = refl
+  module _ (e : t ≡ false) where
+    pub row_brought : {r : PriceLine} → LineIs line r → brought line ≡ some (row_on line r ∷ [])
+    unfolding brought
+    row_brought p = ap (λ (b : Bool). brought_by b line) (s.is ∙ e) ∙ ap alone p.is
 
--- where something is brought, the line is good
-pub only_good : {A : Type 0} (b : Bool) (x y : A) → only b x ≡ some y → (b ≡ true) × (x ≡ y)
-only_good true x y e = (refl, some-injective x y e)
-only_good false x y e = absurd (none-ne-some y e)
+    pub none_brought : GivesNone (whole price_line line) → brought line ≡ none
+    unfolding brought
+    none_brought p = ap (λ (b : Bool). brought_by b line) (s.is ∙ e) ∙ ap alone p.is
 
 -- ---- line by line
 
@@ -83,11 +81,12 @@ module _ {file : List ℕ} {at end : ℕ} (g : Good (drop at file)) (l : at < le
         let h : [] ≡ parted.here = some-injective [] parted.here (sym (nothing_brought (part file at end) s e) ∙ parted.brings) in
         record { good = parted.good; is = parted.is ∙ ap (λ (ls : List NamedRow). ls ++ rows_in (drop (end + 1) file)) (sym h) }
 
-    pub brings : {r : PriceLine} → t ≡ false → LineIs (part file at end) r → Brings file at (end + 1) (part file at end) r
-    brings {r} e p =
-        let x = only_good r.good (row_on (part file at end) r ∷ []) parted.here (sym (row_brought (part file at end) s e p) ∙ parted.brings) in
-        record {
-          row = x.0;
-          good = parted.good;
-          is = parted.is ∙ ap (λ (ls : List NamedRow). ls ++ rows_in (drop (end + 1) file)) (sym x.1);
-        }
+    module _ (e : t ≡ false) where
+      pub row_there : GivesNone (whole price_line (part file at end)) → ⊥
+      row_there n = none-ne-some parted.here (sym (none_brought (part file at end) s e n) ∙ parted.brings)
+
+      pub brings : {r : PriceLine} → LineIs (part file at end) r → Brings file at (end + 1) (part file at end) r
+      brings {r} p =
+          let x : (row_on (part file at end) r ∷ []) ≡ parted.here =
+          some-injective (row_on (part file at end) r ∷ []) parted.here (sym (row_brought (part file at end) s e p) ∙ parted.brings) in
+          record { good = parted.good; is = parted.is ∙ ap (λ (ls : List NamedRow). ls ++ rows_in (drop (end + 1) file)) (sym x) }

@@ -1,12 +1,12 @@
 -- Round by round to the end: where every number is given, the records are those of the numbered rows.
 use Prim.Native.Nat.{ℕ, ◌+◌, ◌-◌, ◌≤◌, ◌<◌}
 use mathlib.Core.Path.{◌≡◌, refl, sym, ◌∙◌, ap, ap₂}
-use mathlib.Core.Bool.{Bool, true, false, ◌||◌, false≢true}
+use mathlib.Core.Bool.{Bool, true, false}
 use mathlib.Core.List.{List, [], ◌∷◌, ◌++◌, map}
 use native.Mathlib.Omega.{arith}
 use native.Mathlib.Decide.{dec_lt}
 use lib.Dec.{ltb}
-use lib.ListN.{length, take, drop, replicate, length-append, length-replicate, take-append-drop}
+use lib.ListN.{length, take, drop, length-append, take-append-drop}
 use lib.Seq.{take_at, drop_at, length-take-le}
 use borrow.Author.Tests.{le-ltb, ltb-true, ltb-false}
 use Rattle.rules.specs.Refusals.{over}
@@ -15,9 +15,10 @@ use Rattle.file_rules.specs.PriceLine.{NamedRow, is_empty}
 use Rattle.file_rules.specs.PriceFile.{text_number, text_names, with_text, numbered, texts}
 use Rattle.file_rules.proofs.NumberingLaws.{seen, after, walk, place_within}
 use Rattle.file_rules.proofs.PriceFileLaws.{numbered_walk}
-use Rattle.layout.proofs.StoreLaws.{all_same}
+use Rattle.text_names.specs.declared.Names.{Names}
+use Rattle.text_names.specs.Names.{Empty}
 use Rattle.text_names.proofs.EnterLaws.{no_names}
-use Rattle.reading.specs.declared.rounds.Step.{Step}
+use Rattle.reading.specs.declared.rounds.Walk.{Walk}
 use Rattle.reading.specs.Rows.{rows_in, number_of, records_at, met_after, ToFill}
 use Rattle.reading.specs.Rounds.{Round, Moves, Ready, Holds, Rounded, Numbering, AllNumbered}
 use Rattle.reading.proofs.RecordLaws.{same_sizes, given_is}
@@ -27,21 +28,21 @@ use Rattle.reading.proofs.CountLaws.{met_grows, few_names}
 
 -- ---- a round
 
-pub round_start : {file out : List ℕ} {c : ℕ} → Holds c file out
-    → Round file (over (records_at (c + 65535) [] (rows_in file)) out) c out (replicate 65535 0) (replicate 65535 0) (replicate 65536 0) 0 0 0 false
-round_start {file} {out} {c} h =
+pub round_start : {file out : List ℕ} {c : ℕ} {names : Names} → Holds c file out → Empty names
+    → Round file (over (records_at (c + 65535) [] (rows_in file)) out) c out 0 (record { names = names; to = 0; more = false })
+round_start {file} {out} {c} h n =
     let same : length (records_at c [] (rows_in file)) ≡ length (records_at (c + 65535) [] (rows_in file)) = same_sizes c (c + 65535) [] (rows_in file) in
     record {
       met = [];
       known = record {
-        table = no_names (length-replicate {A = ℕ} 65536 0) (λ i. all_same 65536 i 0);
-        low = omega arith;
-        most = omega arith;
+        table = no_names n;
+        low = omega (arith, n.none);
+        most = omega (arith, n.none);
         all_in = λ _. omega arith;
-        named = λ i l. absurd (omega arith);
+        named = λ i l. absurd (omega (arith, n.none));
         firsts = λ i l. absurd (omega arith);
-        starts_long = length-replicate {A = ℕ} 65535 0;
-        before_long = length-replicate {A = ℕ} 65535 0;
+        starts_long = n.starts_long;
+        before_long = n.before_long;
       };
       under = h.under;
       stands = h.stands;
@@ -62,43 +63,29 @@ round_start {file} {out} {c} h =
       small = h.small;
     }
 
-module _ {file wanted : List ℕ} {c : ℕ} {out starts before last : List ℕ} {k at to : ℕ} {more : Bool}
-    (R : Round file wanted c out starts before last k at to more) where
-  pub round_ready : at < length file → Ready file c out starts before last k at to
-  round_ready l = record { wanted = wanted; more = more; round = R; here = l }
+module _ {file wanted : List ℕ} {c : ℕ} {out : List ℕ} {at : ℕ} {walk : Walk} (R : Round file wanted c out at walk) where
+  pub round_ready : at < length file → Ready file c out walk at
+  round_ready l = record { wanted = wanted; round = R; here = l }
 
-  pub round_starts : length starts ≡ 65535
-  round_starts = R.known.starts_long
+  pub round_on : {next : ℕ} {out' : List ℕ} {walk' : Walk} → Moves file c out walk at next out' walk' → Round file wanted c out' next walk'
+  round_on m = m.on wanted R
 
-  pub round_before : length before ≡ 65535
-  round_before = R.known.before_long
+module _ {file old : List ℕ} {c : ℕ} {out : List ℕ} {at : ℕ} {walk : Walk}
+    (R : Round file (over (records_at (c + 65535) [] (rows_in file)) old) c out at walk) where
+  pub round_end : length file ≤ at → Rounded c file old out walk.more
+  unfolding met_after
+  round_end h =
+      record {
+        is = fill_end R.fill h;
+        more = R.told ∙ ap (λ (m : List (List ℕ)). ltb (c + 65535) (length m)) (sym (ap (met_after R.met) (no_rows file at h)) ∙ R.last_met);
+        small = R.small;
+      }
 
-  pub round_last : length last ≡ 65536
-  round_last = R.known.table.latest.long
-
-  pub round_on : {next : ℕ} {out' starts' before' last' : List ℕ} {r : Step}
-      → Moves file c out starts before last k at to next out' starts' before' last' r
-      → Round file wanted c out' starts' before' last' r.k next r.to (more || r.more)
-  round_on m = m.on wanted more R
-
-pub round_end : {file old : List ℕ} {c : ℕ} {out starts before last : List ℕ} {k at to : ℕ} {more : Bool}
-    → Round file (over (records_at (c + 65535) [] (rows_in file)) old) c out starts before last k at to more → length file ≤ at
-    → Rounded c file old out more
-unfolding met_after
-round_end {file} {c = c} {at = at} R h =
-    record {
-      is = fill_end R.fill h;
-      more = R.told ∙ ap (λ (m : List (List ℕ)). ltb (c + 65535) (length m)) (sym (ap (met_after R.met) (no_rows file at h)) ∙ R.last_met);
-      small = R.small;
-    }
-
-pub round_long : {file old : List ℕ} {c : ℕ} {out starts before last : List ℕ} {k at to : ℕ} {more : Bool}
-    → Round file (over (records_at (c + 65535) [] (rows_in file)) old) c out starts before last k at to more → Holds c file old
-    → length out ≡ length old
-round_long {file} {old} {c} R h =
-    fill_long R.fill
-    ∙ over_long (records_at (c + 65535) [] (rows_in file)) old
-    (omega (arith, same_sizes c (c + 65535) [] (rows_in file), ap length h.is, h.long, length-append h.under h.tail))
+  pub round_long : Holds c file old → length out ≡ length old
+  round_long h =
+      fill_long R.fill
+      ∙ over_long (records_at (c + 65535) [] (rows_in file)) old
+      (omega (arith, same_sizes c (c + 65535) [] (rows_in file), ap length h.is, h.long, length-append h.under h.tail))
 
 -- ---- round by round
 
@@ -106,21 +93,10 @@ pub over_over : (as' bs old : List ℕ) → length as' ≡ length bs → over bs
 over_over as' bs old e =
     ap (λ (s : List ℕ). bs ++ s) (drop_at as' (drop (length as') old) (length bs) e ∙ ap (λ (n : ℕ). drop n old) e)
 
-pub numbering_start : {file out : List ℕ} → ToFill file out → Numbering file out out 0 true
-numbering_start t =
-    record {
-      good = t.good;
-      room = t.room;
-      first = λ _. refl;
-      is = λ l. absurd (omega arith);
-      some_left = λ _. omega arith;
-      none_left = λ e. absurd (true_not e);
-    }
-  where
-    true_not : true ≡ false → ⊥
-    true_not e = false≢true (sym e)
+pub numbering_start : {file out : List ℕ} → ToFill file out → Numbering file out out 0
+numbering_start t = record { good = t.good; room = t.room; first = λ _. refl; is = λ l. absurd (omega arith); some_left = omega arith }
 
-module _ {file old out : List ℕ} {c : ℕ} {more : Bool} (p : Numbering file old out c more) where
+module _ {file old out : List ℕ} {c : ℕ} (p : Numbering file old out c) where
   -- what comes over all records comes over what stood there first
   same_over : (bs : List ℕ) → length (records_at c [] (rows_in file)) ≡ length bs → over bs out ≡ over bs old
   same_over bs e = by (dec_lt 0 c)
@@ -137,12 +113,12 @@ module _ {file old out : List ℕ} {c : ℕ} {more : Bool} (p : Numbering file o
           ap length (p.is l) ∙ over_long (records_at c [] (rows_in file)) old (omega (arith, p.room, same_sizes 0 c [] (rows_in file)))
       by (no l) = ap length (p.first (omega arith))
 
-  pub numbering_here : more ≡ true → Holds c file out
-  numbering_here e =
+  pub numbering_here : Holds c file out
+  numbering_here =
       let n : ℕ = length (records_at c [] (rows_in file)) in
       record {
         good = p.good;
-        small = omega (arith, p.some_left e, few_names file p.good);
+        small = omega (arith, p.some_left, few_names file p.good);
         under = take n out;
         tail = drop n out;
         is = sym (take-append-drop n out);
@@ -150,21 +126,18 @@ module _ {file old out : List ℕ} {c : ℕ} {more : Bool} (p : Numbering file o
         stands = λ l. ap (take n) (p.is l) ∙ take_at (records_at c [] (rows_in file)) (drop n old) n refl;
       }
 
-  pub numbering_on : more ≡ true → {new : List ℕ} {r : Bool} → Rounded c file out new r → Numbering file old new (c + 65535) r
-  numbering_on e {new} {r} q =
-      record {
-        good = p.good;
-        room = p.room;
-        first = λ l. absurd (omega arith);
-        is = λ _. q.is ∙ same_over (records_at (c + 65535) [] (rows_in file)) (same_sizes c (c + 65535) [] (rows_in file));
-        some_left =
-            λ f. let h : c + 65535 < length (met_after [] (rows_in file)) =
-            ltb-true (c + 65535) (length (met_after [] (rows_in file))) (sym q.more ∙ f) in omega arith;
-        none_left = λ f. (omega arith, ltb-false (c + 65535) (length (met_after [] (rows_in file))) (sym q.more ∙ f));
-      }
+  pub numbering_less : length (met_after [] (rows_in file)) + 1 - (c + 65535) < length (met_after [] (rows_in file)) + 1 - c
+  numbering_less = omega (arith, p.some_left)
 
-  pub numbering_less : more ≡ true → length (met_after [] (rows_in file)) + 1 - (c + 65535) < length (met_after [] (rows_in file)) + 1 - c
-  numbering_less e = omega (arith, p.some_left e)
+  module _ {new : List ℕ} {r : Bool} (q : Rounded c file out new r) where
+    all_over : new ≡ over (records_at (c + 65535) [] (rows_in file)) old
+    all_over = q.is ∙ same_over (records_at (c + 65535) [] (rows_in file)) (same_sizes c (c + 65535) [] (rows_in file))
+
+    pub numbering_on : r ≡ true → Numbering file old new (c + 65535)
+    numbering_on e =
+        let h : c + 65535 < length (met_after [] (rows_in file)) =
+        ltb-true (c + 65535) (length (met_after [] (rows_in file))) (sym q.more ∙ e) in
+        record { good = p.good; room = p.room; first = λ l. absurd (omega arith); is = λ _. all_over; some_left = omega arith }
 
 -- ---- every number is given
 
@@ -201,6 +174,8 @@ pub numbered_all : (c : ℕ) (ls : List NamedRow) → length (met_after [] ls) �
 unfolding numbered
 numbered_all c ls h = all_given (λ l. text_number (text_names ls) l.name) c [] ls h (numbered_walk ls)
 
-pub numbering_end : {file old out : List ℕ} {c : ℕ} {more : Bool} → Numbering file old out c more → more ≡ false → AllNumbered file old out
-numbering_end {file} {old} {c = c} p e =
-    record { is = p.is (p.none_left e).0 ∙ ap (λ (s : List ℕ). over s old) (numbered_all c (rows_in file) (p.none_left e).1) }
+pub numbering_end : {file old out new : List ℕ} {c : ℕ} {r : Bool} → Numbering file old out c → Rounded c file out new r → r ≡ false
+    → AllNumbered file old new
+numbering_end {file} {old} {c = c} p q e =
+    let h : length (met_after [] (rows_in file)) ≤ c + 65535 = ltb-false (c + 65535) (length (met_after [] (rows_in file))) (sym q.more ∙ e) in
+    record { is = all_over p q ∙ ap (λ (s : List ℕ). over s old) (numbered_all (c + 65535) (rows_in file) h) }

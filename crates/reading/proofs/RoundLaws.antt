@@ -1,7 +1,7 @@
 -- A line in a round: a row that has its number stays, and one that is due gets it where the table knows its name or has a place for it.
 use Prim.Native.Nat.{ℕ, zero, suc, ◌+◌, ◌-◌, ◌%◌, ◌≤◌, ◌<◌}
 use mathlib.Core.Path.{◌≡◌, refl, sym, ◌∙◌, ap, ap₂, subst}
-use mathlib.Core.Bool.{Bool, true, false, ◌||◌}
+use mathlib.Core.Bool.{Bool, true, false}
 use mathlib.Core.List.{List, [], ◌∷◌, ◌++◌}
 use mathlib.Core.Logic.{◌⊎◌, inl, inr}
 use mathlib.Core.Option.{Option, some}
@@ -14,7 +14,6 @@ use borrow.Author.Tests.{le-ltb, lt-ltb}
 use Rattle.rules.specs.Lists.{is_some, if_some}
 use Rattle.rules.specs.Book.{Row}
 use Rattle.rules.specs.RowBytes.{row_bytes}
-use Rattle.rules.proofs.TestLaws.{or_false}
 use Rattle.file_rules.specs.Fields.{semicolon, field}
 use Rattle.file_rules.specs.PriceLine.{is_empty}
 use Rattle.file_rules.specs.PriceFile.{place_in, with_text}
@@ -26,24 +25,22 @@ use Rattle.fields.specs.Field.{text_of, CutAt}
 use Rattle.price_line.specs.declared.PriceLine.{PriceLine}
 use Rattle.fields.proofs.EndLaws.{field_more}
 use Rattle.price_line.specs.Line.{row_on, NameStarts, LineIs}
-use Rattle.text_names.specs.Names.{name_from, StartsName, Hashed, FoundIs, EnteredIs}
+use Rattle.text_names.specs.declared.Names.{Names}
+use Rattle.text_names.specs.Hashes.{name_from, hash_of, StartsName}
+use Rattle.text_names.specs.Names.{Found, Unmet, EnteredIs}
 use Rattle.text_names.proofs.EnterLaws.{entered}
 use Rattle.reading.specs.Rows.{rows_in, number_of, record_at, records_at, met_after, Brings, Filling}
+use Rattle.reading.specs.declared.rounds.Walk.{Walk}
 use Rattle.reading.specs.Rounds.{Known, Round}
 use Rattle.reading.proofs.RecordLaws.{line_size, given_is, low_text}
 use Rattle.reading.proofs.FillLaws.{fill_on, fill_same}
 use Rattle.reading.proofs.MetLaws.{get_d_left, seen_at, place_at, firsts_more, one_longer, number_blank, number_seen, number_new, not_blank}
 
-or_true : (a : Bool) → (a || true) ≡ true
-or_true true = refl
-or_true false = refl
-
 -- ---- what the table knows with one name more
 
-module _ {file : List ℕ} {c k : ℕ} {met : List (List ℕ)} {starts before last : List ℕ} (n : Known file c k met starts before last) (x : List ℕ)
-    (h : seen met x ≡ false) where
+module _ {file : List ℕ} {c : ℕ} {met : List (List ℕ)} {names : Names} (n : Known file c met names) (x : List ℕ) (h : seen met x ≡ false) where
   -- one that needs no place in it
-  known_past : (length (met ++ (x ∷ [])) ≤ c) ⊎ (k ≡ 65535) → Known file c k (met ++ (x ∷ [])) starts before last
+  known_past : (length (met ++ (x ∷ [])) ≤ c) ⊎ (names.count ≡ 65535) → Known file c (met ++ (x ∷ [])) names
   known_past f =
       record {
         table = n.table;
@@ -56,38 +53,37 @@ module _ {file : List ℕ} {c k : ℕ} {met : List (List ℕ)} {starts before la
         before_long = n.before_long;
       }
     where
-      by : (length (met ++ (x ∷ [])) ≤ c) ⊎ (k ≡ 65535) → k < 65535 → length (met ++ (x ∷ [])) - c ≤ k
+      by : (length (met ++ (x ∷ [])) ≤ c) ⊎ (names.count ≡ 65535) → names.count < 65535 → length (met ++ (x ∷ [])) - c ≤ names.count
       by (inl l) g = omega arith
       by (inr e) g = absurd (omega arith)
 
   -- one that is entered
-  pub known_more : {at hash : ℕ} {starts' before' last' : List ℕ} → c ≤ length met → k < 65535 → StartsName file at → name_from file at ≡ x
-      → Hashed x hash
-      → EnteredIs starts before last k at hash starts' before' last' → Known file c (k + 1) (met ++ (x ∷ [])) starts' before' last'
-  known_more {at} {hash} {starts'} {before'} {last'} g l s e d w =
-      let full : length met ≡ c + k = omega (arith, n.low, n.all_in l) in
+  pub known_more : {at hash : ℕ} {names' : Names} → c ≤ length met → names.count < 65535 → StartsName file at → name_from file at ≡ x
+      → hash ≡ hash_of x → hash < 65536 → EnteredIs names at hash names' → Known file c (met ++ (x ∷ [])) names'
+  known_more {at} {hash} {names'} g l s e d m w =
+      let full : length met ≡ c + names.count = omega (arith, n.low, n.all_in l) in
       record {
-        table =
-            entered n.table s (subst (λ (y : List ℕ). Hashed y hash) (sym e) d) (omega (arith, n.starts_long)) (omega (arith, n.before_long)) w;
-        low = omega (arith, one_longer met x);
-        most = omega arith;
-        all_in = λ _. omega (arith, one_longer met x);
-        named = λ i m. by full i m (dec_lt i k);
+        table = entered n.table s (d ∙ sym (ap hash_of e)) m (omega (arith, n.starts_long)) (omega (arith, n.before_long)) w;
+        low = omega (arith, one_longer met x, w.count_is);
+        most = omega (arith, w.count_is);
+        all_in = λ _. omega (arith, one_longer met x, w.count_is);
+        named = λ i m. by full i (omega (arith, w.count_is)) (dec_lt i names.count);
         firsts = firsts_more met x n.firsts h;
-        starts_long = ap length w.starts_is ∙ (length-set starts k at ∙ n.starts_long);
-        before_long = ap length w.before_is ∙ (length-set before k (get_or last hash 0) ∙ n.before_long);
+        starts_long = ap length w.starts_is ∙ (length-set names.starts names.count at ∙ n.starts_long);
+        before_long = ap length w.before_is ∙ (length-set names.before names.count (get_or names.last hash 0) ∙ n.before_long);
       }
     where
-      by : length met ≡ c + k → (i : ℕ) → i < k + 1 → Dec (i < k) → name_from file (get_or starts' i 0) ≡ get_or (met ++ (x ∷ [])) (c + i) []
+      by : length met ≡ c + names.count → (i : ℕ) → i < names.count + 1 → Dec (i < names.count)
+          → name_from file (get_or names'.starts i 0) ≡ get_or (met ++ (x ∷ [])) (c + i) []
       by full i m (yes y) =
           ap (λ (s : List ℕ). name_from file (get_or s i 0)) w.starts_is
-          ∙ (ap (name_from file) (get_or-set_other starts k i at 0 (omega arith))
+          ∙ (ap (name_from file) (get_or-set_other names.starts names.count i at 0 (omega arith))
           ∙ (n.named i y ∙ sym (get_d_left met (x ∷ []) (c + i) [] (omega arith))))
       by full i m (no y) =
-          let j : i ≡ k = omega arith in
+          let j : i ≡ names.count = omega arith in
           ap (λ (s : List ℕ). name_from file (get_or s i 0)) w.starts_is
-          ∙ (ap (λ (i : ℕ). name_from file (get_or (set starts k at) i 0)) j
-          ∙ (ap (name_from file) (get_or-set_same starts k at 0 (omega (arith, n.starts_long)))
+          ∙ (ap (λ (i : ℕ). name_from file (get_or (set names.starts names.count at) i 0)) j
+          ∙ (ap (name_from file) (get_or-set_same names.starts names.count at 0 (omega (arith, n.starts_long)))
           ∙ (e ∙ sym (get_or_at met x [] [] (c + i) (omega arith)))))
 
 -- ---- a row in a round
@@ -106,7 +102,7 @@ module _ {file : List ℕ} {at end : ℕ} {row : PriceLine} (cut : CutAt 10 file
   r = (row_on (part file at end) row).row
 
   starts : NameStarts (part file at end) row
-  starts = line.starts b.row
+  starts = line.starts
 
   line_long : length (part file at end) ≡ end - at
   line_long = part_length file at end cut.fits
@@ -138,8 +134,7 @@ module _ {file : List ℕ} {at end : ℕ} {row : PriceLine} (cut : CutAt 10 file
   unfolding name_from
   name_here = ap (λ (o : Option (List ℕ × List ℕ)). if_some o [] (λ p. p.0)) name_field ∙ name_text
 
-  module _ {wanted : List ℕ} {c : ℕ} {out starts before last : List ℕ} {k to : ℕ} {more : Bool}
-      (R : Round file wanted c out starts before last k at to more) where
+  module _ {wanted : List ℕ} {c : ℕ} {out : List ℕ} {walk : Walk} (R : Round file wanted c out at walk) where
     abbrev pub met : List (List ℕ)
     met = R.met
 
@@ -172,8 +167,8 @@ module _ {file : List ℕ} {at end : ℕ} {row : PriceLine} (cut : CutAt 10 file
           line_size line (c + 65535) t,
         )
 
-    fill : Filling file wanted (c + 65535) out at to met (piece ++ under)
-    fill = subst (Filling file wanted (c + 65535) out at to R.met) (sym (take-append-drop size R.under)) R.fill
+    fill : Filling file wanted (c + 65535) out at walk.to met (piece ++ under)
+    fill = subst (Filling file wanted (c + 65535) out at walk.to R.met) (sym (take-append-drop size R.under)) R.fill
 
     later : met_after (after met x) (rows_in (drop (end + 1) file)) ≡ met_after [] (rows_in file)
     unfolding met_after
@@ -190,14 +185,14 @@ module _ {file : List ℕ} {at end : ℕ} {row : PriceLine} (cut : CutAt 10 file
       under_is : under ≡ behind c
       under_is = ap (drop size) (R.stands l ∙ rows_are c) ∙ drop_at (record_at c t r) (behind c) size (line_size line c t)
 
-    pub kind_here : get_or out (to + 2) 0 ≡ get_or piece 2 0
+    pub kind_here : get_or out (walk.to + 2) 0 ≡ get_or piece 2 0
     kind_here =
         ap₂ (λ (s : List ℕ) (i : ℕ). get_or s (i + 2) 0) fill.is (sym fill.place)
         ∙ (get_or-append-add fill.done ((piece ++ under) ++ fill.tail) 2 0
         ∙ (get_d_left (piece ++ under) fill.tail 2 0 (omega (arith, length-append piece under, long))
         ∙ get_d_left piece under 2 0 (omega (arith, long))))
 
-    pub room : to + 34 + row.article.count + row.condition.count ≤ length out
+    pub room : walk.to + 34 + row.article.count + row.condition.count ≤ length out
     room =
         omega (
           arith,
@@ -210,36 +205,36 @@ module _ {file : List ℕ} {at end : ℕ} {row : PriceLine} (cut : CutAt 10 file
         )
 
     -- its record stays as it is, or another comes there
-    pub stays : record_at (c + 65535) t r ≡ piece → {e : ℕ} → e ≡ to + 34 + row.article.count + row.condition.count
+    pub stays : record_at (c + 65535) t r ≡ piece → {e : ℕ} → e ≡ walk.to + 34 + row.article.count + row.condition.count
         → Filling file wanted (c + 65535) out (end + 1) e (after met x) under
     stays i f =
         fill_same piece under fill (after met x) b.good (omega (arith, cut.fits))
         (rows_are (c + 65535)
         ∙ ap (λ (s : List ℕ). s ++ records_at (c + 65535) (after met x) (rows_in (drop (end + 1) file))) i) (omega (arith, f, long))
 
-    pub comes : {bs new : List ℕ} {e : ℕ} → bs ≡ record_at (c + 65535) t r → PutsTo out to bs new e
+    pub comes : {bs new : List ℕ} {e : ℕ} → bs ≡ record_at (c + 65535) t r → PutsTo out walk.to bs new e
         → Filling file wanted (c + 65535) new (end + 1) e (after met x) under
     comes {bs} {new} {e} i p =
         fill_on piece under fill (after met x) b.good (omega (arith, cut.fits)) (rows_are (c + 65535)) (long ∙ sym (line_size line (c + 65535) t))
-        (subst (λ (bs : List ℕ). PutsTo out to bs new e) i p)
+        (subst (λ (bs : List ℕ). PutsTo out walk.to bs new e) i p)
 
     pub numbered_is : {n : ℕ} → t ≤ c + 65535 → Number (t % 4294967296) 4294967296 n → row_bytes (with_text n r) ≡ record_at (c + 65535) t r
     numbered_is l m = ap (λ (k : ℕ). row_bytes (with_text k r)) m.is ∙ (low_text t r ∙ sym (given_is (c + 65535) t r l))
 
-    pub goes_on : {out' starts' before' last' : List ℕ} {k' e : ℕ} {more' : Bool} → Known file c k' (after met x) starts' before' last'
+    pub goes_on : {names' : Names} {out' : List ℕ} {e : ℕ} {more' : Bool} → Known file c (after met x) names'
         → Filling file wanted (c + 65535) out' (end + 1) e (after met x) under → more' ≡ ltb (c + 65535) (length (after met x))
-        → Round file wanted c out' starts' before' last' k' (end + 1) e more'
+        → Round file wanted c out' (end + 1) (record { names = names'; to = e; more = more' })
     goes_on n f m = record { met = after met x; known = n; under = under; fill = f; stands = under_is; told = m; last_met = later; small = R.small }
 
     -- ---- what becomes of the names
 
     abbrev pub Kept : Type 0
-    Kept = Known file c k (after met x) starts before last × ((more || false) ≡ ltb (c + 65535) (length (after met x)))
+    Kept = Known file c (after met x) walk.names × (walk.more ≡ ltb (c + 65535) (length (after met x)))
 
     pub none_new : after met x ≡ met → Kept
     none_new e = (
-      subst (λ (m : List (List ℕ)). Known file c k m starts before last) (sym e) R.known,
-      or_false more ∙ (R.told ∙ ap (λ (m : List (List ℕ)). ltb (c + 65535) (length m)) (sym e)),
+      subst (λ (m : List (List ℕ)). Known file c m walk.names) (sym e) R.known,
+      R.told ∙ ap (λ (m : List (List ℕ)). ltb (c + 65535) (length m)) (sym e),
     )
 
     -- a row that has its number
@@ -252,12 +247,11 @@ module _ {file : List ℕ} {at end : ℕ} {row : PriceLine} (cut : CutAt 10 file
         by false false e f =
             let i = number_new met x e f in
             let m : length (met ++ (x ∷ [])) ≤ c = omega (arith, one_longer met x, i.0) in (
-              subst (λ (m : List (List ℕ)). Known file c k m starts before last) (sym i.1) (known_past R.known x f (inl m)),
-              or_false more
-                  ∙ (R.told
+              subst (λ (m : List (List ℕ)). Known file c m walk.names) (sym i.1) (known_past R.known x f (inl m)),
+              R.told
                   ∙ (le-ltb (c + 65535) (length met) (omega (arith, one_longer met x))
                   ∙ sym (ap (λ (m : List (List ℕ)). ltb (c + 65535) (length m)) i.1
-                  ∙ le-ltb (c + 65535) (length (met ++ (x ∷ []))) (omega arith)))),
+                  ∙ le-ltb (c + 65535) (length (met ++ (x ∷ []))) (omega arith))),
             )
 
     module _ (w : c < t) where
@@ -265,57 +259,57 @@ module _ {file : List ℕ} {at end : ℕ} {row : PriceLine} (cut : CutAt 10 file
       named = not_blank met x (omega arith)
 
       -- one that the table has
-      pub found : {j : ℕ} → FoundIs file starts k x j → 0 < j → (t ≡ c + j) × (after met x ≡ met)
-      found {j} f l =
-          let i : c + (j - 1) < length met = omega (arith, f.low, R.known.low) in
-          let e : get_or met (c + (j - 1)) [] ≡ x = sym (R.known.named (j - 1) (omega (arith, f.low))) ∙ f.is l in
+      pub found : {j : ℕ} → Found file walk.names.starts walk.names.count x j → (t ≡ c + j) × (after met x ≡ met)
+      found {j} f =
+          let i : c + (j - 1) < length met = omega (arith, f.some, f.low, R.known.low) in
+          let e : get_or met (c + (j - 1)) [] ≡ x = sym (R.known.named (j - 1) (omega (arith, f.some, f.low))) ∙ f.is in
           let p : place_in met x ≡ suc (c + (j - 1)) = sym (ap (place_in met) e) ∙ R.known.firsts (c + (j - 1)) i in
           let n = number_seen met x named (seen_at met (c + (j - 1)) x i e) in
-          (omega (arith, n.0), n.1)
+          (omega (arith, n.0, f.some), n.1)
 
-      -- where it was met, it stands behind those of the table
-      past : {j : ℕ} → FoundIs file starts k x j → j < 1 → seen met x ≡ true → c + k < t
-      past {j} f l s =
-          let n = number_seen met x named s in
-          let p : place_in met x ≤ length met = place_within met x s in
-          by n p (dec_lt (place_in met x - 1 - c) k)
-        where
-          by : (number_of met x ≡ place_in met x) × (after met x ≡ met) → place_in met x ≤ length met → Dec (place_in met x - 1 - c < k) → c + k < t
-          by n p (no d) = omega (arith, n.0)
-          by n p (yes d) =
-              let i : c + (place_in met x - 1 - c) ≡ place_in met x - 1 = omega (arith, n.0) in
-              absurd (f.none l (place_in met x - 1 - c) d (R.known.named (place_in met x - 1 - c) d
-              ∙ (ap (λ (m : ℕ). get_or met m []) i ∙ place_at met x s)))
+      module _ (f : Unmet file walk.names.starts walk.names.count x) where
+        -- where it was met, it stands behind those of the table
+        past : seen met x ≡ true → c + walk.names.count < t
+        past s =
+            let n = number_seen met x named s in
+            let p : place_in met x ≤ length met = place_within met x s in
+            by n p (dec_lt (place_in met x - 1 - c) walk.names.count)
+          where
+            by : (number_of met x ≡ place_in met x) × (after met x ≡ met) → place_in met x ≤ length met
+                → Dec (place_in met x - 1 - c < walk.names.count) → c + walk.names.count < t
+            by n p (no d) = omega (arith, n.0)
+            by n p (yes d) =
+                let i : c + (place_in met x - 1 - c) ≡ place_in met x - 1 = omega (arith, n.0) in
+                absurd (f.none (place_in met x - 1 - c) d (R.known.named (place_in met x - 1 - c) d
+                ∙ (ap (λ (m : ℕ). get_or met m []) i ∙ place_at met x s)))
 
-      pub unseen : {j : ℕ} → FoundIs file starts k x j → j < 1 → k < 65535 → seen met x ≡ false
-      unseen f l g = by (seen met x) refl
-        where
-          by : (z : Bool) → seen met x ≡ z → seen met x ≡ false
-          by true s = absurd (omega (arith, past f l s, (number_seen met x named s).0, place_within met x s, R.known.all_in g))
-          by false s = s
+        pub unseen : walk.names.count < 65535 → seen met x ≡ false
+        unseen g = by (seen met x) refl
+          where
+            by : (z : Bool) → seen met x ≡ z → seen met x ≡ false
+            by true s = absurd (omega (arith, past s, (number_seen met x named s).0, place_within met x s, R.known.all_in g))
+            by false s = s
 
-      -- one for which the table has no place
-      pub no_place : {j : ℕ} → FoundIs file starts k x j → j < 1 → 65535 ≤ k
-          → (c + 65535 < t) × Known file c k (after met x) starts before last × ((more || true) ≡ ltb (c + 65535) (length (after met x)))
-      no_place f l g = by (seen met x) refl
-        where
-          by : (z : Bool) → seen met x ≡ z
-              → (c + 65535 < t) × Known file c k (after met x) starts before last × ((more || true) ≡ ltb (c + 65535) (length (after met x)))
-          by true s =
-              let n = number_seen met x named s in
-              let q : c + k < t = past f l s in (
-                omega arith,
-                subst (λ (m : List (List ℕ)). Known file c k m starts before last) (sym n.1) R.known,
-                or_true more
-                    ∙ sym (ap (λ (m : List (List ℕ)). ltb (c + 65535) (length m)) n.1
-                    ∙ lt-ltb (c + 65535) (length met) (omega (arith, n.0, place_within met x s))),
-              )
-          by false s =
-              let n = number_new met x named s in (
-                omega (arith, n.0, R.known.low),
-                subst (λ (m : List (List ℕ)). Known file c k m starts before last) (sym n.1)
-                    (known_past R.known x s (inr (omega (arith, R.known.most)))),
-                or_true more
-                    ∙ sym (ap (λ (m : List (List ℕ)). ltb (c + 65535) (length m)) n.1
-                    ∙ lt-ltb (c + 65535) (length (met ++ (x ∷ []))) (omega (arith, one_longer met x, R.known.low))),
-              )
+        -- one for which the table has no place
+        abbrev Left : Type 0
+        Left = (c + 65535 < t) × Known file c (after met x) walk.names × (true ≡ ltb (c + 65535) (length (after met x)))
+
+        pub no_place : 65535 ≤ walk.names.count → Left
+        no_place g = by (seen met x) refl
+          where
+            by : (z : Bool) → seen met x ≡ z → Left
+            by true s =
+                let n = number_seen met x named s in
+                let q : c + walk.names.count < t = past s in (
+                  omega arith,
+                  subst (λ (m : List (List ℕ)). Known file c m walk.names) (sym n.1) R.known,
+                  sym (ap (λ (m : List (List ℕ)). ltb (c + 65535) (length m)) n.1
+                      ∙ lt-ltb (c + 65535) (length met) (omega (arith, n.0, place_within met x s))),
+                )
+            by false s =
+                let n = number_new met x named s in (
+                  omega (arith, n.0, R.known.low),
+                  subst (λ (m : List (List ℕ)). Known file c m walk.names) (sym n.1) (known_past R.known x s (inr (omega (arith, R.known.most)))),
+                  sym (ap (λ (m : List (List ℕ)). ltb (c + 65535) (length m)) n.1
+                      ∙ lt-ltb (c + 65535) (length (met ++ (x ∷ []))) (omega (arith, one_longer met x, R.known.low))),
+                )

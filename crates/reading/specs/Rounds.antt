@@ -1,5 +1,5 @@
 -- A round: the names of texts behind the first c get their numbers, as many as the table holds.
-use Rattle.std.specs.Prelude.{ℕ, suc, ◌+◌, ◌-◌, ◌<◌, ◌≤◌, ◌≡◌, List, [], ◌++◌, Bool, true, false, ◌||◌, ltb, length, drop, get_or}
+use Rattle.std.specs.Prelude.{ℕ, suc, ◌+◌, ◌-◌, ◌<◌, ◌≤◌, ◌≡◌, List, [], ◌++◌, Bool, ltb, length, drop, get_or}
 use Rattle.rules.specs.Refusals.{over}
 use Rattle.rules.specs.RowBytes.{rows_bytes}
 use Rattle.file_rules.specs.PriceFile.{place_in, numbered}
@@ -7,52 +7,51 @@ use Rattle.layout.specs.Reads.{part}
 use Rattle.fields.specs.Field.{CutAt}
 use Rattle.price_line.specs.declared.PriceLine.{PriceLine}
 use Rattle.price_line.specs.Line.{LineIs}
-use Rattle.text_names.specs.Names.{name_from, Table}
-use Rattle.reading.specs.declared.rounds.Step.{Step}
+use Rattle.text_names.specs.declared.Names.{Names}
+use Rattle.text_names.specs.Hashes.{name_from}
+use Rattle.text_names.specs.Names.{Table}
+use Rattle.reading.specs.declared.rounds.Walk.{Walk}
 use Rattle.reading.specs.Rows.{rows_in, Good, records_at, met_after, Brings, Filling}
 
 -- the table holds the names that were met behind the first c, or as many of them as it can
-pub record Known (file : List ℕ) (c k : ℕ) (met : List (List ℕ)) (starts before last : List ℕ) : Type 0 where
-  pub table : Table file starts before last k
-  pub low : k ≤ length met - c
-  pub most : k ≤ 65535
-  pub all_in : k < 65535 → length met - c ≤ k
-  pub named : (i : ℕ) → i < k → name_from file (get_or starts i 0) ≡ get_or met (c + i) []
+pub record Known (file : List ℕ) (c : ℕ) (met : List (List ℕ)) (names : Names) : Type 0 where
+  pub table : Table file names
+  pub low : names.count ≤ length met - c
+  pub most : names.count ≤ 65535
+  pub all_in : names.count < 65535 → length met - c ≤ names.count
+  pub named : (i : ℕ) → i < names.count → name_from file (get_or names.starts i 0) ≡ get_or met (c + i) []
   pub firsts : (i : ℕ) → i < length met → place_in met (get_or met i []) ≡ suc i
-  pub starts_long : length starts ≡ 65535
-  pub before_long : length before ≡ 65535
+  pub starts_long : length names.starts ≡ 65535
+  pub before_long : length names.before ≡ 65535
 
 -- the lines from `at` on are left; before the first round anything stands where their records come, later these with the numbers up to c
-pub record Round (file wanted : List ℕ) (c : ℕ) (out starts before last : List ℕ) (k at to : ℕ) (more : Bool) : Type 0 where
+pub record Round (file wanted : List ℕ) (c : ℕ) (out : List ℕ) (at : ℕ) (walk : Walk) : Type 0 where
   pub met : List (List ℕ)
-  pub known : Known file c k met starts before last
+  pub known : Known file c met walk.names
   pub under : List ℕ
-  pub fill : Filling file wanted (c + 65535) out at to met under
+  pub fill : Filling file wanted (c + 65535) out at walk.to met under
   pub stands : 1 ≤ c → under ≡ records_at c met (rows_in (drop at file))
-  pub told : more ≡ ltb (c + 65535) (length met)
+  pub told : walk.more ≡ ltb (c + 65535) (length met)
   pub last_met : met_after met (rows_in (drop at file)) ≡ met_after [] (rows_in file)
   pub small : c ≤ length file
 
 -- what a line leaves of a round
-pub record Moves (file : List ℕ) (c : ℕ) (out starts before last : List ℕ) (k at to next : ℕ) (out' starts' before' last' : List ℕ)
-    (r : Step) : Type 0 where
-  pub on : (wanted : List ℕ) (more : Bool) → Round file wanted c out starts before last k at to more
-      → Round file wanted c out' starts' before' last' r.k next r.to (more || r.more)
+pub record Moves (file : List ℕ) (c : ℕ) (out : List ℕ) (walk : Walk) (at next : ℕ) (out' : List ℕ) (walk' : Walk) : Type 0 where
+  pub on : (wanted : List ℕ) → Round file wanted c out at walk → Round file wanted c out' next walk'
 
 -- a line, in a round
-pub record Ready (file : List ℕ) (c : ℕ) (out starts before last : List ℕ) (k at to : ℕ) : Type 0 where
+pub record Ready (file : List ℕ) (c : ℕ) (out : List ℕ) (walk : Walk) (at : ℕ) : Type 0 where
   pub wanted : List ℕ
-  pub more : Bool
-  pub round : Round file wanted c out starts before last k at to more
+  pub round : Round file wanted c out at walk
   pub here : at < length file
 
 -- a row whose record is to be written, of a line that ends at `end`: in the first round any, later one that waits
-pub record Due (file : List ℕ) (c : ℕ) (out starts before last : List ℕ) (k at to end : ℕ) (row : PriceLine) : Type 0 where
-  pub ready : Ready file c out starts before last k at to
+pub record Due (file : List ℕ) (c : ℕ) (out : List ℕ) (walk : Walk) (at end : ℕ) (row : PriceLine) : Type 0 where
+  pub ready : Ready file c out walk at
   pub cut : CutAt 10 file at end
   pub line : LineIs (part file at end) row
   pub brings : Brings file at (end + 1) (part file at end) row
-  pub waits : 1 ≤ c → get_or out (to + 2) 0 ≡ 0
+  pub waits : 1 ≤ c → get_or out (walk.to + 2) 0 ≡ 0
 
 -- behind the record of the row
 pub record Behind (to : ℕ) (row : PriceLine) (r : ℕ) : Type 0 where
@@ -77,14 +76,13 @@ pub record Rounded (c : ℕ) (file old new : List ℕ) (r : Bool) : Type 0 where
   pub more : r ≡ ltb (c + 65535) (length (met_after [] (rows_in file)))
   pub small : c ≤ length file
 
--- round by round, of a file whose records have room at the front
-pub record Numbering (file old out : List ℕ) (c : ℕ) (more : Bool) : Type 0 where
+-- round by round, of a file whose records have room at the front: names are left behind the first c, if not all have their numbers yet
+pub record Numbering (file old out : List ℕ) (c : ℕ) : Type 0 where
   pub good : Good file
   pub room : length (records_at 0 [] (rows_in file)) ≤ length old
   pub first : c < 1 → out ≡ old
   pub is : 1 ≤ c → out ≡ over (records_at c [] (rows_in file)) old
-  pub some_left : more ≡ true → c ≤ length (met_after [] (rows_in file))
-  pub none_left : more ≡ false → (1 ≤ c) × (length (met_after [] (rows_in file)) ≤ c)
+  pub some_left : c ≤ length (met_after [] (rows_in file))
 
 -- all have their numbers
 pub record AllNumbered (file old new : List ℕ) : Type 0 where

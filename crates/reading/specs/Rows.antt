@@ -1,6 +1,6 @@
 -- The records of a price file's rows while the names of their texts get numbers: a row that still waits for its number has kind 0, which no
 -- record has.
-use Rattle.std.specs.Prelude.{ℕ, ◌+◌, ◌≤◌, ◌≡◌, List, [], ◌∷◌, ◌++◌, true, cond, leb, length, drop, set}
+use Rattle.std.specs.Prelude.{ℕ, ◌+◌, ◌≤◌, ◌≡◌, List, [], ◌∷◌, ◌++◌, cond, leb, length, drop, set}
 use Rattle.rules.specs.Book.{Row}
 use Rattle.rules.specs.RowBytes.{row_bytes}
 use Rattle.rules.specs.PlacedRefusals.{Done, or_zero_at}
@@ -50,7 +50,6 @@ pub record Skips (file : List ℕ) (at next : ℕ) : Type 0 where
   pub is : rows_in (drop at file) ≡ rows_in (drop next file)
 
 pub record Brings (file : List ℕ) (at next : ℕ) (line : List ℕ) (r : PriceLine) : Type 0 where
-  pub row : r.good ≡ true
   pub good : Good (drop next file)
   pub is : rows_in (drop at file) ≡ row_on line r ∷ rows_in (drop next file)
 

@@ -1,9 +1,10 @@
 -- Packaging records: values and units behind the presence byte, where the names end, and the packaging.
 use Prim.Native.Nat.{ℕ, ◌+◌, ◌-◌, ◌≤◌, ◌<◌}
-use mathlib.Core.Path.{◌∙◌}
+use mathlib.Core.Path.{◌≡◌, ◌∙◌, ap}
 use mathlib.Core.List.{List, [], ◌∷◌}
 use native.Mathlib.Omega.{arith}
-use lib.ListN.{length, get_or}
+use lib.ListN.{length, take, drop, get_or}
+use lib.Seq.{drop-drop}
 use lib.IntN.{ℤ}
 use mir.Syntax.{w64}
 use mir.Val.{to_z, of_z}
@@ -11,7 +12,7 @@ use Rattle.rules.specs.Book.{PackagingRecord}
 use Rattle.rules.specs.BookLayout.{packaging_body}
 use Rattle.layout.specs.Reads.{name_stop}
 use Rattle.layout.specs.Ensures.{Number, SignedNumber}
-use Rattle.layout.proofs.LayoutLaws.{taken_are}
+use Rattle.layout.proofs.PartLaws.{take_front}
 use Rattle.kinds.specs.Fields.{signed_at, second_stop, pack_at}
 use Rattle.kinds.specs.Ensures.{Stands}
 use Rattle.kinds.proofs.PartsLaws.{packaging_parts, body_ok}
@@ -32,11 +33,17 @@ module _ (t : List ℕ) (p : ℕ) where
       → ValuesAre t p (kept a ∷ kept b ∷ kept c ∷ kept d ∷ kept e ∷ kept f ∷ kept g ∷ kept h ∷ [])
   values_are a b c d e f g h = record { is = rw (kept_is a, kept_is b, kept_is c, kept_is d, kept_is e, kept_is f, kept_is g, kept_is h) }
 
-  abbrev byte : ℕ → ℕ
-  byte k = get_or t (p + k) 0
+  -- nine bytes or more from where the units start
+  module _ {u : List ℕ} {n : ℕ} (h : 9 ≤ n) (e : u ≡ take n (drop (p + 33) t)) where
+    three : (k m : ℕ) → k ≤ 6 → p + 33 + k ≡ m → take 3 (drop k u) ≡ take 3 (drop m t)
+    three k m l i = rw e (take_front 3 k n (drop (p + 33) t) (omega arith) ∙ ap (take 3) (drop-drop k (p + 33) t) ∙ ap (λ (j : ℕ). take 3 (drop j t)) i)
 
-  pub units_are : p + 42 ≤ length t → UnitsAre t p (byte 33 ∷ byte 34 ∷ byte 35 ∷ byte 36 ∷ byte 37 ∷ byte 38 ∷ byte 39 ∷ byte 40 ∷ byte 41 ∷ [])
-  units_are h = record { is = rw (taken_are t p 3 33 (omega arith), taken_are t p 3 36 (omega arith), taken_are t p 3 39 (omega arith)) }
+    pub units_are : UnitsAre t p u
+    units_are =
+        let first : take 3 u ≡ take 3 (drop (p + 33) t) = three 0 (p + 33) (omega arith) (omega arith) in
+        let second : take 3 (drop 3 u) ≡ take 3 (drop (p + 36) t) = three 3 (p + 36) (omega arith) (omega arith) in
+        let third : take 3 (drop 6 u) ≡ take 3 (drop (p + 39) t) = three 6 (p + 39) (omega arith) (omega arith) in
+        record { is = cc }
 
 -- ---- where its names end
 module _ {t : List ℕ} (p : OfKind 4 t) where

@@ -1,40 +1,32 @@
 -- Rounding records: the way, the rounding, its number alone, and the test by the kind byte.
-use Prim.Native.Nat.{ℕ, zero, suc, ◌≤◌}
+use Prim.Native.Nat.{ℕ, ◌≤◌}
 use mathlib.Core.Path.{◌≡◌, refl, sym, ◌∙◌, ap}
-use mathlib.Core.Bool.{false≢true}
+use mathlib.Core.Bool.{Bool, true, false, false≢true}
 use mathlib.Core.List.{List}
 use mathlib.Core.Option.{Option, some, none}
 use native.Mathlib.Omega.{arith}
-use native.Mathlib.Decide.{ℕ_discrete}
 use lib.Dec.{T, eqb, leb, leb→le}
 use lib.ListN.{length, get_or}
 use lib.IntN.{ℤ}
+use borrow.Author.Tests.{ne_eqb}
 use mir.Syntax.{w64}
 use mir.Val.{to_z, of_z}
+use Rattle.std.specs.Prelude.{Some, None}
 use Rattle.rules.specs.Lists.{if_some, is_some}
 use Rattle.rules.specs.Layout.{whole}
 use Rattle.rules.specs.Book.{Record, ArticleRecord, PriceRecord, RoundingRecord, PackagingRecord, SchemeRecord, as_rounding}
 use Rattle.rules.specs.BookLayout.{kinded, rounding_body}
 use Rattle.rules.specs.declared.Rounding.{Rounding}
 use Rattle.rules.specs.declared.Way.{Way}
-use Rattle.rules.specs.declared.Way.TheVariants.{Commercial}
-use Rattle.rules.proofs.KindLaws.{rounding_kind, read_only}
 use Rattle.layout.specs.Ensures.{Number, SignedNumber, Says}
 use Rattle.kinds.specs.Fields.{kind_of, number_at, signed_at, rounding_at}
 use Rattle.kinds.specs.Ensures.{Stands}
 use Rattle.kinds.proofs.PartsLaws.{rounding_parts, record_is, body_ok}
 use Rattle.records.specs.Asks.{Accepted, OfKind}
 use Rattle.records.specs.Tests.{is_rounding, rounding_number}
-use Rattle.records.specs.Ensures.{WayIs, RoundingIs}
-use Rattle.records.proofs.FieldLaws.{kept_is, kind_byte, of_kind}
+use Rattle.records.specs.Ensures.{WayIs, RoundingIs, NumberIs}
+use Rattle.records.proofs.FieldLaws.{kept_is, kind_byte, told_kind}
 use Rattle.records.proofs.BoundLaws.{in_bounds_lem}
-
--- ---- the way
-
-pub way_commercial : (b : ℕ) → ((Unit {0}) × (b ≡ 0 → ⊥)) × (b ≡ 1 → ⊥) → WayIs b Commercial
-way_commercial zero n = absurd (n.0.1 refl)
-way_commercial (suc zero) n = absurd (n.1 refl)
-way_commercial (suc (suc b)) n = record { is = refl }
 
 -- ---- the rounding
 module _ {t : List ℕ} (p : OfKind 3 t) where
@@ -64,32 +56,6 @@ module _ {t : List ℕ} (p : OfKind 3 t) where
   rounding_is w b a n s =
       rw (kept_is b, kept_is a, w.is, n.is, s.is) (record { is = rounding_at_lem; bounds = in_bounds_lem t (RoundingRecord (rounding_at t 1)) rounding_at_lem })
 
--- ---- its number
-module _ (t : List ℕ) (p : Accepted t) where
-  pub number_none : (get_or t 0 0 ≡ 3 → ⊥) → Number (rounding_number (whole kinded t)) 65536 0
-  unfolding rounding_number
-  number_none e = record { is = go (whole kinded t) refl; below = omega arith }
-    where
-      go : (o : Option Record) → whole kinded t ≡ o → 0 ≡ rounding_number o
-      go none i = refl
-      go (some r) i = none_read (as_rounding r) refl
-        where
-          none_read : (x : Option Rounding) → as_rounding r ≡ x → 0 ≡ if_some x 0 (λ y. y.number)
-          none_read none f = refl
-          none_read (some y) f = absurd (e (kind_byte t r i ∙ ap kind_of (read_only rounding_kind r y f)))
-
-  pub number_is : {x : ℕ} → get_or t 0 0 ≡ 3 → Number (number_at 2 t 1) 65536 x → Number (rounding_number (whole kinded t)) 65536 x
-  unfolding rounding_number rounding_at
-  number_is e q = record { is = rw (rounding_at_lem (of_kind p e)) q.is; below = q.below }
-
--- a record with a number is a rounding
-pub number_kind : {t : List ℕ} {top x : ℕ} → Accepted t → Number (rounding_number (whole kinded t)) top x → (x ≡ 0 → ⊥) → OfKind 3 t
-number_kind {t} {top} {x} p q n = go (ℕ_discrete (get_or t 0 0) 3)
-  where
-    go : Dec (get_or t 0 0 ≡ 3) → OfKind 3 t
-    go (yes i) = of_kind p i
-    go (no i) = absurd (n (q.is ∙ sym (number_none t p i).is))
-
 -- ---- whether a record is one
 
 kind_three : (r : Record) → is_some (as_rounding r) ≡ eqb (kind_of r) 3
@@ -106,3 +72,42 @@ rounding_told t a = record { is = go (whole kinded t) refl }
     go : (o : Option Record) → whole kinded t ≡ o → is_rounding o ≡ eqb (get_or t 0 0) 3
     go none e = absurd (false≢true (sym (ap is_some e) ∙ a.ok))
     go (some r) e = kind_three r ∙ ap (λ (k : ℕ). eqb k 3) (sym (kind_byte t r e))
+
+-- ---- its number
+
+-- a record that is told to be a rounding is one
+pub told_rounding : {t : List ℕ} {r : Bool} → Accepted t → Says (is_rounding (whole kinded t)) r → r ≡ true → OfKind 3 t
+told_rounding {t} a s e = told_kind t 3 a s e (λ n. record { is = (rounding_told t a).is ∙ ne_eqb (get_or t 0 0) 3 n })
+
+module _ (t : List ℕ) where
+  pub number_none : {r : Bool} → Says (is_rounding (whole kinded t)) r → r ≡ false → NumberIs (whole kinded t) None
+  unfolding rounding_number is_rounding
+  number_none s e = record { is = go (whole kinded t) (s.is ∙ e); low = tt }
+    where
+      go : (o : Option Record) → is_rounding o ≡ false → 0 ≡ rounding_number o
+      go none i = refl
+      go (some r) i = none_read (as_rounding r) i
+        where
+          none_read : (x : Option Rounding) → is_some x ≡ false → 0 ≡ if_some x 0 (λ y. y.number)
+          none_read none f = refl
+          none_read (some y) f = absurd (false≢true (sym f))
+
+  pub number_some : {x : ℕ} → OfKind 3 t → Number (number_at 2 t 1) 65536 x → NumberIs (whole kinded t) (Some x)
+  unfolding rounding_number rounding_at
+  number_some p q = record {
+    is = rw (rounding_at_lem p) q.is;
+    low = omega (arith, q.is, (in_bounds_lem t (RoundingRecord (rounding_at t 1)) (rounding_at_lem p)).number_low);
+  }
+
+-- a record with a number is a rounding
+pub number_kind : {t : List ℕ} {n : ℕ} → Accepted t → NumberIs (whole kinded t) (Some n) → OfKind 3 t
+unfolding rounding_number is_rounding
+number_kind {t} {n} a q = told_rounding {r = true} a (record { is = go (whole kinded t) q.is }) refl
+  where
+    go : (o : Option Record) → n ≡ rounding_number o → is_rounding o ≡ true
+    go none e = absurd (omega (arith, q.low, e))
+    go (some r) e = some_read (as_rounding r) e
+      where
+        some_read : (x : Option Rounding) → n ≡ if_some x 0 (λ y. y.number) → is_some x ≡ true
+        some_read none f = absurd (omega (arith, q.low, f))
+        some_read (some y) f = refl

@@ -1,6 +1,6 @@
 -- What the functions of this crate ensure: what the code read is what the definitions read, and the bounds that a book's numbers have.
-use Rattle.std.specs.Prelude.{ℕ, ◌+◌, ◌≤◌, ◌≡◌, List, [], ◌∷◌, ◌++◌, true, eqb, length, take, drop, get_or, ℤ, pos, nat_abs}
-use Rattle.std.proofs.Math.Option.{some}
+use Rattle.std.specs.Prelude.{Option as Maybe, IfSome, unwrap_or, ℕ, ◌+◌, ◌≤◌, ◌≡◌, List, [], ◌∷◌, ◌++◌, true, eqb, length, take, drop, get_or, ℤ, pos, nat_abs}
+use Rattle.std.proofs.Math.Option.{Option, some}
 use Rattle.rules.specs.Lists.{any}
 use Rattle.rules.specs.Layout.{whole}
 use Rattle.rules.specs.Book.{Record, ArticleRecord, PriceRecord, RoundingRecord, PackagingRecord, SchemeRecord, Article, Row, Pack, Scheme, base, surcharge, discount, letter_of, rule_number}
@@ -15,6 +15,7 @@ use Rattle.rules.specs.declared.PriceRow.{PriceRow}
 use Rattle.rules.specs.declared.Rounding.{Rounding}
 use Rattle.rules.proofs.ListLaws.{All}
 use Rattle.kinds.specs.Fields.{signed_at, values_at}
+use Rattle.records.specs.Tests.{rounding_number}
 use Rattle.records.specs.declared.articles.ArticleParts.{ArticleParts}
 use Rattle.records.specs.declared.packagings.Packing.{Packing}
 use Rattle.records.specs.declared.schemes.SchemeParts.{SchemeParts}
@@ -111,6 +112,11 @@ pub record WayIs (b : ℕ) (r : Way) : Type 0 where
 pub record RoundingIs (t : List ℕ) (r : Rounding) : Type 0 where
   pub is : whole kinded t ≡ some (RoundingRecord r)
   pub bounds : RoundingBounds r
+
+-- `r` is the number of the record o where it is a rounding
+pub record NumberIs (o : Option Record) (r : Maybe ℕ) : Type 0 where
+  pub is : unwrap_or r 0 ≡ rounding_number o
+  pub low : IfSome r (λ n. 1 ≤ n)
 
 -- ---- packaging
 

@@ -1,3 +1,4 @@
 pub mod Asks
+pub mod Kinds
 pub mod Tests
 pub mod Ensures

@@ -7,6 +7,7 @@ ghost use Rattle.records.specs.Tests.{article_of};
 ghost use Rattle.records.specs.Ensures.{ArticleIs};
 
 use crate::fields::{name_stop, starts_with};
+use crate::kind::Kind;
 use rules::Part;
 
 #[derive(Clone, Copy)]
@@ -37,5 +38,5 @@ pub fn is_article(t: &[u8], number: &[u8]) -> bool
     requires { Accepted t.now }
     ensures { Says (article_of number.now (whole kinded t.now)) result }
 {
-    starts_with(t, 1, number)
+    starts_with(t, Kind::Article as u8, number)
 }

@@ -4,13 +4,15 @@
 
 mod articles;
 mod fields;
+mod kind;
 mod packagings;
 mod prices;
 mod roundings;
 mod schemes;
 
 pub use articles::{ArticleParts, article_of, is_article};
-pub use fields::starts_with;
+pub use fields::{bytes_of, starts_with};
+pub use kind::Kind;
 pub use packagings::{Packing, packaging_of};
 pub use prices::{is_row, row_of};
 pub use roundings::{is_rounding, rounding_number, rounding_of};

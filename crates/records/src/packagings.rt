@@ -41,17 +41,9 @@ fn units_at(t: &[u8], p: usize) -> [u8; 9]
     requires { p + 42 ≤ length t.now }
     ensures { UnitsAre t.now p result }
 {
-    [
-        t[p + 33],
-        t[p + 34],
-        t[p + 35],
-        t[p + 36],
-        t[p + 37],
-        t[p + 38],
-        t[p + 39],
-        t[p + 40],
-        t[p + 41],
-    ]
+    let mut units = [0; 9];
+    units.copy_from_slice(&t[p + 33..p + 42]);
+    units
 }
 
 // The packaging whose article's number ends at `condition`, and whose condition ends at the presence byte.

@@ -10,6 +10,7 @@ ghost use Rattle.records.specs.Tests.{is_row};
 ghost use Rattle.records.specs.Ensures.{LevelIs, RuleIs, ValueIs, RowIs};
 
 use crate::fields::{half, name_stop, starts_with, word};
+use crate::kind::Kind;
 use layout::numbers::signed_four_at;
 use rules::{Cents, Currency, Hundredths, Level, Part, PriceRow, Rule, Value};
 
@@ -17,23 +18,21 @@ fn level_of(letter: u8) -> Level
     requires { OneOf (base ∷ surcharge ∷ discount ∷ []) letter }
     ensures { LevelIs letter result }
 {
-    if letter == b'B' {
-        return Level::Base;
+    match letter {
+        b'B' => Level::Base,
+        b'X' => Level::Surcharge,
+        _ => Level::Discount,
     }
-    if letter == b'X' {
-        return Level::Surcharge;
-    }
-    Level::Discount
 }
 
 fn rule_of(number: u8) -> Rule
     requires { OneOf (1 ∷ 2 ∷ []) number }
     ensures { RuleIs number result }
 {
-    if number == 1 {
-        return Rule::OfBase;
+    match number {
+        1 => Rule::OfBase,
+        _ => Rule::OfTotal,
     }
-    Rule::OfTotal
 }
 
 // The value behind the names of a price: a flag, and four bytes with a sign.
@@ -97,7 +96,7 @@ pub fn is_row(t: &[u8], number: &[u8], sort: u8) -> bool
     requires { Accepted t.now }
     ensures { Says (is_row number.now sort (whole kinded t.now)) result }
 {
-    if !starts_with(t, 2, number) {
+    if !starts_with(t, Kind::Price as u8, number) {
         return false;
     }
     let condition = name_stop(t, 1);

@@ -1,12 +1,13 @@
 // Rounding records: the rounding by value, its number alone, and whether a record is one.
 ghost use Rattle.rules.specs.Layout.{whole};
 ghost use Rattle.rules.specs.BookLayout.{kinded};
-ghost use Rattle.layout.specs.Ensures.{Number, Says};
+ghost use Rattle.layout.specs.Ensures.{Says};
 ghost use Rattle.records.specs.Asks.{Accepted, OfKind};
-ghost use Rattle.records.specs.Tests.{is_rounding, rounding_number};
-ghost use Rattle.records.specs.Ensures.{WayIs, RoundingIs};
+ghost use Rattle.records.specs.Tests.{is_rounding};
+ghost use Rattle.records.specs.Ensures.{WayIs, RoundingIs, NumberIs};
 
 use crate::fields::{half, word};
+use crate::kind::Kind;
 use layout::numbers::signed_four_at;
 use rules::{Cents, Rounding, Way};
 
@@ -37,15 +38,15 @@ pub fn rounding_of(t: &[u8]) -> Rounding
     }
 }
 
-// The number of t where it is a rounding. No rounding has number 0: it says that t is of another kind.
-pub fn rounding_number(t: &[u8]) -> u16
+// The number of t, where it is a rounding.
+pub fn rounding_number(t: &[u8]) -> Option<u16>
     requires { Accepted t.now }
-    ensures { Number (rounding_number (whole kinded t.now)) 65536 result }
+    ensures { NumberIs (whole kinded t.now) result }
 {
-    if t[0] != 3 {
-        return 0;
+    if is_rounding(t) {
+        return Some(half(t, 1));
     }
-    half(t, 1)
+    None
 }
 
 // Whether t is a rounding, of whatever number: by its kind byte alone.
@@ -53,5 +54,5 @@ pub fn is_rounding(t: &[u8]) -> bool
     requires { Accepted t.now }
     ensures { Says (is_rounding (whole kinded t.now)) result }
 {
-    t[0] == 3
+    t[0] == u8::from(Kind::Rounding)
 }

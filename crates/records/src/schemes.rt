@@ -5,7 +5,8 @@ ghost use Rattle.records.specs.Ensures.{SchemeIs};
 use crate::fields::name_stop;
 use rules::Part;
 
-// A character 0 is not given.
+// A character 0 is not given: so the definitions `hidden_byte` and `unselected_byte` read the byte of the record.
+// As it is: visibility and trim are its bytes too, with which `SchemeIs` and the definition of a scheme have them.
 #[derive(Clone, Copy)]
 pub struct SchemeParts {
     pub id: Part,

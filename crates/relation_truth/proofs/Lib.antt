@@ -1,4 +1,3 @@
-pub mod Laws
 pub mod ValueLaws
 pub mod OrderLaws
 pub mod SignLaws

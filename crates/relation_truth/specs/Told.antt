@@ -1,20 +1,40 @@
--- Truth and order as code tells them, by a number.
-use Rattle.std.specs.Prelude.{ℕ, zero, suc, ◌≡◌}
-use Rattle.relation_rules.specs.Truth.{Truth, True, False, Undefined, Order, Below, Level, Above}
+-- Truths, orders and signs as code tells them.
+use Rattle.std.specs.Prelude.{◌≡◌, Bool}
+use Rattle.std.specs.declared.cmp.Ordering.{Ordering}
+use Rattle.std.specs.declared.cmp.Ordering.TheVariants as ordered
+use Rattle.relation_rules.specs.Grammar as Grammar
+use Rattle.relation_rules.specs.Truth as Truths
+use Rattle.relation_rules.specs.Truth.{truth_of, Order}
+use Rattle.relation_truth.specs.declared.Truth.{Truth}
+use Rattle.relation_truth.specs.declared.Truth.TheVariants.{Undefined, True, False}
+use Rattle.relation_truth.specs.declared.comparing.Sign.{Sign}
+use Rattle.relation_truth.specs.declared.comparing.Sign.TheVariants.{Below, AtMost, Equal, Unequal, AtLeast, Above}
 
-abbrev pub truth_no : ℕ → Truth
-truth_no zero = Undefined
-truth_no (suc zero) = True
-truth_no (suc (suc k)) = False
+abbrev pub truth_in : Truth → Truths.Truth
+truth_in Undefined = Truths.Undefined
+truth_in True = Truths.True
+truth_in False = Truths.False
 
-abbrev pub order_no : ℕ → Order
-order_no zero = Below
-order_no (suc zero) = Level
-order_no (suc (suc k)) = Above
+abbrev pub order_in : Ordering → Order
+order_in ordered.Less = Truths.Below
+order_in ordered.Equal = Truths.Level
+order_in ordered.Greater = Truths.Above
+
+-- a sign by one of its spellings
+abbrev pub sign_told : Sign → Grammar.Sign
+sign_told Below = Grammar.Less
+sign_told AtMost = Grammar.AtMost
+sign_told Equal = Grammar.Equal
+sign_told Unequal = Grammar.Unequal
+sign_told AtLeast = Grammar.AtLeast
+sign_told Above = Grammar.Greater
 
 -- r tells this truth
-pub record TruthIs (t : Truth) (r : ℕ) : Type 0 where
-  pub is : truth_no r ≡ t
+pub record TruthIs (t : Truths.Truth) (r : Truth) : Type 0 where
+  pub is : truth_in r ≡ t
 
-pub record OrderIs (o : Order) (r : ℕ) : Type 0 where
-  pub is : order_no r ≡ o
+pub record OrderIs (o : Order) (r : Ordering) : Type 0 where
+  pub is : order_in r ≡ o
+
+abbrev pub TruthOf : Bool → Truth → Type 0
+TruthOf b r = TruthIs (truth_of b) r

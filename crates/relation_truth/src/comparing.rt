@@ -1,57 +1,69 @@
 // Two values compared by a sign.
+ghost use Rattle.std.specs.Prelude.{MatchOption};
 ghost use Rattle.layout.specs.Ensures.{Says};
-ghost use Rattle.relation_rules.specs.Truth.{compared, holds, truth_of};
-ghost use Rattle.relation_truth.specs.Told.{TruthIs, order_no};
-ghost use Rattle.relation_truth.specs.Values.{ValueIn, constant_in, sign_no};
+ghost use Rattle.relation_rules.specs.Truth.{compared, holds};
+ghost use Rattle.relation_truth.specs.Told.{TruthIs, order_in, sign_told};
+ghost use Rattle.relation_truth.specs.Values.{NoSign, SignIs, value_in};
 
-use crate::orders::{number_order, string_order};
-use crate::values::Value;
+use crate::Truth;
+use crate::orders::text_order;
+use crate::values::Constant;
+use std::cmp::Ordering;
 
-// Whether two values in this order are as the sign says. The signs in their order: below, at most, equal, unequal, at least, above, in each
-// of their spellings; a number that is none counts as the first.
-fn sign_holds(sign: usize, order: u8) -> bool
-    ensures { Says (holds (sign_no sign) (order_no order)) result }
-{
-    if (sign < 3) | (13 < sign) {
-        return order < 1;
-    }
-    if sign < 5 {
-        return order < 2;
-    }
-    if sign < 7 {
-        return order == 1;
-    }
-    if sign < 9 {
-        return order != 1;
-    }
-    if sign < 12 {
-        return 1 <= order;
-    }
-    1 < order
+#[derive(Clone, Copy, PartialEq, Eq)]
+pub enum Sign {
+    Below,
+    AtMost,
+    Equal,
+    Unequal,
+    AtLeast,
+    Above,
 }
 
-pub fn truth_by(sign: usize, order: u8) -> u8
-    ensures { TruthIs (truth_of (holds (sign_no sign) (order_no order))) result }
-{
-    if sign_holds(sign, order) { 1 } else { 2 }
+#[tactic(auto, unfolding(relation_rules::specs::Truth::holds))]
+impl Sign {
+    // By its number among the spellings of all signs, from 1: each has two or three of them.
+    pub fn numbered(number: usize) -> Option<Sign>
+        ensures { MatchOption result (NoSign number) (SignIs number) }
+    {
+        match number {
+            1 | 2 => Some(Sign::Below),
+            3 | 4 => Some(Sign::AtMost),
+            5 | 6 => Some(Sign::Equal),
+            7 | 8 => Some(Sign::Unequal),
+            9..=11 => Some(Sign::AtLeast),
+            12 | 13 => Some(Sign::Above),
+            _ => None,
+        }
+    }
+
+    // Whether two values in this order are as the sign says.
+    pub fn holds(self, order: Ordering) -> bool
+        ensures { Says (holds (sign_told self) (order_in order)) result }
+    {
+        match self {
+            Sign::Below => order.is_lt(),
+            Sign::AtMost => order.is_le(),
+            Sign::Equal => order.is_eq(),
+            Sign::Unequal => order.is_ne(),
+            Sign::AtLeast => order.is_ge(),
+            Sign::Above => order.is_gt(),
+        }
+    }
 }
 
 // The truth of a comparison: undefined where a value is missing, and between a string and a number.
-pub fn compared_as(text: &[u8], p: &[u8], raised: bool, sign: usize, a: Value, b: Value) -> u8
-    requires value_in { ValueIn text.now p.now a }
-    requires value_in_2 { ValueIn text.now p.now b }
-    ensures { TruthIs (compared raised (sign_no sign) (constant_in text.now p.now a) (constant_in text.now p.now b)) result }
+pub fn compared_as(raised: bool, sign: Sign, a: Option<Constant>, b: Option<Constant>) -> Truth
+    ensures { TruthIs (compared raised (sign_told sign) (value_in a.entry) (value_in b.entry)) result }
 {
-    if (a.kind == 0) | (b.kind == 0) {
-        return 0;
+    let (Some(a), Some(b)) = (a, b) else {
+        return Truth::Undefined;
+    };
+    match (a, b) {
+        (Constant::Text(a), Constant::Text(b)) => {
+            Truth::from(sign.holds(text_order(a, b, raised)))
+        }
+        (Constant::Number(a), Constant::Number(b)) => Truth::from(sign.holds(a.cmp(&b))),
+        _ => Truth::Undefined,
     }
-    if (a.kind == 3) & (b.kind == 3) {
-        let order = string_order(text, p, raised, a, b);
-        return truth_by(sign, order);
-    }
-    if (a.kind == 3) | (b.kind == 3) {
-        return 0;
-    }
-    let order = number_order(a, b);
-    truth_by(sign, order)
 }

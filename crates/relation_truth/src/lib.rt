@@ -1,5 +1,4 @@
-// Truth of conditions: 0 undefined, 1 true, 2 false; joined by OR and AND, turned by NOT. And what is compared in them: the values of operands,
-// and their order.
+// Truth of conditions: joined by OR and AND, turned by NOT. And what is compared in them: the values of operands, and their order.
 #![tactic(auto)]
 
 pub mod comparing;
@@ -8,68 +7,63 @@ mod listed;
 mod orders;
 pub mod values;
 
-ghost use Rattle.relation_rules.specs.Truth.{either, together, opposite, order_of};
-ghost use Rattle.relation_truth.specs.Told.{truth_no, TruthIs, OrderIs};
+ghost use Rattle.std.specs.Prelude.{◌≡◌};
+ghost use Rattle.relation_rules.specs.Truth.{either, together, opposite, plainly};
+ghost use Rattle.relation_truth.specs.Told.{TruthOf, truth_in, TruthIs};
 
-// One that is true decides.
-pub fn either_of(a: u8, b: u8) -> u8
-    ensures { TruthIs (either (truth_no a) (truth_no b)) result }
-{
-    if a == 1 {
-        return 1;
-    }
-    if b == 1 {
-        return 1;
-    }
-    if a == 0 {
-        return 0;
-    }
-    if b == 0 {
-        return 0;
-    }
-    2
+#[derive(Clone, Copy, PartialEq, Eq)]
+pub enum Truth {
+    Undefined,
+    True,
+    False,
 }
 
-// One that is false decides.
-pub fn both_of(a: u8, b: u8) -> u8
-    ensures { TruthIs (together (truth_no a) (truth_no b)) result }
-{
-    if 1 < a {
-        return 2;
+#[tactic(auto, unfolding(relation_rules::specs::Truth::either, relation_rules::specs::Truth::together, relation_rules::specs::Truth::opposite))]
+impl Truth {
+    // One that is true decides.
+    pub fn or(self, other: Truth) -> Truth
+        ensures { TruthIs (either (truth_in self) (truth_in other)) result }
+    {
+        match (self, other) {
+            (Truth::True, _) | (_, Truth::True) => Truth::True,
+            (Truth::False, Truth::False) => Truth::False,
+            _ => Truth::Undefined,
+        }
     }
-    if 1 < b {
-        return 2;
+
+    // One that is false decides.
+    pub fn and(self, other: Truth) -> Truth
+        ensures { TruthIs (together (truth_in self) (truth_in other)) result }
+    {
+        match (self, other) {
+            (Truth::False, _) | (_, Truth::False) => Truth::False,
+            (Truth::True, Truth::True) => Truth::True,
+            _ => Truth::Undefined,
+        }
     }
-    if a == 0 {
-        return 0;
+
+    pub fn not(self) -> Truth
+        ensures { TruthIs (opposite (truth_in self)) result }
+    {
+        match self {
+            Truth::True => Truth::False,
+            Truth::False => Truth::True,
+            Truth::Undefined => Truth::Undefined,
+        }
     }
-    if b == 0 {
-        return 0;
+
+    // Plainly true: neither false nor undefined.
+    pub fn is_true(self) -> bool
+        ensures { result ≡ plainly (truth_in self) }
+    {
+        matches!(self, Truth::True)
     }
-    1
 }
 
-pub fn opposite_of(a: u8) -> u8
-    ensures { TruthIs (opposite (truth_no a)) result }
-{
-    if a == 1 {
-        return 2;
-    }
-    if a != 0 {
-        return 1;
-    }
-    0
-}
+impl From<bool> for Truth {
+    ghost from_gives = { TruthOf };
 
-// 0 below, 1 level, 2 above.
-fn order_of(a: usize, b: usize) -> u8
-    ensures { OrderIs (order_of a b) result }
-{
-    if a < b {
-        return 0;
+    fn from(so: bool) -> Truth {
+        if so { Truth::True } else { Truth::False }
     }
-    if a == b {
-        return 1;
-    }
-    2
 }

@@ -1,11 +1,10 @@
 pub mod PartLaws
-pub mod ByteLaws
 pub mod WordLaws
 pub mod ReadLaws
 pub mod CapitalLaws
+pub mod StretchLaws
 pub mod RunLaws
 pub mod DigitLaws
-pub mod HeardLaws
 pub mod EndLaws
+pub mod HeardLaws
 pub mod TokenLaws
-pub mod NothingLaws

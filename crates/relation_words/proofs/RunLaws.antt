@@ -5,23 +5,22 @@ use mathlib.Core.Bool.{Bool, true, false, not, ◌&&◌, ◌||◌, cond, false�
 use mathlib.Core.List.{List, [], ◌∷◌, map}
 use native.Mathlib.Omega.{arith}
 use native.Mathlib.Numerals.{add-one}
-use lib.Dec.{eqb, leb}
+use lib.Dec.{eqb, leb, ltb}
 use lib.ListN.{length, get_or}
-use borrow.Author.Tests.{eqb-true, eq-eqb, ne_eqb}
-use Rattle.rules.specs.Lists.{all, any, is_some}
+use borrow.Author.Tests.{eqb-true, eqb-false, ltb-true, ltb-false}
+use Rattle.rules.specs.Lists.{all, any, same, is_some}
 use Rattle.rules.specs.Letters.{letter}
 use Rattle.relation_rules.specs.Grammar.{capital, is_blank, is_letter, is_digit, is_quote, minus, word_byte, sign_byte, figures, Sort, Word, Figure, String, Dollar, Compare, Mark, sort_of, reaches, goes_on, in_quotes}
-use Rattle.relation_rules.specs.Reader.{begins, word_begins, quote_begins, figure_begins}
-use Rattle.rules.proofs.TestLaws.{both, so, not_so, or_false, and_false}
-use Rattle.rules.proofs.ListLaws.{all_append}
+use Rattle.relation_rules.specs.Reader.{begins, behind, word_begins, quote_begins, figure_begins}
+use Rattle.rules.proofs.TestLaws.{both, so, or_false, and_false}
 use Rattle.relation_rules.proofs.TokenLaws.{or_left, or_right, member}
 use Rattle.layout.specs.Reads.{part}
-use Rattle.layout.specs.Ensures.{Says, Number}
-use Rattle.relation_words.specs.Words.{Stretch}
-use Rattle.relation_words.specs.Wanted.{Wanted, fits_wanted, Begun}
-use Rattle.relation_words.specs.Heard.{Reaches, WordRun, QuoteRun, OnlyWords, WordsRun, first_digit, start_of}
-use Rattle.relation_words.proofs.PartLaws.{part_none, part_more, part_cons}
-use Rattle.relation_words.proofs.ReadLaws.{begun_first, begun_on, stop_first, stop_inside, apart_at, apart_end}
+use Rattle.layout.specs.Ensures.{Says}
+use Rattle.relation_words.specs.Wanted.{Wanted, fits_wanted, Begun, StopsHere}
+use Rattle.relation_words.specs.Heard.{Reaches, TokenRun, WordRun, QuoteRun, OnlyWords, NoWordAt, WordStops}
+use Rattle.relation_words.proofs.PartLaws.{part_cons}
+use Rattle.relation_words.proofs.ReadLaws.{stop_first, stop_inside, stop_behind, behind_none}
+use Rattle.relation_words.proofs.StretchLaws.{StretchTo, all_to, apart_to, one_part, goes_part, begun_to}
 
 -- ---- sorts
 
@@ -102,117 +101,71 @@ figure_fits w l e f =
     let x = any (begins (map capital l)) w.words in
     or_right (x || (w.name && word_begins l) || (w.quoted && quote_begins l)) (w.whole && figure_begins l) (both w.whole (figure_begins l) e f)
 
-pub all_more : (p : ℕ → Bool) (s : List ℕ) (at i : ℕ) → at ≤ i → i < length s → all p (part s at i) ≡ true → p (get_or s i 0) ≡ true → all p (part s at (suc i)) ≡ true
-all_more p s at i h l e f =
-    ap (all p) (part_more s at i h l)
-    ∙ all_append p (part s at i) (get_or s i 0 ∷ [])
-    ∙ both (all p (part s at i)) (p (get_or s i 0) && true) e (both (p (get_or s i 0)) true f refl)
+module _ {s : List ℕ} {at r : ℕ} (k : StretchTo word_byte s (suc at) r) (n : r < length s → Says (word_byte (get_or s r 0)) false) where
+  word_goes : (i c : ℕ) → at < i → i ≤ length s → is_letter (get_or s at 0) ≡ true → goes_on (part s at i) c ≡ word_byte c
+  word_goes i c h l f = goes_part s at i c h l ∙ goes_sort (get_or s at 0) c Word (letter_sort (get_or s at 0) f) (part s (suc at) i)
 
-pub record Wording (s : List ℕ) (at i : ℕ) : Type 0 where
-  pub on : at < i
-  pub most : i ≤ length s
-  pub letters : all word_byte (part s (suc at) i) ≡ true
-  pub begun : (w : Wanted) → w.name ≡ true → is_letter (get_or s at 0) ≡ true → Begun w s at i
-
-pub word_start : {s : List ℕ} {at : ℕ} → at < length s → Wording s at (at + 1)
-word_start {s} {at} l =
-    subst (Wording s at) (sym (add-one at))
-    (record {
-      on = omega arith;
-      most = l;
-      letters = ap (all word_byte) (part_none s (suc at));
-      begun =
-          λ w e f. begun_first l (letter_blank (get_or s at 0) f) (name_fits w (get_or s at 0 ∷ []) e (both (is_letter (get_or s at 0)) true f refl));
-    })
-
-module _ {s : List ℕ} {at i : ℕ} (g : Wording s at i) where
-  word_goes : (c : ℕ) → is_letter (get_or s at 0) ≡ true → goes_on (part s at i) c ≡ word_byte c
-  word_goes c f = ap (λ z. goes_on z c) (part_cons s at i g.on g.most) ∙ goes_sort (get_or s at 0) c Word (letter_sort (get_or s at 0) f) (part s (suc at) i)
-
-  pub word_on : {x : Bool} → i < length s → Says (word_byte (get_or s i 0)) x → not x ≡ false → Wording s at (i + 1)
-  word_on {x} l h e =
-      let on : at < i = g.on in
-      let m : all word_byte (part s (suc at) (suc i)) ≡ true = all_more word_byte s (suc at) i on l g.letters (h.is ∙ so x e) in
-      let k : at < suc i = omega arith in
-      subst (Wording s at) (sym (add-one i))
-      (record {
-        on = k;
-        most = l;
-        letters = m;
-        begun =
-            λ w n f.
-            begun_on (g.begun w n f) l (word_goes (get_or s i 0) f ∙ h.is ∙ so x e)
-            (name_fits w (part s at (suc i)) n
-            (ap word_begins (part_cons s at (suc i) k l) ∙ both (is_letter (get_or s at 0)) (all word_byte (part s (suc at) (suc i))) f m));
-      })
-
-  pub word_stop : {x : Bool} → i < length s → Says (word_byte (get_or s i 0)) x → not x ≡ true → WordRun s at i
-  word_stop {x} l h e =
+  pub word_run : WordRun s at r
+  word_run =
       record {
-        on = g.on;
-        most = g.most;
-        letters = g.letters;
-        alone = λ f. apart_at (part s at i) s i l (word_goes (get_or s i 0) f ∙ h.is ∙ not_so x e);
-        begun = g.begun;
+        on = k.on;
+        most = k.most;
+        letters = all_to k r k.on (omega arith);
+        alone = λ f. apart_to (part s at r) s r (λ h. word_goes r (get_or s r 0) k.on k.most f ∙ (n h).is);
+        begun =
+            λ w o f.
+            begun_to k.on k.most (letter_blank (get_or s at 0) f)
+            (λ i (h : at < i) (l : i < r). let m : r ≤ length s = k.most in word_goes i (get_or s i 0) h (omega arith) f ∙ k.passes i h l)
+            (λ i (h : at < i) (l : i ≤ r).
+            let m : r ≤ length s = k.most in
+            let l' : i ≤ length s = omega arith in
+            name_fits w (part s at i) o (ap word_begins (part_cons s at i h l') ∙ both (is_letter (get_or s at 0)) (all word_byte (part s (suc at) i)) f (all_to k i h l)));
       }
-
-  pub word_over : length s ≤ i → WordRun s at i
-  word_over h = record { on = g.on; most = g.most; letters = g.letters; alone = λ f. apart_end (part s at i) s i h; begun = g.begun }
 
 -- ---- a string
 
 quote_blank : (b : ℕ) → is_quote b ≡ true → is_blank b ≡ false
 quote_blank b e = ap is_blank (eqb-true b 39 e)
 
-abbrev plain : ℕ → Bool
-plain c = not (is_quote c)
-
-pub record Quoting (s : List ℕ) (at i : ℕ) : Type 0 where
-  pub on : at < i
-  pub most : i ≤ length s
-  pub plain : all (λ c. not (is_quote c)) (part s (suc at) i) ≡ true
-  pub begun : (w : Wanted) → w.quoted ≡ true → is_quote (get_or s at 0) ≡ true → Begun w s at i
-
 quote_begins_lem : (b : ℕ) (l : List ℕ) → is_quote b ≡ true → all (λ c. not (is_quote c)) l ≡ true → quote_begins (b ∷ l) ≡ true
 quote_begins_lem b l e f =
     both (is_quote b) _ e (or_left (all (λ c. not (is_quote c)) l) _ f)
 
-pub quote_start : {s : List ℕ} {at : ℕ} → at < length s → Quoting s at (at + 1)
-quote_start {s} {at} l =
-    subst (Quoting s at) (sym (add-one at))
-    (record {
-      on = omega arith;
-      most = l;
-      plain = ap (all (λ c. not (is_quote c))) (part_none s (suc at));
-      begun = λ w e f. begun_first l (quote_blank (get_or s at 0) f) (quote_fits w (get_or s at 0 ∷ []) e (quote_begins_lem (get_or s at 0) [] f refl));
-    })
+pub quote_run : {s : List ℕ} {at r : ℕ} → StretchTo (λ c. not (is_quote c)) s (suc at) r → (r < length s → Says (not (is_quote (get_or s r 0))) false) → QuoteRun s at r
+quote_run {s} {at} {r} k n =
+    record {
+      on = k.on;
+      most = k.most;
+      plain = all_to k r k.on (omega arith);
+      stop = λ h. so (is_quote (get_or s r 0)) (n h).is;
+      begun =
+          λ w e f.
+          begun_to k.on k.most (quote_blank (get_or s at 0) f)
+          (λ i (h : at < i) (l : i < r).
+          let m : r ≤ length s = k.most in
+          goes_part s at i (get_or s i 0) h (omega arith) ∙ goes_sort (get_or s at 0) (get_or s i 0) String (quote_sort (get_or s at 0) f) (part s (suc at) i) ∙ all_to k i h (omega arith))
+          (λ i (h : at < i) (l : i ≤ r).
+          let m : r ≤ length s = k.most in
+          let o : i ≤ length s = omega arith in
+          quote_fits w (part s at i) e (ap quote_begins (part_cons s at i h o) ∙ quote_begins_lem (get_or s at 0) (part s (suc at) i) f (all_to k i h l)));
+    }
 
-module _ {s : List ℕ} {at i : ℕ} (g : Quoting s at i) where
-  pub quote_on : i < length s → (get_or s i 0 ≡ 39 → ⊥) → Quoting s at (i + 1)
-  quote_on l n =
-      let on : at < i = g.on in
-      let p : not (is_quote (get_or s i 0)) ≡ true = ap not (ne_eqb (get_or s i 0) 39 n) in
-      let m : all (λ c. not (is_quote c)) (part s (suc at) (suc i)) ≡ true = all_more (λ c. not (is_quote c)) s (suc at) i on l g.plain p in
-      let k : at < suc i = omega arith in
-      subst (Quoting s at) (sym (add-one i))
-      (record {
-        on = k;
-        most = l;
-        plain = m;
-        begun =
-            λ w e f.
-            begun_on (g.begun w e f) l
-            (ap (λ z. goes_on z (get_or s i 0)) (part_cons s at i g.on g.most)
-            ∙ goes_sort (get_or s at 0) (get_or s i 0) String (quote_sort (get_or s at 0) f) (part s (suc at) i)
-            ∙ g.plain)
-            (quote_fits w (part s at (suc i)) e (ap quote_begins (part_cons s at (suc i) k l) ∙ quote_begins_lem (get_or s at 0) (part s (suc at) (suc i)) f m));
-      })
+-- ---- a token that is no string
 
-  pub quote_stop : i < length s → get_or s i 0 ≡ 39 → QuoteRun s at i
-  quote_stop l e = record { on = g.on; most = g.most; plain = g.plain; stop = λ h. eq-eqb (get_or s i 0) 39 e; begun = g.begun }
-
-  pub quote_over : length s ≤ i → QuoteRun s at i
-  quote_over h = record { on = g.on; most = g.most; plain = g.plain; stop = λ (l : i < length s). absurd (omega arith); begun = g.begun }
+pub token_run : {s : List ℕ} {at r : ℕ} → at + 1 ≤ r → r ≤ length s → ((i : ℕ) → at + 1 + i < r → Reaches (get_or s at 0) (get_or s (at + 1 + i) 0) true)
+    → (r < length s → Reaches (get_or s at 0) (get_or s r 0) false) → TokenRun s at r
+token_run {s} {at} {r} a b f g =
+    let on : at < r = omega arith in
+    record {
+      on = on;
+      most = b;
+      goes =
+          λ q i (h : at < i) (l : i < r).
+          let e : at + 1 + (i - (at + 1)) ≡ i = omega arith in
+          let m : Reaches (get_or s at 0) (get_or s i 0) true = subst (λ n. Reaches (get_or s at 0) (get_or s n 0) true) e (f (i - (at + 1)) (omega arith)) in
+          goes_part s at i (get_or s i 0) h (omega arith) ∙ m.is q (part s (suc at) i);
+      alone = λ q. apart_to (part s at r) s r (λ h. goes_part s at r (get_or s r 0) on b ∙ (g h).is q (part s (suc at) r));
+    }
 
 -- ---- words of a list
 
@@ -246,17 +199,6 @@ words_fit : (w : Wanted) (b : ℕ) (l : List ℕ) → OnlyWords w b → fits_wan
 words_fit w b l p =
     only_words w b l p.no_name (ap (λ z. w.quoted && z) p.no_quote ∙ and_false w.quoted) (ap (λ z. w.whole && z) p.no_figure ∙ and_false w.whole)
 
-pub record Running (words : List (List ℕ)) (s : List ℕ) (at i : ℕ) : Type 0 where
-  pub on : at < i
-  pub most : i ≤ length s
-  pub begun : (w : Wanted) → w.words ≡ words → OnlyWords w (get_or s at 0) → Begun w s at i
-
-pub one_byte : {s : List ℕ} {at : ℕ} → at < length s → Stretch s at (at + 1)
-one_byte l = record { on = omega arith; most = omega arith }
-
-pub more_bytes : {words : List (List ℕ)} {s : List ℕ} {at i : ℕ} → Running words s at i → i < length s → Stretch s at (i + 1)
-more_bytes g l = let on = g.on in record { on = omega arith; most = omega arith }
-
 module _ (words : List (List ℕ)) (s : List ℕ) (at : ℕ) where
   fits_as : (w : Wanted) (i : ℕ) → at < i → i ≤ length s → w.words ≡ words → OnlyWords w (get_or s at 0)
       → fits_wanted w (part s at i) ≡ any (begins (map capital (part s at i))) words
@@ -265,113 +207,72 @@ module _ (words : List (List ℕ)) (s : List ℕ) (at : ℕ) where
       ∙ words_fit w (get_or s at 0) (part s (suc at) i) p
       ∙ (λ j. any (begins (map capital (sym (part_cons s at i l h) j))) (e j))
 
-pub one_part : (s : List ℕ) (at : ℕ) → at < length s → part s at (suc at) ≡ get_or s at 0 ∷ []
-one_part s at l = part_cons s at (suc at) (omega arith) l ∙ ap (λ z. get_or s at 0 ∷ z) (part_none s (suc at))
+-- ---- a token that is no word of the list, read byte by byte
 
-module _ {words : List (List ℕ)} {s : List ℕ} {at : ℕ} where
-  pub run_start : {x : Bool} → at < length s → Says (any (begins (map capital (part s at (at + 1)))) words) x → not x ≡ false → Running words s at (at + 1)
-  run_start {x} l h e =
-      subst (Running words s at) (sym (add-one at))
-      (record {
-        on = omega arith;
-        most = l;
-        begun =
-            λ w f p.
-            begun_first l p.no_blank
-            (ap (fits_wanted w) (sym (one_part s at l)) ∙ fits_as words s at w (suc at) (omega arith) l f p
-            ∙ ap (λ z. any (begins (map capital (part s at z))) words) (sym (add-one at)) ∙ h.is ∙ so x e);
-      })
+-- a word of the list begins with each part of it up to i
+pub record WordGoes (words : List (List ℕ)) (s : List ℕ) (at i : ℕ) : Type 0 where
+  pub goes : (k : ℕ) → at < k → k ≤ i → any (begins (map capital (part s at k))) words ≡ true
 
-  pub run_none : {x : Bool} → at < length s → Says (any (begins (map capital (part s at (at + 1)))) words) x → not x ≡ true → WordsRun words s at at false
-  run_none {x} l h e =
+pub goes_more : {words : List (List ℕ)} {s : List ℕ} {at i : ℕ} → WordGoes words s at i → any (begins (map capital (part s at (i + 1)))) words ≡ true → WordGoes words s at (i + 1)
+goes_more {words} {s} {at} {i} g e = record { goes = λ k (h : at < k) (l : k ≤ i + 1). go k h l (eqb k (i + 1)) refl }
+  where
+    go : (k : ℕ) → at < k → k ≤ i + 1 → (x : Bool) → eqb k (i + 1) ≡ x → any (begins (map capital (part s at k))) words ≡ true
+    go k h l true f = ap (λ z. any (begins (map capital (part s at z))) words) (eqb-true k (i + 1) f) ∙ e
+    go k h l false f = let n : k ≡ i + 1 → ⊥ = eqb-false k (i + 1) f in g.goes k h (omega arith)
+
+module _ {words : List (List ℕ)} {s : List ℕ} {at to : ℕ} (o : NoWordAt words s at to) where
+  begun_word : {w : Wanted} {i : ℕ} → w.words ≡ words → OnlyWords w (get_or s at 0) → at < i → i ≤ to → WordGoes words s at i → Begun w s at i
+  begun_word {w} {i} e p h l g =
+      let most : to ≤ length s = o.run.most in
+      begun_to h (omega arith) p.no_blank (λ j (a : at < j) (b : j < i). o.run.goes p.no_quote j a (omega arith))
+      (λ j (a : at < j) (b : j ≤ i). fits_as words s at w j a (omega arith) e p ∙ g.goes j a b)
+
+  pub stops_on : {i : ℕ} → at ≤ i → i < to → WordGoes words s at i → any (begins (map capital (part s at (i + 1)))) words ≡ false → WordStops words s at i
+  stops_on {i} h l g e =
+      let most : to ≤ length s = o.run.most in
+      let m : i < length s = omega arith in
+      let k : at < suc i = omega arith in
+      let unfit : (w : Wanted) → w.words ≡ words → OnlyWords w (get_or s at 0) → fits_wanted w (part s at (suc i)) ≡ false
+      = λ w f p. fits_as words s at w (suc i) k m f p ∙ ap (λ z. any (begins (map capital (part s at z))) words) (sym (add-one i)) ∙ e
+      in
+      record { on = h; most = omega arith; wrong = λ w f p. go w f p unfit (ltb at i) refl }
+    where
+      go : (w : Wanted) → w.words ≡ words → OnlyWords w (get_or s at 0) → ((w : Wanted) → w.words ≡ words → OnlyWords w (get_or s at 0) → fits_wanted w (part s at (suc i)) ≡ false)
+          → (x : Bool) → ltb at i ≡ x → StopsHere w s at (suc i)
+      go w f p unfit true y =
+          let most : to ≤ length s = o.run.most in
+          let a : at < i = ltb-true at i y in
+          stop_inside (begun_word f p a (omega arith) g) (omega arith) (o.run.goes p.no_quote i a l) (unfit w f p)
+      go w f p unfit false y =
+          let most : to ≤ length s = o.run.most in
+          let b : i ≤ at = ltb-false at i y in
+          let is : i ≡ at = omega arith in
+          let m : at < length s = omega arith in
+          subst (λ n. StopsHere w s at (suc n)) (sym is)
+          (stop_first m p.no_blank (ap (fits_wanted w) (sym (one_part s at m)) ∙ subst (λ n. fits_wanted w (part s at (suc n)) ≡ false) is (unfit w f p)))
+
+  pub stops_end : {i : ℕ} → to ≤ i → WordGoes words s at i → WordStops words s at to
+  stops_end {i} m h =
+      let on : at < to = o.run.on in
+      let g : WordGoes words s at to = record { goes = λ k (a : at < k) (b : k ≤ to). h.goes k a (omega arith) } in
       record {
         on = omega arith;
-        most = omega arith;
+        most = o.run.most;
         wrong =
-            λ _ w f p.
-            stop_first l p.no_blank
-            (ap (fits_wanted w) (sym (one_part s at l)) ∙ fits_as words s at w (suc at) (omega arith) l f p
-            ∙ ap (λ z. any (begins (map capital (part s at z))) words) (sym (add-one at)) ∙ h.is ∙ not_so x e);
-        begun = λ f. absurd (false≢true f);
-        alone = λ f. absurd (false≢true f);
-        further = λ f. absurd (false≢true f);
+            λ w f p.
+            stop_behind (begun_word f p on (omega arith) g) (o.run.alone p.no_quote)
+            (λ q i.
+            ap (behind q (suc at)) (part_cons s at to on o.run.most)
+            ∙ behind_none w q (suc at) (get_or s at 0) (part s (suc at) to) i
+            ((λ y. any (same (map capital (sym (part_cons s at to on o.run.most) y))) (f y)) ∙ o.none)
+            (λ a _. no_name w p.no_name a)
+            (λ a. absurd (false≢true (sym p.no_quote ∙ a)))
+            (λ a. absurd (false≢true (sym p.no_figure ∙ a))));
       }
-
-  module _ {i : ℕ} (g : Running words s at i) where
-    run_goes : {y : Bool} → Reaches (get_or s at 0) (get_or s i 0) y → is_quote (get_or s at 0) ≡ false → goes_on (part s at i) (get_or s i 0) ≡ y
-    run_goes r q = ap (λ z. goes_on z (get_or s i 0)) (part_cons s at i g.on g.most) ∙ r.is q (part s (suc at) i)
-
-    pub run_ended : {y : Bool} → i < length s → Reaches (get_or s at 0) (get_or s i 0) y → not y ≡ true → WordsRun words s at i true
-    run_ended {y} l r e =
-        let on : at < i = g.on in
-        record {
-          on = omega arith;
-          most = g.most;
-          wrong = λ f. absurd (false≢true (sym f));
-          begun = λ _ w f p. g.begun w f p;
-          alone = λ _ q. apart_at (part s at i) s i l (run_goes r q ∙ not_so y e);
-          further = λ _. g.on;
-        }
-
-    pub run_over : length s ≤ i → WordsRun words s at i true
-    run_over h =
-        let on : at < i = g.on in
-        record {
-          on = omega arith;
-          most = g.most;
-          wrong = λ f. absurd (false≢true (sym f));
-          begun = λ _ w f p. g.begun w f p;
-          alone = λ _ q. apart_end (part s at i) s i h;
-          further = λ _. g.on;
-        }
-
-    module _ {x y : Bool} (l : i < length s) (r : Reaches (get_or s at 0) (get_or s i 0) y) (e : not y ≡ false)
-        (h : Says (any (begins (map capital (part s at (i + 1)))) words) x) where
-      pub run_on : not x ≡ false → Running words s at (i + 1)
-      run_on f =
-          let on : at < i = g.on in
-          let k : at < suc i = omega arith in
-          subst (Running words s at) (sym (add-one i))
-          (record {
-            on = k;
-            most = l;
-            begun =
-                λ w j p.
-                begun_on (g.begun w j p) l (run_goes r p.no_quote ∙ so y e)
-                (fits_as words s at w (suc i) k l j p ∙ ap (λ z. any (begins (map capital (part s at z))) words) (sym (add-one i)) ∙ h.is ∙ so x f);
-          })
-
-      pub run_wrong : not x ≡ true → WordsRun words s at i false
-      run_wrong f =
-          let on : at < i = g.on in
-          let k : at < suc i = omega arith in
-          record {
-            on = omega arith;
-            most = g.most;
-            wrong =
-                λ _ w j p.
-                stop_inside (g.begun w j p) l (run_goes r p.no_quote ∙ so y e)
-                (fits_as words s at w (suc i) k l j p ∙ ap (λ z. any (begins (map capital (part s at z))) words) (sym (add-one i)) ∙ h.is ∙ not_so x f);
-            begun = λ j. absurd (false≢true j);
-            alone = λ j. absurd (false≢true j);
-            further = λ j. absurd (false≢true j);
-          }
-
--- ---- the first byte of a number
-
-pub first_minus : {b at : ℕ} → at < 9223372036854775808 → b ≡ 45 → Number (first_digit b at) 9223372036854775809 (at + 1)
-first_minus {b} {at} l e = record { is = add-one at ∙ ap (λ z. cond z (suc at) at) (sym (eq-eqb b 45 e)); below = omega arith }
-
-pub first_digit_lem : {b at : ℕ} → at < 9223372036854775808 → (b ≡ 45 → ⊥) → Number (first_digit b at) 9223372036854775809 at
-first_digit_lem {b} {at} l e = record { is = ap (λ z. cond z (suc at) at) (sym (ne_eqb b 45 e)); below = omega arith }
-
-pub start_minus : {b : ℕ} → b ≡ 45 → Number (start_of b) 256 0
-start_minus {b} e = record { is = ap (λ z. cond z 0 (b - 48)) (sym (eq-eqb b 45 e)); below = omega arith }
-
-pub start_low : {b : ℕ} → (b ≡ 45 → ⊥) → b < 48 → Number (start_of b) 256 0
-start_low {b} e l =
-    let z : 0 ≡ b - 48 = omega arith in
-    record { is = z ∙ ap (λ z. cond z 0 (b - 48)) (sym (ne_eqb b 45 e)); below = omega arith }
-
-pub start_digit : {b : ℕ} → (b ≡ 45 → ⊥) → b < 256 → Number (start_of b) 256 (b - 48)
-start_digit {b} e l = record { is = ap (λ z. cond z 0 (b - 48)) (sym (ne_eqb b 45 e)); below = omega arith }
+    where
+      no_name : (w : Wanted) → (w.name && is_letter (get_or s at 0)) ≡ false → is_letter (get_or s at 0) ≡ true → w.name ≡ false
+      no_name w h a = go w.name (ap (λ z. w.name && z) (sym a) ∙ h)
+        where
+          go : (y : Bool) → (y && true) ≡ false → y ≡ false
+          go true i = i
+          go false i = refl

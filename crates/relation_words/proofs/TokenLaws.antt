@@ -1,5 +1,5 @@
 -- Strings and numbers heard, and any token by its first byte, at a byte or behind blanks.
-use Prim.Native.Nat.{ℕ, suc, ◌+◌, ◌*◌, ◌-◌, ◌≤◌, ◌<◌}
+use Prim.Native.Nat.{ℕ, suc, ◌+◌, ◌-◌, ◌≤◌, ◌<◌, min}
 use mathlib.Core.Path.{◌≡◌, refl, sym, ◌∙◌, ap, subst}
 use mathlib.Core.Bool.{Bool, true, false, not, ◌&&◌, ◌||◌, cond, false≢true}
 use mathlib.Core.List.{List, [], ◌∷◌, ◌++◌}
@@ -8,27 +8,33 @@ use native.Mathlib.Omega.{arith}
 use native.Mathlib.Numerals.{add-one}
 use lib.Dec.{eqb, leb}
 use lib.IntN.{pos, neg_ℤ}
-use lib.ListN.{length, drop, get_or, drop_of_length-le}
-use borrow.Author.Tests.{le-leb, lt-leb, eqb-true, eqb-false}
+use lib.ListN.{length, take, drop, get_or, drop_of_length-le}
+use borrow.Author.Tests.{le-leb, lt-leb, eqb-true}
+use Rattle.std.specs.Prelude.{Result, Ok, Err}
 use Rattle.rules.specs.Lists.{all, is_some, if_some}
+use Rattle.std.proofs.lemmas.List.{length-take, get_or-take}
 use Rattle.rules.specs.Letters.{letter}
-use Rattle.relation_rules.specs.Grammar.{Token, Name, Quoted, Whole, capital, is_blank, is_letter, is_digit, is_quote, minus, Figure, String, giving, decimal, figures, some_figures, figure_token, or_else, nothing_in, after, in_quotes, quoted_token, token_in, token_of, goes_on, apart, past}
+use Rattle.relation_rules.specs.Grammar.{Token, Quoted, Whole, is_letter, is_digit, is_quote, minus, word_byte, String, giving, decimal, figures, some_figures, figure_token, or_else, nothing_in, after, in_quotes, quoted_token, token_in, token_of, goes_on, apart, past}
 use Rattle.relation_rules.specs.Reader.{State, figure_begins, then_take, behind, Between, run}
 use Rattle.relation_rules.specs.Parts.{TokenAt}
 use Rattle.rules.proofs.TestLaws.{and_left, and_right, both, not_so, and_false}
 use Rattle.rules.proofs.ListLaws.{all_append}
 use Rattle.relation_rules.proofs.MoveLaws.{gap_read, stops_cut}
 use Rattle.layout.specs.Reads.{part}
-use Rattle.layout.specs.Ensures.{Says}
+use Rattle.layout.specs.Ensures.{Says, Number}
+use Rattle.relation_words.specs.declared.tokens.Kind.TheVariants.{Quoted as AString, Figure}
+use Rattle.relation_words.specs.declared.tokens.Token.{Token as Found}
+use Rattle.relation_words.specs.declared.tokens.Stop.{Stop}
 use Rattle.relation_words.specs.Words.{Gap}
 use Rattle.relation_words.specs.Wanted.{Wanted, fits_wanted, plain_words, StopsHere, TokenHere, Stops}
-use Rattle.relation_words.specs.Heard.{whole_of, first_digit, start_of, ByteAt, Heard, HeardOn, QuoteRun, FigureAt, DigitsRun, WordHeard, NameHeard, StringHeard, NumberHeard}
+use Rattle.relation_words.specs.Heard.{whole_of, first_digit, ByteAt, Heard, HeardOn, TokenHeardOn, QuoteRun, FigureAt, StringHeard, NumberHeard}
 use Rattle.relation_words.proofs.PartLaws.{part_none, part_more, part_cons, part_length, part_rest, past_part}
 use Rattle.relation_words.proofs.CapitalLaws.{other_capital}
 use Rattle.relation_words.proofs.ReadLaws.{stop_inside, stop_behind, apart_end}
+use Rattle.relation_words.proofs.StretchLaws.{StretchTo, all_to, apart_to}
 use Rattle.relation_words.proofs.RunLaws.{figure_sort, quote_sort, goes_sort}
-use Rattle.relation_words.proofs.DigitLaws.{figure_letter, digit_not_minus}
-use Rattle.relation_words.proofs.HeardLaws.{heard_wrong, heard_quoted, heard_whole, plain_none, differ}
+use Rattle.relation_words.proofs.DigitLaws.{figure_letter, digit_not_minus, figure_goes, begun_figures}
+use Rattle.relation_words.proofs.HeardLaws.{heard_wrong, heard_quoted, heard_whole, plain_none}
 
 -- ---- a string
 
@@ -50,7 +56,7 @@ module _ {s : List ℕ} {at r : ℕ} (e : Says (is_quote (get_or s at 0)) true) 
   quote_ahead : at ≤ r
   quote_ahead = let on : at < r = g.on in omega arith
 
-  pub string_cut : length s ≤ r → StringHeard s at 0 0 at r false 0
+  pub string_cut : length s ≤ r → StringHeard s at (Err (record { at = r }))
   unfolding behind token_of
   string_cut h =
       record {
@@ -64,10 +70,10 @@ module _ {s : List ℕ} {at r : ℕ} (e : Says (is_quote (get_or s at 0)) true) 
             ∙ ap (λ z. then_take q (quoted_token z)) (open_none (part s (suc at) r) g.plain)));
       }
 
-  pub string_whole : r < length s → StringHeard s at 3 0 at (r + 1) false 0
+  pub string_whole : r < length s → StringHeard s at (Ok (record { kind = AString; from = at; to = r + 1 }))
   unfolding token_of
   string_whole l =
-      subst (λ z. StringHeard s at 3 0 at z false 0) (sym (add-one r))
+      subst (λ z. StringHeard s at (Ok (record { kind = AString; from = at; to = z }))) (sym (add-one r))
       (record {
         heard =
             λ w n.
@@ -115,7 +121,7 @@ figure_quote b e = go (is_quote b) refl
 figure_only : (w : Wanted) (b : ℕ) (l : List ℕ) → (is_digit b || minus b) ≡ true → plain_words w.words ≡ true → figure_begins (b ∷ l) ≡ false → fits_wanted w (b ∷ l) ≡ false
 figure_only w b l e p f =
     (λ i. plain_none w.words b l p (other_capital b (figure_letter b e)) (ap (λ z. z || (is_digit b || minus b)) (figure_quote b e) ∙ e) i
-    || (w.name && (figure_letter b e i && all Rattle.relation_rules.specs.Grammar.word_byte l))
+    || (w.name && (figure_letter b e i && all word_byte l))
     || (w.quoted && (figure_quote b e i && (all (λ c. not (is_quote c)) l || is_some (in_quotes l))))
     || (w.whole && f i))
     ∙ (λ i. and_false w.name i || and_false w.quoted i || and_false w.whole i)
@@ -140,112 +146,138 @@ too_many b l f g = go (minus b) f g
 first_of : (b at : ℕ) (x : Bool) → minus b ≡ x → first_digit b at ≡ cond x (suc at) at
 first_of b at x e = ap (λ z. cond z (suc at) at) e
 
-start_as : (b : ℕ) (x : Bool) → minus b ≡ x → start_of b ≡ cond x 0 (b - 48)
-start_as b x e = ap (λ z. cond z 0 (b - 48)) e
+-- `first` is where the first digit stands, and the digits end at `to`
+module _ {s : List ℕ} {at to first : ℕ} (f : FigureAt s at) (l : at < length s) (k : StretchTo is_digit s (suc at) to) (e : first ≡ first_digit (get_or s at 0) at) where
+  pub digits_part : first ≤ to × all is_digit (part s first to) ≡ true
+  digits_part = go (minus (get_or s at 0)) refl
+    where
+      go : (x : Bool) → minus (get_or s at 0) ≡ x → first ≤ to × all is_digit (part s first to) ≡ true
+      go true m =
+          let n : first ≡ suc at = e ∙ first_of (get_or s at 0) at true m in
+          let on : suc at ≤ to = k.on in
+          (omega arith, ap (λ z. all is_digit (part s z to)) n ∙ all_to k to on (omega arith))
+      go false m =
+          let n : first ≡ at = e ∙ first_of (get_or s at 0) at false m in
+          let on : suc at ≤ to = k.on in (
+            omega arith,
+            ap (λ z. all is_digit (part s z to)) n
+                ∙ ap (all is_digit) (part_cons s at to on k.most)
+                ∙ both (is_digit (get_or s at 0)) (all is_digit (part s (suc at) to)) (digit_not_minus (get_or s at 0) m f.is) (all_to k to on (omega arith)),
+          )
 
-module _ {s : List ℕ} {at to size : ℕ} {more : Bool} (f : FigureAt s at) (g : DigitsRun s at to size more) where
-  figure_ahead : at ≤ to
-  figure_ahead = let on : at < to = g.on in omega arith
+  digits_long : length (part s first to) ≡ to - first
+  digits_long = part_length s first to digits_part.0 k.most
 
-  pub number_many : more ≡ true → NumberHeard s at 0 0 at to false 0
-  number_many e =
+  first_least : at ≤ first
+  first_least = go (minus (get_or s at 0)) refl
+    where
+      go : (x : Bool) → minus (get_or s at 0) ≡ x → at ≤ first
+      go true m = let n : first ≡ suc at = e ∙ first_of (get_or s at 0) at true m in omega arith
+      go false m = let n : first ≡ at = e ∙ first_of (get_or s at 0) at false m in omega arith
+
+  pub number_many : 18 < length (part s first to) → NumberHeard s at (Err (record { at = first + 18 }))
+  number_many h =
+      let more : first + 18 < to = omega (arith, digits_long) in
+      let within : to ≤ length s = k.most in
+      let there : first + 18 < length s = omega arith in
+      let ahead : at < first + 18 = omega (arith, first_least) in
+      let most : first + 18 ≤ first_digit (get_or s at 0) at + 18 = subst (λ z. first + 18 ≤ z + 18) e (omega arith) in
+      let beyond : suc at ≤ suc (first + 18) = omega arith in
+      let long : length (part s (suc at) (suc (first + 18))) ≡ suc (first + 18) - suc at = part_length s (suc at) (suc (first + 18)) beyond there in
       record {
         heard =
             λ w n.
-            heard_wrong figure_ahead g.most
-            (λ p. stop_inside (g.begun w n) (g.next e)
-            (ap (λ z. goes_on z (get_or s to 0)) (part_cons s at to g.on g.most)
-            ∙ goes_sort (get_or s at 0) (get_or s to 0) Figure (figure_sort (get_or s at 0) (figure_letter (get_or s at 0) f.is) f.is) (part s (suc at) to)
-            ∙ g.digit e)
-            (ap (fits_wanted w) (part_cons s at (suc to) (let on : at < to = g.on in omega arith) (g.next e))
-            ∙ figure_only w (get_or s at 0) (part s (suc at) (suc to)) f.is p
-            (too_many (get_or s at 0) (part s (suc at) (suc to))
-            (λ h. let k : first_digit (get_or s at 0) at ≡ suc at = first_of (get_or s at 0) at true h in let m : to ≡ first_digit (get_or s at 0) at + 18 = g.many e in
-            omega (arith, long))
-            (λ h. let k : first_digit (get_or s at 0) at ≡ at = first_of (get_or s at 0) at false h in let m : to ≡ first_digit (get_or s at 0) at + 18 = g.many e in
-            omega (arith, long)))));
+            heard_wrong (omega arith) (omega arith)
+            (λ p. stop_inside (begun_figures f k w n (first + 18) ahead (omega arith) most) there
+            (figure_goes f k (first + 18) (get_or s (first + 18) 0) ahead (omega arith) ∙ k.passes (first + 18) ahead more)
+            (ap (fits_wanted w) (part_cons s at (suc (first + 18)) beyond there)
+            ∙ figure_only w (get_or s at 0) (part s (suc at) (suc (first + 18))) f.is p
+            (too_many (get_or s at 0) (part s (suc at) (suc (first + 18)))
+            (λ m. let z : first ≡ suc at = e ∙ first_of (get_or s at 0) at true m in omega arith)
+            (λ m. let z : first ≡ at = e ∙ first_of (get_or s at 0) at false m in omega arith))));
       }
-    where
-      long : length (part s (suc at) (suc to)) ≡ suc to - suc at
-      long = part_length s (suc at) (suc to) (let on : at < to = g.on in omega arith) (g.next e)
 
-  module _ (e : more ≡ false) where
-    pub number_bare : (eqb (get_or s at 0) 45 && eqb to (at + 1)) ≡ true → NumberHeard s at 0 0 at to false 0
+  -- up to eighteen, and no other behind them
+  module _ {most : ℕ} (m : most ≡ min (length s) (first + 19)) (few : length (part s first to) ≤ 18)
+      (n : to < length (take most s) → Says (is_digit (get_or (take most s) to 0)) false) where
+    digits_next : to < length s → is_digit (get_or s to 0) ≡ false
+    digits_next h =
+        let on : first ≤ to = digits_part.0 in
+        let below : to < most = omega (arith, digits_long) in
+        let long : length (take most s) ≡ min most (length s) = length-take most s in
+        ap is_digit (sym (get_or-take most s to 0 below)) ∙ (n (omega arith)).is
+
+    digits_alone : apart (part s at to) (drop to s) ≡ true
+    digits_alone = apart_to (part s at to) s to (λ h. figure_goes f k to (get_or s to 0) k.on k.most ∙ digits_next h)
+
+    pub number_bare : length (part s first to) ≡ 0 → NumberHeard s at (Err (record { at = to }))
     unfolding behind token_of
     number_bare h =
         record {
           heard =
               λ w n.
-              heard_wrong figure_ahead g.most
-              (λ p. stop_behind (g.begun w n) (g.stop e)
+              heard_wrong (omega arith) k.most
+              (λ p. stop_behind (begun_figures f k w n to on (omega arith) early) digits_alone
               (λ q i.
-              ap (λ z. then_take q (token_of (suc at) z)) (part_cons s at to g.on g.most)
+              ap (λ z. then_take q (token_of (suc at) z)) (part_cons s at to on k.most)
               ∙ ap (λ z. then_take q (token_in z (suc at) (get_or s at 0) (part s (suc at) to))) (figure_sort (get_or s at 0) (figure_letter (get_or s at 0) f.is) f.is)
-              ∙ ap (λ z. then_take q (figure_token z (get_or s at 0) (part s (suc at) to))) (and_left (eqb (get_or s at 0) 45) (eqb to (at + 1)) h)
-              ∙ ap (λ z. then_take q (figure_token true (get_or s at 0) z)) nothing));
+              ∙ go q (minus (get_or s at 0)) refl));
         }
       where
-        nothing : part s (suc at) to ≡ []
-        nothing =
-            let k : to ≡ suc at = eqb-true to (at + 1) (and_right (eqb (get_or s at 0) 45) (eqb to (at + 1)) h) ∙ add-one at in
-            ap (part s (suc at)) k ∙ part_none s (suc at)
+        on : at < to
+        on = k.on
 
-    pub number_whole : (eqb (get_or s at 0) 45 && eqb to (at + 1)) ≡ false → NumberHeard s at 4 0 at to (eqb (get_or s at 0) 45) size
+        same_place : first ≡ to
+        same_place = let m : first ≤ to = digits_part.0 in omega (arith, digits_long)
+
+        early : to ≤ first_digit (get_or s at 0) at + 18
+        early = subst (λ z. to ≤ z + 18) e (omega (arith, same_place))
+
+        go : (q : State) (x : Bool) → minus (get_or s at 0) ≡ x → then_take q (figure_token (minus (get_or s at 0)) (get_or s at 0) (part s (suc at) to)) ≡ none
+        go q true m =
+            let n : to ≡ suc at = sym same_place ∙ e ∙ first_of (get_or s at 0) at true m in
+            ap (λ z. then_take q (figure_token z (get_or s at 0) (part s (suc at) to))) m
+            ∙ ap (λ z. then_take q (figure_token true (get_or s at 0) z)) (ap (part s (suc at)) n ∙ part_none s (suc at))
+        go q false m = let n : to ≡ at = sym same_place ∙ e ∙ first_of (get_or s at 0) at false m in absurd (omega arith)
+
+    pub number_whole : {size : ℕ} → (length (part s first to) ≡ 0 → ⊥) → Number (decimal 0 (part s first to)) 1000000000000000000 size
+        → NumberHeard s at (Ok (record { kind = Figure (eqb (get_or s at 0) 45) size; from = at; to = to }))
     unfolding token_of
-    number_whole h =
+    number_whole {size} filled d =
         record {
           heard =
-              λ w n.
-              heard_whole g.on g.most g.small n
+              λ w o.
+              heard_whole on k.most d.below o
               (record {
-                on = g.on;
-                most = g.most;
+                on = on;
+                most = k.most;
                 is =
-                    ap (token_of (suc at)) (part_cons s at to g.on g.most)
+                    ap (token_of (suc at)) (part_cons s at to on k.most)
                     ∙ ap (λ z. token_in z (suc at) (get_or s at 0) (part s (suc at) to)) (figure_sort (get_or s at 0) (figure_letter (get_or s at 0) f.is) f.is)
-                    ∙ made (minus (get_or s at 0)) refl h;
-                alone = g.stop e;
+                    ∙ made (minus (get_or s at 0)) refl;
+                alone = digits_alone;
               });
         }
       where
-        b : ℕ
-        b = get_or s at 0
+        on : at < to
+        on = k.on
 
-        l : List ℕ
-        l = part s (suc at) to
+        figures_are : (ds : List ℕ) → all is_digit ds ≡ true → length ds ≤ 18 → (length ds ≡ 0 → ⊥) → some_figures ds ≡ true
+        figures_are ds a b c =
+            both (figures ds) (leb 1 (length ds)) (both (all is_digit ds) (leb (length ds) 18) a (le-leb (length ds) 18 b)) (le-leb 1 (length ds) (omega arith))
 
-        long : length (part s (suc at) to) ≡ to - suc at
-        long = part_length s (suc at) to g.on g.most
-
-        made : (x : Bool) → minus (get_or s at 0) ≡ x → (x && eqb to (at + 1)) ≡ false → figure_token x (get_or s at 0) (part s (suc at) to) ≡ some (Whole (whole_of x size))
-        made true m k =
-            let fd : first_digit (get_or s at 0) at ≡ suc at = first_of (get_or s at 0) at true m in
-            let few : to ≤ first_digit (get_or s at 0) at + 18 = g.few in
-            let on : at < to = g.on in
-            let apart_from : to ≡ suc at → ⊥ = λ q. eqb-false to (at + 1) k (q ∙ sym (add-one at)) in
-            let most : length (part s (suc at) to) ≤ 18 = omega (arith, long) in
-            let least : 1 ≤ length (part s (suc at) to) = omega (arith, long) in
-            ap (λ z. giving z (Whole (neg_ℤ (pos (decimal 0 (part s (suc at) to))))))
-            (both (figures (part s (suc at) to)) (leb 1 (length (part s (suc at) to)))
-            (both (all is_digit (part s (suc at) to)) (leb (length (part s (suc at) to)) 18) g.digits (le-leb (length (part s (suc at) to)) 18 most))
-            (le-leb 1 (length (part s (suc at) to)) least))
-            ∙ ap (λ z. some (Whole (neg_ℤ (pos z)))) (ap (λ z. decimal z (part s (suc at) to)) (sym (start_as (get_or s at 0) true m)) ∙ g.is)
-        made false m k =
-            let fd : first_digit (get_or s at 0) at ≡ at = first_of (get_or s at 0) at false m in
-            let few : to ≤ first_digit (get_or s at 0) at + 18 = g.few in
-            let on : at < to = g.on in
-            let most : suc (length (part s (suc at) to)) ≤ 18 = omega (arith, long) in
-            let least : 1 ≤ suc (length (part s (suc at) to)) = omega arith in
-            ap (λ z. giving z (Whole (pos (decimal 0 (get_or s at 0 ∷ part s (suc at) to)))))
-            (both (figures (get_or s at 0 ∷ part s (suc at) to)) (leb 1 (suc (length (part s (suc at) to))))
-            (both (all is_digit (get_or s at 0 ∷ part s (suc at) to)) (leb (suc (length (part s (suc at) to))) 18)
-            (both (is_digit (get_or s at 0)) (all is_digit (part s (suc at) to)) (digit_not_minus (get_or s at 0) m f.is) g.digits)
-            (le-leb (suc (length (part s (suc at) to))) 18 most))
-            (le-leb 1 (suc (length (part s (suc at) to))) least))
-            ∙ ap (λ z. some (Whole (pos z))) (ap (λ z. decimal z (part s (suc at) to)) (nought ∙ sym (start_as (get_or s at 0) false m)) ∙ g.is)
-          where
-            nought : 0 * 10 + (get_or s at 0 - 48) ≡ get_or s at 0 - 48
-            nought = omega arith
+        made : (x : Bool) → minus (get_or s at 0) ≡ x → figure_token x (get_or s at 0) (part s (suc at) to) ≡ some (Whole (whole_of x size))
+        made true m =
+            let z : first ≡ suc at = e ∙ first_of (get_or s at 0) at true m in
+            subst (λ i. figure_token true (get_or s at 0) (part s i to) ≡ some (Whole (whole_of true size))) z
+            (ap (λ v. giving v (Whole (neg_ℤ (pos (decimal 0 (part s first to)))))) (figures_are (part s first to) digits_part.1 few filled)
+            ∙ ap (λ v. some (Whole (neg_ℤ (pos v)))) (sym d.is))
+        made false m =
+            let z : first ≡ at = e ∙ first_of (get_or s at 0) at false m in
+            let c : part s first to ≡ get_or s at 0 ∷ part s (suc at) to = ap (λ i. part s i to) z ∙ part_cons s at to on k.most in
+            subst (λ v. giving (some_figures v) (Whole (pos (decimal 0 v))) ≡ some (Whole (whole_of false size))) c
+            (ap (λ v. giving v (Whole (pos (decimal 0 (part s first to))))) (figures_are (part s first to) digits_part.1 few filled)
+            ∙ ap (λ v. some (Whole (pos v))) (sym d.is))
 
 -- ---- by the first byte
 
@@ -258,24 +290,6 @@ module _ (b : ℕ) where
 
 pub figure_asked : (n : Bool) {s : List ℕ} {at : ℕ} {x : Bool} → Says (is_digit (get_or s at 0) || minus (get_or s at 0)) x → (n && x) ≡ true → FigureAt s at
 figure_asked n {x = x} h e = record { is = h.is ∙ and_right n x e }
-
-module _ {words : List (List ℕ)} {s : List ℕ} {at kind which from to : ℕ} {below : Bool} {size : ℕ} {name quoted whole : Bool} where
-  pub here_name : (x : Bool) → NameHeard words s at kind which from to below size → (name && x) ≡ true
-      → Heard (record { words = words; name = name; quoted = quoted; whole = whole }) s at kind which from to below size
-  here_name x h e = h.heard (record { words = words; name = name; quoted = quoted; whole = whole }) refl (and_left name x e)
-
-  pub here_string : (x : Bool) → StringHeard s at kind which from to below size → (quoted && x) ≡ true
-      → Heard (record { words = words; name = name; quoted = quoted; whole = whole }) s at kind which from to below size
-  here_string x h e = h.heard (record { words = words; name = name; quoted = quoted; whole = whole }) (and_left quoted x e)
-
-  pub here_number : (x : Bool) → NumberHeard s at kind which from to below size → (whole && x) ≡ true
-      → Heard (record { words = words; name = name; quoted = quoted; whole = whole }) s at kind which from to below size
-  here_number x h e = h.heard (record { words = words; name = name; quoted = quoted; whole = whole }) (and_left whole x e)
-
-  pub here_word : {x y : Bool} → WordHeard words s at kind which from to below size → Says (is_letter (get_or s at 0)) x → (name && x) ≡ false
-      → (quoted && eqb (get_or s at 0) 39) ≡ false → Says (is_digit (get_or s at 0) || minus (get_or s at 0)) y → (whole && y) ≡ false
-      → Heard (record { words = words; name = name; quoted = quoted; whole = whole }) s at kind which from to below size
-  here_word h l e f n g = h.heard (record { words = words; name = name; quoted = quoted; whole = whole }) refl (ap (λ z. name && z) l.is ∙ e) f (ap (λ z. whole && z) n.is ∙ g)
 
 -- ---- behind blanks
 
@@ -322,44 +336,27 @@ module _ {s : List ℕ} {at i : ℕ} (g : Gap s at i) where
             gap_moves limit q ∙ ap (run limit (suc i) (Between q)) (drop_of_length-le s l) ∙ stops_cut limit (suc i) q c;
       }
 
-module _ {w : Wanted} {s : List ℕ} {at i : ℕ} (g : Gap s at i) where
-  pub on_token : {kind which from to : ℕ} {below : Bool} {size : ℕ} → Heard w s i kind which from to below size → HeardOn w s at kind which from to below size
-  on_token {kind} {which} {from} {to} {below} {size} h = subst (λ z. HeardOn w s at kind which z to below size) (sym h.starts) made
+module _ (w : Wanted) {s : List ℕ} {at i : ℕ} (g : Gap s at i) where
+  pub on_token : (r : Result Found Stop) → Heard w s i r → HeardOn w s at r
+  on_token (Err e) h = record { on = let a : at ≤ i = g.on in let b : i ≤ e.at = h.on in omega arith; most = h.most; wrong = λ p. gap_stops g (h.wrong p) }
+  on_token (Ok t) h = subst (λ z. TokenHeardOn w s at (record { kind = t.kind; from = z; to = t.to })) (sym h.starts) made
     where
-      made : HeardOn w s at kind which i to below size
+      made : TokenHeardOn w s at (record { kind = t.kind; from = i; to = t.to })
       made =
           record {
             begins = g.on;
-            on = h.on;
-            most = h.most;
             further = h.further;
-            closed = h.closed;
-            small = h.small;
+            most = h.most;
             asked = h.asked;
             least = h.least;
             last = h.last;
-            wrong = λ k p. gap_stops g (h.wrong k p);
-            word = λ k t e. gap_token g (h.word k t e);
-            name = λ k. gap_token g (h.name k);
-            quoted = λ k. gap_token g (h.quoted k);
-            whole = λ k. gap_token g (h.whole k);
+            word = λ k e u d. gap_token g (h.word k e u d);
+            name = λ e. gap_token g (h.name e);
+            closed = h.closed;
+            quoted = λ e. gap_token g (h.quoted e);
+            small = h.small;
+            whole = λ below size e. gap_token g (h.whole below size e);
           }
 
-  pub on_cut : length s ≤ i → HeardOn w s at 0 0 i i false 0
-  on_cut l =
-      record {
-        begins = g.on;
-        on = omega arith;
-        most = g.most;
-        further = λ n. absurd (n refl);
-        closed = λ h. differ 0 3 refl h;
-        small = omega arith;
-        asked = refl;
-        least = λ h. differ 0 1 refl h;
-        last = λ h. differ 0 1 refl h;
-        wrong = λ _ p. gap_cut g l;
-        word = λ h. differ 0 1 refl h;
-        name = λ h. differ 0 2 refl h;
-        quoted = λ h. differ 0 3 refl h;
-        whole = λ h. differ 0 4 refl h;
-      }
+  pub on_cut : length s ≤ i → HeardOn w s at (Err (record { at = i }))
+  on_cut l = record { on = g.on; most = g.most; wrong = λ p. gap_cut g l }

@@ -1,11 +1,11 @@
-// How far a token reaches from its first byte: words of a list, names, strings, digits.
-ghost use Rattle.std.specs.Prelude.{◌<◌, length};
+// How far a token reaches from its first byte: words of a list, names, strings; and digits as a number.
+ghost use Rattle.std.specs.Prelude.{◌<◌, ◌≤◌, ◌≡◌, true, length, get_or};
+ghost use Rattle.rules.specs.Lists.{all};
+ghost use Rattle.relation_rules.specs.Grammar.{decimal, is_digit};
 ghost use Rattle.layout.specs.Ensures.{Number};
-ghost use Rattle.relation_words.specs.Words.{words_in};
-ghost use Rattle.relation_words.specs.Heard.{Reaches, TokenRun, WordRun, QuoteRun, WordsRun, DigitsRun, FigureAt, first_digit, start_of};
+ghost use Rattle.relation_words.specs.Heard.{first_digit, Reaches, TokenRun, WordRun, QuoteRun};
 
-use crate::bytes::{is_digit, is_figure, is_letter, is_sign_byte, is_word_byte};
-use crate::lists::begins_one;
+use crate::bytes::{is_digit, is_figure, is_letter, is_sign_byte, is_word_byte, stretch_end};
 
 // Whether a token that begins with b, and is no string, reaches over c.
 pub fn goes_on(b: u8, c: u8) -> bool
@@ -26,14 +26,7 @@ pub fn token_end(text: &[u8], at: usize) -> usize
     ensures { TokenRun text.now at result }
 {
     let b = text[at];
-    let mut i = at + 1;
-    while i < text.len() {
-        if !goes_on(b, text[i]) {
-            return i;
-        }
-        i += 1;
-    }
-    i
+    stretch_end(text, at + 1, |c| goes_on(b, c))
 }
 
 // Where a word ends that begins at `at`.
@@ -41,14 +34,7 @@ pub fn word_end(text: &[u8], at: usize) -> usize
     requires { at < length text.now }
     ensures { WordRun text.now at result }
 {
-    let mut i = at + 1;
-    while i < text.len() {
-        if !is_word_byte(text[i]) {
-            return i;
-        }
-        i += 1;
-    }
-    i
+    stretch_end(text, at + 1, is_word_byte)
 }
 
 // The quote behind the one at `at`, or the end.
@@ -56,107 +42,26 @@ pub fn quote_end(text: &[u8], at: usize) -> usize
     requires { at < length text.now }
     ensures { QuoteRun text.now at result }
 {
-    let mut i = at + 1;
-    while i < text.len() {
-        if text[i] == 39 {
-            return i;
-        }
-        i += 1;
-    }
-    i
+    stretch_end(text, at + 1, |b| b != b'\'')
 }
 
-// A token read as far as a word of the list goes on so. `ended`: to its end.
-#[derive(Clone, Copy)]
-pub struct Run {
-    pub to: usize,
-    pub ended: bool,
-}
-
-pub fn words_run(text: &[u8], at: usize, words: &[u8]) -> Run
+// Where the first digit stands of a number that begins at `at`.
+pub fn first_digit(text: &[u8], at: usize) -> usize
     requires { at < length text.now }
-    ensures { WordsRun (words_in words.now) text.now at result.to result.ended }
+    ensures { result ≡ first_digit (get_or text.now at 0) at }
 {
-    let b = text[at];
-    let mut i = at + 1;
-    if !begins_one(text, at, i, words) {
-        return Run {
-            to: at,
-            ended: false,
-        };
-    }
-    while i < text.len() {
-        if !goes_on(b, text[i]) {
-            return Run { to: i, ended: true };
-        }
-        let more = i + 1;
-        if !begins_one(text, at, more, words) {
-            return Run {
-                to: i,
-                ended: false,
-            };
-        }
-        i = more;
-    }
-    Run { to: i, ended: true }
+    if text[at] == b'-' { at + 1 } else { at }
 }
 
-// Digits as a number. `more`: a nineteenth stands at `to`.
-#[derive(Clone, Copy)]
-pub struct Digits {
-    pub to: usize,
-    pub size: usize,
-    pub more: bool,
-}
-
-fn first_digit(b: u8, at: usize) -> usize
-    requires { at < 9223372036854775808 }
-    ensures { Number (first_digit b at) 9223372036854775809 result }
+// At most eighteen digits as a number.
+pub fn size_of(digits: &[u8]) -> usize
+    requires all { all is_digit digits.now ≡ true }
+    requires few { length digits.now ≤ 18 }
+    ensures { Number (decimal 0 digits.now) 1000000000000000000 result }
 {
-    if b == b'-' { at + 1 } else { at }
-}
-
-fn start_of(b: u8) -> usize
-    ensures { Number (start_of b) 256 result }
-{
-    if b == b'-' {
-        return 0;
+    let mut size = 0;
+    for b in digits {
+        size = size * 10 + usize::from(*b - b'0');
     }
-    if b < 48 {
-        return 0;
-    }
-    (b - 48) as usize
-}
-
-pub fn digits_end(text: &[u8], at: usize) -> Digits
-    requires at_in_bounds { at < length text.now }
-    requires figure_at { FigureAt text.now at }
-    ensures { DigitsRun text.now at result.to result.size result.more }
-{
-    let last = first_digit(text[at], at) + 18;
-    let mut size = start_of(text[at]);
-    let mut i = at + 1;
-    while i < text.len() {
-        if !is_digit(text[i]) {
-            return Digits {
-                to: i,
-                size,
-                more: false,
-            };
-        }
-        if last <= i {
-            return Digits {
-                to: i,
-                size,
-                more: true,
-            };
-        }
-        size = size * 10 + start_of(text[i]);
-        i += 1;
-    }
-    Digits {
-        to: i,
-        size,
-        more: false,
-    }
+    size
 }

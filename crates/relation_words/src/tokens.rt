@@ -1,225 +1,197 @@
 // A token at a position of a text, where some words, a name, a string or a number may come.
-ghost use Rattle.std.specs.Prelude.{◌≤◌, true, map, length, get_or};
-ghost use Rattle.rules.specs.Lists.{any, same};
+// `text` and `at` are no struct: each token begins at another position of the same text, so a struct would be made anew for each call.
+ghost use Rattle.std.specs.Prelude.{◌≡◌, ◌≤◌, ◌<◌, true, map, eqb, length, get_or};
+ghost use Rattle.rules.specs.Lists.{any, keep, same};
 ghost use Rattle.relation_rules.specs.Grammar.{capital, is_letter, is_quote, reserved_words};
-ghost use Rattle.layout.specs.Reads.{part};
 ghost use Rattle.layout.specs.Ensures.{Says};
-ghost use Rattle.relation_words.specs.Words.{Stretch, words_in};
-ghost use Rattle.relation_words.specs.Heard.{Nothing, Heard, HeardOn, WordHeard, NameHeard, StringHeard, NumberHeard, FigureAt, ByteAt};
+ghost use Rattle.relation_words.specs.Heard.{wanted_of, Heard, HeardOn, WordHeard, NameHeard, StringHeard, NumberHeard, FigureAt, ByteAt, NoWordAt, WordStops};
 
-use crate::bytes::{blanks, is_figure, is_letter};
-use crate::lists::which_word;
-use crate::runs::{digits_end, quote_end, token_end, word_end, words_run};
+use crate::bytes::{blanks, is_digit, is_figure, is_letter, stretch_end};
+use crate::lists::{begins_one, which_word};
+use crate::runs::{first_digit, quote_end, size_of, token_end, word_end};
 
-// `kind`: 0 nothing that may come, and `to` is the position of the first byte that may not; 1 the word of the list with the number `which`;
-// 2 a name; 3 a string with its quotes; 4 a number with its sign and size. It stands from `from` to `to`.
-#[derive(Clone, Copy)]
-pub struct Found {
-    pub kind: u8,
-    pub which: usize,
+/// What a token is.
+#[derive(Clone, Copy, PartialEq, Eq)]
+pub enum Kind {
+    /// The word of the list with this number, counted from 1.
+    Word(usize),
+    Name,
+    /// A string with its quotes.
+    Quoted,
+    /// A number by its sign and size.
+    Figure { below: bool, size: usize },
+}
+
+/// A token that may come: it stands from `from` to `to`.
+#[derive(Clone, Copy, PartialEq, Eq)]
+pub struct Token {
+    pub kind: Kind,
     pub from: usize,
     pub to: usize,
-    pub below: bool,
-    pub size: usize,
 }
 
-// Nothing that may come: it begins at `from`, and the first byte that may not stands at `to`.
-fn nothing(from: usize, to: usize) -> Found
-    ensures { Nothing from to result.kind result.which result.from result.to result.below result.size }
+/// Nothing that may come: the first byte that may not stands at `at`.
+#[derive(Clone, Copy, PartialEq, Eq)]
+pub struct Stop {
+    pub at: usize,
+}
+
+/// What may come: words of a list, in capitals, and a name, a string or a number if such may.
+#[derive(Clone, Copy)]
+pub struct Wants<'a> {
+    pub words: &'a [&'a [u8]],
+    pub name: bool,
+    pub quoted: bool,
+    pub figure: bool,
+}
+
+// A token that is no word of the list, read byte by byte: the first byte that no word goes on with may not come.
+fn word_by_bytes(text: &[u8], at: usize, to: usize, words: &[&[u8]]) -> Stop
+    requires { NoWordAt (map (λ w. w.now) words.now) text.now at to }
+    ensures { WordStops (map (λ w. w.now) words.now) text.now at result.at }
 {
-    Found {
-        kind: 0,
-        which: 0,
-        from,
-        to,
-        below: false,
-        size: 0,
+    for i in at..to {
+        if !begins_one(&text[at..i + 1], words) {
+            return Stop { at: i };
+        }
     }
+    Stop { at: to }
 }
 
-// A token that can only be a word of the list, read byte by byte, as far as a word goes on so.
-fn word_by_bytes(text: &[u8], at: usize, words: &[u8]) -> Found
+// A token that can only be a word of the list.
+fn word_here(text: &[u8], at: usize, words: &[&[u8]]) -> Result<Token, Stop>
     requires { ByteAt text.now at }
-    ensures { WordHeard (words_in words.now) text.now at result.kind result.which result.from result.to result.below result.size }
+    ensures { WordHeard (map (λ w. w.now) words.now) text.now at result }
 {
     let b = text[at];
-    if is_figure(b) | (b == 39) {
-        return nothing(at, at);
-    }
-    let run = words_run(text, at, words);
-    let to = run.to;
-    let ended = run.ended;
-    if !ended {
-        return nothing(at, to);
-    }
-    let which = which_word(text, at, to, words);
-    if which == 0 {
-        return nothing(at, to);
-    }
-    Found {
-        kind: 1,
-        which,
-        from: at,
-        to,
-        below: false,
-        size: 0,
-    }
-}
-
-// The same, for a token that is most often such a word as a whole.
-fn word_here(text: &[u8], at: usize, words: &[u8]) -> Found
-    requires { ByteAt text.now at }
-    ensures { WordHeard (words_in words.now) text.now at result.kind result.which result.from result.to result.below result.size }
-{
-    let b = text[at];
-    if is_figure(b) | (b == 39) {
-        return nothing(at, at);
+    if is_figure(b) | (b == b'\'') {
+        return Err(Stop { at });
     }
     let to = token_end(text, at);
-    let which = which_word(text, at, to, words);
-    if which == 0 {
-        return word_by_bytes(text, at, words);
-    }
-    Found {
-        kind: 1,
-        which,
+    let Some(place) = which_word(&text[at..to], words) else {
+        return Err(word_by_bytes(text, at, to, words));
+    };
+    Ok(Token {
+        kind: Kind::Word(place + 1),
         from: at,
         to,
-        below: false,
-        size: 0,
+    })
+}
+
+// The reserved words of so many bytes. Most names have another length than they, and are told by it.
+fn reserved_of(size: usize) -> &'static [&'static [u8]]
+    ensures { map (λ w. w.now) result.now ≡ keep (λ w. eqb (length w) size) reserved_words }
+{
+    match size {
+        2 => &[
+            b"EQ", b"GE", b"GT", b"IF", b"IN", b"LE", b"LT", b"NE", b"OR",
+        ],
+        3 => &[b"AND", b"BAN", b"NOT"],
+        9 => &[b"SPECIFIED"],
+        15 => &[b"SET_PCKG_FACTOR"],
+        18 => &[b"SET_PRICING_FACTOR"],
+        _ => &[],
     }
 }
 
-// Whether a word is reserved. Those words have 2, 3, 9, 15 or 18 bytes, so that most names are told by their length.
-fn is_reserved(text: &[u8], from: usize, to: usize) -> bool
-    requires { Stretch text.now from to }
-    ensures { Says (any (same (map capital (part text.now from to))) reserved_words) result }
+fn is_reserved(word: &[u8]) -> bool
+    ensures { Says (any (same (map capital word.now)) reserved_words) result }
 {
-    let size = to - from;
-    if size == 2 {
-        return 0 < which_word(text, from, to, b"EQ GE GT IF IN LE LT NE OR ");
-    }
-    if size == 3 {
-        return 0 < which_word(text, from, to, b"AND BAN NOT ");
-    }
-    if size == 9 {
-        return 0 < which_word(text, from, to, b"SPECIFIED ");
-    }
-    if size < 15 {
-        return false;
-    }
-    0 < which_word(text, from, to, b"SET_PCKG_FACTOR SET_PRICING_FACTOR ")
+    which_word(word, reserved_of(word.len())).is_some()
 }
 
 // A word where a name may come: a name, if it is not reserved.
-fn name_here(text: &[u8], at: usize, words: &[u8]) -> Found
+fn name_here(text: &[u8], at: usize, words: &[&[u8]]) -> Result<Token, Stop>
     requires byte_at { ByteAt text.now at }
     requires says { Says (is_letter (get_or text.now at 0)) true }
-    ensures { NameHeard (words_in words.now) text.now at result.kind result.which result.from result.to result.below result.size }
+    ensures { NameHeard (map (λ w. w.now) words.now) text.now at result }
 {
     let to = word_end(text, at);
-    if !is_reserved(text, at, to) {
-        return Found {
-            kind: 2,
-            which: 0,
+    let word = &text[at..to];
+    if !is_reserved(word) {
+        return Ok(Token {
+            kind: Kind::Name,
             from: at,
             to,
-            below: false,
-            size: 0,
-        };
+        });
     }
-    let which = which_word(text, at, to, words);
-    if which == 0 {
-        return nothing(at, to);
-    }
-    Found {
-        kind: 1,
-        which,
-        from: at,
-        to,
-        below: false,
-        size: 0,
+    match which_word(word, words) {
+        Some(place) => Ok(Token {
+            kind: Kind::Word(place + 1),
+            from: at,
+            to,
+        }),
+        None => Err(Stop { at: to }),
     }
 }
 
-fn string_here(text: &[u8], at: usize) -> Found
+fn string_here(text: &[u8], at: usize) -> Result<Token, Stop>
     requires byte_at { ByteAt text.now at }
     requires says { Says (is_quote (get_or text.now at 0)) true }
-    ensures { StringHeard text.now at result.kind result.which result.from result.to result.below result.size }
+    ensures { StringHeard text.now at result }
 {
     let quote = quote_end(text, at);
     if text.len() <= quote {
-        return nothing(at, quote);
+        return Err(Stop { at: quote });
     }
-    Found {
-        kind: 3,
-        which: 0,
+    Ok(Token {
+        kind: Kind::Quoted,
         from: at,
         to: quote + 1,
-        below: false,
-        size: 0,
-    }
+    })
 }
 
-fn number_here(text: &[u8], at: usize) -> Found
+// One to eighteen digits, behind a minus sign or not. No byte behind a nineteenth is read.
+fn number_here(text: &[u8], at: usize) -> Result<Token, Stop>
     requires byte_at { ByteAt text.now at }
     requires figure_at { FigureAt text.now at }
-    ensures { NumberHeard text.now at result.kind result.which result.from result.to result.below result.size }
+    ensures { NumberHeard text.now at result }
 {
     let below = text[at] == b'-';
-    let digits = digits_end(text, at);
-    let to = digits.to;
-    let more = digits.more;
-    let size = digits.size;
-    if more {
-        return nothing(at, to);
+    let first = first_digit(text, at);
+    let most = text.len().min(first + 19);
+    let to = stretch_end(&text[..most], at + 1, is_digit);
+    let digits = &text[first..to];
+    if 18 < digits.len() {
+        return Err(Stop { at: first + 18 });
     }
-    if below & (to == at + 1) {
-        return nothing(at, to);
+    if digits.is_empty() {
+        return Err(Stop { at: to });
     }
-    Found {
-        kind: 4,
-        which: 0,
+    let size = size_of(digits);
+    Ok(Token {
+        kind: Kind::Figure { below, size },
         from: at,
         to,
-        below,
-        size,
-    }
+    })
 }
 
-// The token at a byte that is no blank: a word of the list, and a name, a string or a number, if such may come.
-pub fn token_here(
-    text: &[u8],
-    at: usize,
-    words: &[u8],
-    name: bool,
-    quoted: bool,
-    whole: bool,
-) -> Found
+/// The token at a byte that is no blank.
+pub fn token_here(text: &[u8], at: usize, wants: Wants<'_>) -> Result<Token, Stop>
     requires { ByteAt text.now at }
-    ensures { Heard (record { words = words_in words.entry.now; name = name; quoted = quoted; whole = whole }) text.now at result.kind result.which result.from result.to result.below result.size }
+    ensures { Heard (wanted_of wants.entry) text.now at result }
 {
     let b = text[at];
-    if name & is_letter(b) {
-        return name_here(text, at, words);
+    if wants.name & is_letter(b) {
+        return name_here(text, at, wants.words);
     }
-    if quoted & (b == 39) {
+    if wants.quoted & (b == b'\'') {
         return string_here(text, at);
     }
-    if whole & is_figure(b) {
+    if wants.figure & is_figure(b) {
         return number_here(text, at);
     }
-    word_here(text, at, words)
+    word_here(text, at, wants.words)
 }
 
-// The same behind blanks, where the text may not end.
-pub fn token(text: &[u8], at: usize, words: &[u8], name: bool, quoted: bool, whole: bool) -> Found
+/// The same behind blanks, where the text may not end.
+pub fn token_at(text: &[u8], at: usize, wants: Wants<'_>) -> Result<Token, Stop>
     requires { at ≤ length text.now }
-    ensures { HeardOn (record { words = words_in words.entry.now; name = name; quoted = quoted; whole = whole }) text.now at result.kind result.which result.from result.to result.below result.size }
+    ensures { HeardOn (wanted_of wants.entry) text.now at result }
 {
     let from = blanks(text, at);
     if text.len() <= from {
-        return nothing(from, from);
+        return Err(Stop { at: from });
     }
-    token_here(text, from, words, name, quoted, whole)
+    token_here(text, from, wants)
 }

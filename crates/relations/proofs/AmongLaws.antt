@@ -1,8 +1,8 @@
 -- The constants behind IN, one by one, and the parenthesis around them.
-use Prim.Native.Nat.{ℕ, zero, suc, ◌+◌, ◌-◌, ◌≤◌, ◌<◌}
+use Prim.Native.Nat.{ℕ, suc, ◌+◌, ◌-◌, ◌≤◌, ◌<◌}
 use mathlib.Core.Path.{◌≡◌, refl, sym, ◌∙◌, ap, subst}
-use mathlib.Core.Bool.{Bool, true, false≢true}
-use mathlib.Core.List.{List, [], ◌∷◌}
+use mathlib.Core.Bool.{Bool, true, false, false≢true}
+use mathlib.Core.List.{List}
 use mathlib.Core.Option.{Option, some}
 use native.Mathlib.Omega.{arith}
 use native.Mathlib.Numerals.{add-one}
@@ -13,157 +13,137 @@ use Rattle.relation_rules.specs.Grammar.{Fixed, Equal, Constant, Text, Number, c
 use Rattle.rules.specs.PlacedRefusals.{RefusedAt}
 use Rattle.relation_rules.specs.Reader.{Part, Around, AtIn, AtOpen, AtListed, AtComma, next, take, Between, run}
 use Rattle.relation_rules.specs.Parts.{TokenAt}
-use Rattle.relation_rules.specs.Truth.{Held, either, operand_value, compared}
+use Rattle.relation_rules.specs.Truth as Truths
+use Rattle.relation_rules.specs.Truth.{Held, Truth, either, operand_value, compared}
 use Rattle.relation_rules.proofs.MoveLaws.{token_moves, over_value, over_next_value}
-use Rattle.relation_words.specs.Words.{Stretch, word_of}
-use Rattle.relation_words.specs.Heard.{HeardOn, may_hear, whole_of}
-use Rattle.relation_truth.specs.Told.{truth_no, TruthIs}
-use Rattle.relation_truth.specs.Values.{held_in, operand_of, OperandIn, constant_in, NumberIs, ValueIs}
-use Rattle.relation_truth.specs.declared.values.Value.{Value}
-use Rattle.relations.specs.Expected.{wants_constant, wants_open, wants_mark}
-use Rattle.relations.specs.Reading.{NoName, among_of, EqualTo, ValuesTo, ValuesRead, AmongRead}
-use Rattle.relations.proofs.ExpectedLaws.{zeroed, heard_ahead, open_stops, first_stops, comma_stops, mark_stops, is_word, is_constant}
-use Rattle.relations.proofs.JoinLaws.{never, through}
+use Rattle.std.specs.Prelude.{Ok, Err}
+use Rattle.std.specs.declared.option.Option.{Option as Maybe}
+use Rattle.std.specs.declared.result.Result.{Result}
+use Rattle.relation_words.specs.declared.tokens.Kind.TheVariants.{Quoted as AString, Figure}
+use Rattle.relation_words.specs.declared.tokens.Token.{Token as Found}
+use Rattle.relation_words.specs.declared.tokens.Stop.{Stop}
+use Rattle.relation_words.specs.Heard.{TokenHeardOn, NothingHeardOn, may_hear, whole_of}
+use Rattle.relation_truth.specs.declared.Truth.{Truth as TruthTold}
+use Rattle.relation_truth.specs.declared.values.Constant.{Constant as ConstantTold}
+use Rattle.relation_truth.specs.Told.{truth_in, TruthIs}
+use Rattle.relation_truth.specs.Values.{held_in, operand_by, value_in, ValueIs}
+use Rattle.relations.specs.declared.told.Read.{Read}
+use Rattle.relations.specs.declared.told.Refused.{Refused}
+use Rattle.relations.specs.declared.expected.Mark.{Mark}
+use Rattle.relations.specs.Told.{bad_relation}
+use Rattle.relations.specs.Expected.{wants_constant, wants_open, wants_mark, word_in, MarkOver}
+use Rattle.relations.specs.Reading.{NoName, among_of, EqualTo, ValuesTo, ValuesOver, ValuesStop, ValuesRead, AmongStop, AmongRead}
+use Rattle.relations.proofs.ExpectedLaws.{through, heard_ahead, open_stops, first_stops, comma_stops, mark_stops, word_least, word_last, word_token, is_constant}
 
 -- ---- one constant
 
-pub equal_between : {s : List ℕ} {kind from to size : ℕ} → OperandIn s kind from to size → kind ≡ 3 → Stretch s (from + 1) (to - 1)
-equal_between {from = from} {to = to} k e = let l : from + 2 ≤ to = k.closed e in record { on = omega arith; most = omega (arith, k.most) }
+module _ {o : Option Constant} {ps : List Held} {s : List ℕ} {t : Found} {r : TruthTold} where
+  pub equal_string : t.kind ≡ AString → TruthIs (compared true Equal o (some (Text (part s (t.from + 1) (t.to - 1))))) r → EqualTo o ps s t r
+  equal_string e q = record {
+    is = q.is
+        ∙ ap (λ (k : ℕ). compared true Equal o (some (Text (part s k (t.to - 1))))) (add-one t.from)
+        ∙ ap (λ k. compared true Equal o (operand_value ps (operand_by s k t.from t.to))) (sym e);
+  }
 
-module _ (s p : List ℕ) (ps : List Held) (v : Value) (kind from to : ℕ) (below : Bool) (size : ℕ) {r : ℕ} where
-  pub equal_string : kind ≡ 3 → TruthIs (compared true Equal (constant_in s p v) (some (Text (part s (from + 1) (to - 1))))) r → EqualTo (constant_in s p v) ps s kind from to below size r
-  equal_string e t = rw e (record { is = t.is ∙ ap (λ (k : ℕ). compared true Equal (constant_in s p v) (some (Text (part s k (to - 1))))) (add-one from) })
+  pub equal_number : {below : Bool} {size : ℕ} → t.kind ≡ Figure below size → TruthIs (compared true Equal o (some (Number (whole_of below size)))) r → EqualTo o ps s t r
+  equal_number e q = record { is = q.is ∙ ap (λ k. compared true Equal o (operand_value ps (operand_by s k t.from t.to))) (sym e) }
 
-  pub equal_number : NoName kind → (kind ≡ 3 → ⊥) → NumberIs v below size r → EqualTo (constant_in s p v) ps s kind from to below size r
-  equal_number n m t = record { is = t.is s p ∙ ap (compared true Equal (constant_in s p v)) (go kind n.is m) }
-    where
-      go : (k : ℕ) → (k ≡ 2 → ⊥) → (k ≡ 3 → ⊥) → some (Number (whole_of below size)) ≡ operand_value ps (operand_of s k from to below size)
-      go zero n m = refl
-      go (suc zero) n m = refl
-      go (suc (suc zero)) n m = absurd (n refl)
-      go (suc (suc (suc zero))) n m = absurd (m refl)
-      go (suc (suc (suc (suc k)))) n m = refl
-
-pub constant_no_name : {s : List ℕ} {from kind which begin to : ℕ} {below : Bool} {size : ℕ} → HeardOn wants_constant s from kind which begin to below size → NoName kind
-constant_no_name {kind = kind} h = record { is = λ e. absurd (false≢true (ap (may_hear wants_constant) (sym e) ∙ h.asked)) }
+pub constant_no_name : {s : List ℕ} {at : ℕ} {t : Found} → TokenHeardOn wants_constant s at t → NoName t
+constant_no_name h = record { is = λ e. false≢true (ap (may_hear wants_constant) (sym e) ∙ h.asked) }
 
 -- ---- the list behind IN
 
 -- the next constant belongs to the list
-pub record ValuesSo (o : Option Constant) (s : List ℕ) (at from truth : ℕ) : Type 0 where
+pub record ValuesSo (o : Option Constant) (s : List ℕ) (at from : ℕ) (v : Truth) : Type 0 where
   pub on : at ≤ from
   pub most : from ≤ length s
-  pub over : (to t : ℕ) (c : Constant) → TokenAt (suc from) (drop from s) (constant_token c) (suc to) (drop to s)
-      → truth_no t ≡ either (truth_no truth) (compared true Equal o (some c)) → ValuesTo o s at to t
-  pub stops : {which begin to : ℕ} {below : Bool} {size : ℕ} → HeardOn wants_constant s from 0 which begin to below size
-      → (limit : ℕ) (w : Around) (p : Part) (x : List ℕ) → run limit (suc at) (Between (AtOpen w p x)) (drop at s) ≡ RefusedAt 14 (suc to)
+  pub over : (to : ℕ) (u : Truth) (c : Constant) → TokenAt (suc from) (drop from s) (constant_token c) (suc to) (drop to s)
+      → u ≡ either v (compared true Equal o (some c)) → ValuesTo o s at to u
+  pub stops : {e : Stop} → NothingHeardOn wants_constant s from e
+      → (limit : ℕ) (w : Around) (p : Part) (x : List ℕ) → run limit (suc at) (Between (AtOpen w p x)) (drop at s) ≡ RefusedAt 14 (suc e.at)
 
-pub values_start : {o : Option Constant} {s : List ℕ} {at : ℕ} → at ≤ length s → ValuesSo o s at at 2
+pub values_start : {o : Option Constant} {s : List ℕ} {at : ℕ} → at ≤ length s → ValuesSo o s at at Truths.False
 unfolding among_of either
 values_start {o} {s} {at} l =
     record {
       on = omega arith;
       most = l;
-      over = λ to t c k e. record { values = One c; over = λ limit. over_value limit c k; is = sym e };
+      over = λ to u c k e. record { values = One c; over = λ limit. over_value limit c k; is = sym e };
       stops = λ h limit w p x. first_stops h limit w p x;
     }
 
-values_refused : {o : Option Constant} {s : List ℕ} {at to truth : ℕ} → at ≤ to → to ≤ length s
-    → ((limit : ℕ) (w : Around) (p : Part) (x : List ℕ) → run limit (suc at) (Between (AtOpen w p x)) (drop at s) ≡ RefusedAt 14 (suc to)) → ValuesRead o s at 14 to truth
-values_refused a b f = record { on = a; most = b; fine = λ e. never e; wrong = λ _. f }
+module _ {o : Option Constant} {s : List ℕ} {at from : ℕ} (v : TruthTold) (a : ValuesSo o s at from (truth_in v)) where
+  pub values_none : {e : Stop} → NothingHeardOn wants_constant s from e → ValuesStop s at (bad_relation e.at)
+  values_none h = record { on = through a.on h.on; most = h.most; wrong = a.stops h }
 
-module _ {o : Option Constant} {s : List ℕ} {at from truth : ℕ} (a : ValuesSo o s at from truth) {kind which begin to : ℕ} {below : Bool} {size : ℕ}
-    (h : HeardOn wants_constant s from kind which begin to below size) where
-  so_far : at ≤ to
-  so_far = through a.on (heard_ahead h)
+  module _ {t : Found} (h : TokenHeardOn wants_constant s from t) {ps : List Held} {r u : TruthTold} (q : EqualTo o ps s t r) (j : TruthIs (either (truth_in v) (truth_in r)) u) where
+    so_far : at ≤ t.to
+    so_far = through a.on (heard_ahead h)
 
-  pub values_none : {t : ℕ} → kind ≡ 0 → ValuesRead o s at 14 to t
-  values_none e = values_refused so_far h.most (a.stops (zeroed h e))
-
-  module _ (n : kind ≡ 0 → ⊥) {ps : List Held} {r t : ℕ} (q : EqualTo o ps s kind begin to below size r) (j : TruthIs (either (truth_no truth) (truth_no r)) t) where
-    values_to : ValuesTo o s at to t
+    values_to : ValuesTo o s at t.to (truth_in u)
     values_to =
-        let c = is_constant kind h n in
-        a.over to t c.constant c.token
-        (j.is ∙ ap (either (truth_no truth)) (q.is ∙ ap (λ z. compared true Equal o (operand_value ps z)) c.is))
+        let c = is_constant h in
+        a.over t.to (truth_in u) c.constant c.token
+        (j.is ∙ ap (either (truth_in v)) (q.is ∙ ap (λ z. compared true Equal o (operand_value ps z)) c.is))
 
-    module _ {kind' which' begin' behind : ℕ} {below' : Bool} {size' : ℕ} (i : HeardOn wants_mark s to kind' which' begin' behind below' size') where
-      further_on : at ≤ behind
-      further_on = through so_far (heard_ahead i)
+    pub values_wrong : {e : Stop} → NothingHeardOn wants_mark s t.to e → ValuesStop s at (bad_relation e.at)
+    values_wrong i = record {
+      on = through so_far i.on;
+      most = i.most;
+      wrong = λ limit w p x. (values_to.over limit).moves w p x ∙ mark_stops i limit w p x values_to.values;
+    }
 
-      pub values_wrong : {t' : ℕ} → kind' ≡ 0 → ValuesRead o s at 14 behind t'
-      values_wrong e =
-          values_refused further_on i.most (λ limit w p x. (values_to.over limit).moves w p x ∙ mark_stops (zeroed i e) limit w p x values_to.values)
+    module _ {m : Mark} (i : MarkOver s t.to m) where
+      further_on : at ≤ m.to
+      further_on = let b : at ≤ t.to = so_far in let c : t.to < m.to = i.further in omega arith
 
-      module _ (m : kind' ≡ 0 → ⊥) where
-        pub values_done : which' ≡ 2 → ValuesRead o s at 0 behind t
-        unfolding token_of
-        values_done e =
-            record {
-              on = further_on;
-              most = i.most;
-              fine = λ _. record { last = to; values = values_to; close = i.word (is_word i m) (Fixed (text ")")) (ap (λ k. token_of (suc begin') (word_of (text "," ∷ text ")" ∷ []) k)) e) };
-              wrong = λ z. absurd (z refl);
-            }
+      pub values_done : m.closes ≡ true → ValuesOver o s at (record { to = m.to; truth = u })
+      values_done e = record { on = further_on; most = i.most; last = t.to; values = values_to; close = i.closing e }
 
-        comma : (which' ≡ 2 → ⊥) → TokenAt (suc to) (drop to s) (Fixed (text ",")) (suc behind) (drop behind s)
-        unfolding token_of
-        comma f =
-            let k = is_word i m in
-            let low : 1 ≤ which' = i.least k in
-            let high : which' ≤ 2 = i.last k in
-            let e : which' ≡ 1 = omega arith in
-            i.word k (Fixed (text ",")) (ap (λ k. token_of (suc begin') (word_of (text "," ∷ text ")" ∷ []) k)) e)
-
-        pub values_on : (which' ≡ 2 → ⊥) → ValuesSo o s at behind t
-        unfolding among_of take next
-        values_on f =
-            let v = values_to in
-            record {
-              on = further_on;
-              most = i.most;
-              over =
-                  λ end x c k e.
-                  record {
-                    values = More v.values c;
-                    over = λ limit. over_next_value limit c (v.over limit) (comma f) k;
-                    is = ap (λ z. either z (compared true Equal o (some c))) v.is ∙ sym e;
-                  };
-              stops =
-                  λ g limit w p x.
-                  (v.over limit).moves w p x
-                  ∙ token_moves limit (comma f) (AtListed w p x v.values) (AtComma w p x v.values) refl refl
-                  ∙ comma_stops g limit w p x v.values;
-            }
-
-pub values_further : {s : List ℕ} {from kind which begin to : ℕ} {below : Bool} {size : ℕ} → HeardOn wants_constant s from kind which begin to below size
-    → {kind' which' begin' behind : ℕ} {below' : Bool} {size' : ℕ} → HeardOn wants_mark s to kind' which' begin' behind below' size' → (kind' ≡ 0 → ⊥) → from < behind
-values_further {from = from} {to = to} h {begin' = begin'} {behind = behind} i m =
-    let a : from ≤ to = heard_ahead h in let b : to ≤ begin' = i.begins in let c : begin' < behind = i.further m in omega arith
+      pub values_on : m.closes ≡ false → ValuesSo o s at m.to (truth_in u)
+      unfolding among_of take next
+      values_on e =
+          let v' = values_to in
+          record {
+            on = further_on;
+            most = i.most;
+            over =
+                λ end y c k f.
+                record {
+                  values = More v'.values c;
+                  over = λ limit. over_next_value limit c (v'.over limit) (i.comma e) k;
+                  is = ap (λ z. either z (compared true Equal o (some c))) v'.is ∙ sym f;
+                };
+            stops =
+                λ g limit w p x.
+                (v'.over limit).moves w p x
+                ∙ token_moves limit (i.comma e) (AtListed w p x v'.values) (AtComma w p x v'.values) refl refl
+                ∙ comma_stops g limit w p x v'.values;
+          }
 
 -- ---- IN
 
-module _ {s : List ℕ} {at kind which from to : ℕ} {below : Bool} {size : ℕ} (h : HeardOn wants_open s at kind which from to below size) where
-  pub among_none : {o : Option Constant} {t : ℕ} → kind ≡ 0 → AmongRead o s at 14 to t
-  among_none e = record { on = heard_ahead h; most = h.most; fine = λ z. never z; wrong = λ _. open_stops (zeroed h e) }
+module _ {s : List ℕ} {at : ℕ} where
+  pub among_none : {e : Stop} → NothingHeardOn wants_open s at e → AmongStop s at (bad_relation e.at)
+  among_none h = record { on = h.on; most = h.most; wrong = open_stops h }
 
-  opened : (kind ≡ 0 → ⊥) → TokenAt (suc at) (drop at s) (Fixed (text "(")) (suc to) (drop to s)
-  unfolding token_of
-  opened n =
-      let k = is_word h n in
-      let a : 1 ≤ which = h.least k in
-      let b : which ≤ 1 = h.last k in
-      let e : which ≡ 1 = omega arith in
-      h.word k (Fixed (text "(")) (ap (λ k. token_of (suc from) (word_of (text "(" ∷ []) k)) e)
+  module _ {t : Found} (h : TokenHeardOn wants_open s at t) where
+    opened : TokenAt (suc at) (drop at s) (Fixed (text "(")) (suc t.to) (drop t.to s)
+    unfolding token_of
+    opened =
+        let a : 1 ≤ word_in t.kind = word_least h in
+        let b : word_in t.kind ≤ 1 = word_last h in
+        word_token h 1 (omega arith) (Fixed (text "(")) refl
 
-  pub among_all : (kind ≡ 0 → ⊥) → (p : List ℕ) (x : Operand) {v : Value} {number end truth : ℕ} → ValueIs s p x v → ValuesRead (constant_in s p v) s to number end truth
-      → AmongRead (operand_value (held_in p) x) s at number end truth
-  unfolding take next
-  among_all n p x {v} {number} {end} {truth} i r =
-      subst (λ o. AmongRead o s at number end truth) i.is
-      (record {
-        on = through (heard_ahead h) r.on;
-        most = r.most;
-        fine = λ e. record { first = to; opening = opened n; rest = r.fine e };
-        wrong = λ e limit w q y. token_moves limit (opened n) (AtIn w q y) (AtOpen w q y) refl refl ∙ r.wrong e limit w q y;
-      })
+    among_rest : (o : Option Constant) (r : Result Read Refused) → ValuesRead o s t.to r → AmongRead o s at r
+    unfolding take next
+    among_rest o (Ok r) v = record { first = t.to; on = heard_ahead h; opening = opened; rest = v }
+    among_rest o (Err e) v = record {
+      on = through (heard_ahead h) v.on;
+      most = v.most;
+      wrong = λ limit w q y. token_moves limit opened (AtIn w q y) (AtOpen w q y) refl refl ∙ v.wrong limit w q y;
+    }
+
+    pub among_all : (p : List ℕ) (x : Operand) {v : Maybe ConstantTold} (r : Result Read Refused) → ValueIs p x v → ValuesRead (value_in v) s t.to r
+        → AmongRead (operand_value (held_in p) x) s at r
+    among_all p x r i k = subst (λ o. AmongRead o s at r) i.is (among_rest _ r k)

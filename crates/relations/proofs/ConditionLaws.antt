@@ -1,16 +1,15 @@
 -- Single conditions without a NOT: cut off, in a parenthesis, or by their first token.
-use Prim.Native.Nat.{ℕ, zero, suc, ◌+◌, ◌-◌, ◌≤◌, ◌<◌}
+use Prim.Native.Nat.{ℕ, suc, ◌+◌, ◌-◌, ◌≤◌, ◌<◌}
 use mathlib.Core.Path.{◌≡◌, refl, sym, ◌∙◌, ap, subst}
-use mathlib.Core.Bool.{Bool, true, false}
+use mathlib.Core.Bool.{true, false}
 use mathlib.Core.List.{List, [], ◌∷◌, ◌++◌}
 use mathlib.Core.Option.{none}
-use mathlib.Core.Logic.{◌⊎◌, inl, inr}
 use native.Mathlib.Omega.{arith}
 use native.Mathlib.Numerals.{add-one}
-use lib.Dec.{eqb, leb}
+use lib.Dec.{leb}
 use lib.ListN.{length, drop, get_or, drop_of_length-le}
 use lib.Seq.{drop-cons}
-use borrow.Author.Tests.{lt-leb, le-leb, eqb-true, eqb-false}
+use borrow.Author.Tests.{lt-leb, le-leb}
 use Rattle.rules.specs.Letters.{text}
 use Rattle.relation_rules.specs.Grammar.{Fixed, OrChain, FirstAnd, Or, token_of, goes_on, apart, deepest, past}
 use Rattle.relation_rules.specs.Reader.{Part, Around, AtCondition, next, complete, Between, run}
@@ -20,38 +19,41 @@ use Rattle.relation_rules.proofs.MoveLaws.{stops_cut, stops_too_deep, true_group
 use Rattle.layout.specs.Reads.{part}
 use Rattle.relation_words.specs.Words.{Gap}
 use Rattle.relation_words.proofs.PartLaws.{part_rest, past_part}
-use Rattle.relation_words.proofs.RunLaws.{one_part}
+use Rattle.relation_words.proofs.StretchLaws.{one_part}
 use Rattle.relation_words.proofs.TokenLaws.{gap_moves, gap_token}
-use Rattle.relations.specs.Reading.{SingleRead, SimpleRead, OrRead, ClosedAs, DepthAt}
-use Rattle.relations.proofs.JoinLaws.{never, through}
+use Rattle.relations.specs.declared.conditions.Next.{Next}
+use Rattle.relations.specs.declared.conditions.Next.TheVariants.{And, Closed, End}
+use Rattle.relations.specs.declared.conditions.Next.TheVariants as nexts
+use Rattle.relations.specs.declared.conditions.Chain.{Chain}
+use Rattle.relations.specs.declared.told.Read.{Read}
+use Rattle.relations.specs.declared.told.Refused.{Refused}
+use Rattle.relations.specs.Told.{bad_relation, deep_relation}
+use Rattle.relations.specs.Reading.{SingleOver, SingleStop, OrOver, OrStop, Closes, Unclosed}
+use Rattle.relations.proofs.ExpectedLaws.{through}
 
-zero_or : (k : ℕ) → (k ≡ 0) ⊎ (k ≡ 0 → ⊥)
-zero_or zero = inl refl
-zero_or (suc k) = inr (λ e. never e)
+pub single_cut : {d : ℕ} {s : List ℕ} {at i : ℕ} → Gap s at i → length s ≤ i → SingleStop d s at (bad_relation i)
+unfolding complete
+single_cut {s = s} {at = at} {i = i} g l = record {
+  on = g.on;
+  most = g.most;
+  stops = record {
+    stops =
+        λ w p k.
+        gap_moves g deepest (AtCondition w p) ∙ ap (run deepest (suc i) (Between (AtCondition w p))) (drop_of_length-le s l) ∙ stops_cut deepest (suc i) (AtCondition w p) refl;
+  };
+}
 
--- ---- a single condition
-
-pub single_refused : {ps : List Held} {d : ℕ} {s : List ℕ} {at to number truth : ℕ} → at ≤ to → to ≤ length s → (number ≡ 0 → ⊥) → StopsSingle deepest d (suc at) (drop at s) number (suc to) → SingleRead ps d s at number to truth
-single_refused a b n f = record { on = a; most = b; fine = λ e. absurd (n e); wrong = λ _. f }
-
-module _ {d : ℕ} {s : List ℕ} {at i : ℕ} (g : Gap s at i) where
-  pub single_cut : {ps : List Held} {t : ℕ} → length s ≤ i → SingleRead ps d s at 14 i t
-  unfolding complete
-  single_cut l =
-      single_refused g.on g.most (λ e. never e)
-      (record {
-        stops =
-            λ w p k.
-            gap_moves g deepest (AtCondition w p) ∙ ap (run deepest (suc i) (Between (AtCondition w p))) (drop_of_length-le s l) ∙ stops_cut deepest (suc i) (AtCondition w p) refl;
-      })
-
-pub single_deep_lem : {ps : List Held} {s : List ℕ} {at i depth t : ℕ} → Gap s at i → i < length s → get_or s i 0 ≡ 40 → depth ≡ 0 → SingleRead ps (16 - depth) s at 15 i t
-single_deep_lem {ps} {s} {at} {i} {depth} g l e z =
+pub single_deep : {s : List ℕ} {at i : ℕ} (depth : ℕ) → Gap s at i → i < length s → get_or s i 0 ≡ 40 → depth ≡ 0 → SingleStop (16 - depth) s at (deep_relation i)
+single_deep {s} {at} {i} depth g l e z =
     let k : 16 ≤ 16 - depth = omega arith in
-    single_refused g.on g.most (λ f. never f)
-    (subst (λ m. StopsSingle deepest (16 - depth) (suc at) (drop at s) 15 m) (past_part s at i g.on g.most)
-    (subst (λ z. StopsSingle deepest (16 - depth) (suc at) z 15 (past (part s at i) (suc at))) (sym (part_rest s at i g.on ∙ ap (λ z. part s at i ++ z) (drop-cons s i 0 l ∙ ap (λ b. b ∷ drop (suc i) s) e)))
-    (stops_too_deep deepest (16 - depth) (suc at) (part s at i) (drop (suc i) s) (le-leb 16 (16 - depth) k) g.blanks)))
+    record {
+      on = g.on;
+      most = g.most;
+      stops =
+          subst (λ m. StopsSingle deepest (16 - depth) (suc at) (drop at s) 15 m) (past_part s at i g.on g.most)
+          (subst (λ z. StopsSingle deepest (16 - depth) (suc at) z 15 (past (part s at i) (suc at))) (sym (part_rest s at i g.on ∙ ap (λ z. part s at i ++ z) (drop-cons s i 0 l ∙ ap (λ b. b ∷ drop (suc i) s) e)))
+          (stops_too_deep deepest (16 - depth) (suc at) (part s at i) (drop (suc i) s) (le-leb 16 (16 - depth) k) g.blanks));
+    }
 
 -- the parenthesis at i, behind blanks
 open_token : {s : List ℕ} {at i : ℕ} → Gap s at i → i < length s → get_or s i 0 ≡ 40 → TokenAt (suc at) (drop at s) (Fixed (text "(")) (suc (suc i)) (drop (suc i) s)
@@ -83,79 +85,61 @@ unclosed d w (Or o a) e = go w.outer e
     go [] f = absurd (omega arith)
     go (p ∷ ps) f = refl
 
-pub single_group : {ps : List Held} {s : List ℕ} {at i depth number to truth next after n t x : ℕ} → DepthAt s at depth → Gap s at i → i < length s → get_or s i 0 ≡ 40 → (depth ≡ 0 → ⊥)
-    → OrRead ps (16 - (depth - 1)) s (i + 1) number to truth next after → ClosedAs number to truth next after n t x → SingleRead ps (16 - depth) s at n t x
-single_group {ps} {s} {at} {i} {depth} {number} {to} {truth} {next} {after} {n} {t} {x} p g l e z r' c = by_number (zero_or number)
-  where
-    left : depth ≤ 16
-    left = p.left
+module _ {s : List ℕ} {at i : ℕ} (depth : ℕ) (left : depth ≤ 16) (g : Gap s at i) (l : i < length s) (e : get_or s i 0 ≡ 40) (z : depth ≡ 0 → ⊥) where
+  one_deeper : 16 - (depth - 1) ≡ suc (16 - depth)
+  one_deeper = omega arith
 
-    one_deeper : 16 - (depth - 1) ≡ suc (16 - depth)
-    one_deeper = omega arith
+  token : TokenAt (suc at) (drop at s) (Fixed (text "(")) (suc (suc i)) (drop (suc i) s)
+  token = open_token g l e
 
-    r : OrRead ps (suc (16 - depth)) s (suc i) number to truth next after
-    r = subst (λ k. OrRead ps (suc (16 - depth)) s k number to truth next after) (add-one i) (subst (λ k. OrRead ps k s (i + 1) number to truth next after) one_deeper r')
+  room : leb deepest (16 - depth) ≡ false
+  room = lt-leb 16 (16 - depth) (omega arith)
 
-    token : TokenAt (suc at) (drop at s) (Fixed (text "(")) (suc (suc i)) (drop (suc i) s)
-    token = open_token g l e
+  behind : {to : ℕ} → suc i ≤ to → at ≤ to
+  behind {to} h = let a : at ≤ i = g.on in omega arith
 
-    room : leb deepest (16 - depth) ≡ false
-    room = lt-leb 16 (16 - depth) (omega arith)
+  pub group_refused : {m : Refused} → OrStop (16 - (depth - 1)) s (i + 1) m → SingleStop (16 - depth) s at m
+  group_refused {m} r' =
+      let r = subst (λ k. OrStop (suc (16 - depth)) s k m) (add-one i) (subst (λ k. OrStop k s (i + 1) m) one_deeper r') in
+      record { on = behind r.on; most = r.most; stops = stops_group deepest room token r.stops }
 
-    begins : at ≤ to
-    begins = let a : at ≤ i = g.on in let b : suc i ≤ to = r.on in omega arith
+  module _ {ps : List Held} {inside : Chain} (r' : OrOver ps (16 - (depth - 1)) s (i + 1) inside) where
+    r : OrOver ps (suc (16 - depth)) s (suc i) inside
+    r = subst (λ k. OrOver ps (suc (16 - depth)) s k inside) (add-one i) (subst (λ k. OrOver ps k s (i + 1) inside) one_deeper r')
 
-    refused : (number ≡ 0 → ⊥) → SingleRead ps (16 - depth) s at n t x
-    refused f =
-        let k = c.wrong f in
-        subst (λ m. SingleRead ps (16 - depth) s at m t x) (sym k.0)
-        (subst (λ m. SingleRead ps (16 - depth) s at number m x) (sym k.1) (single_refused begins r.most f (stops_group deepest room token (r.wrong f))))
+    pub group_closed : {x : Read} → Closes inside x → SingleOver ps (16 - depth) s at x
+    group_closed {x} c =
+        let j = r.behind in
+        let made : SingleOver ps (16 - depth) s at (record { to = inside.after; truth = inside.truth }) =
+        record { on = behind (through r.on j.on); most = j.most; is = true_group deepest room token r.is (j.close c.next_is) } in
+        subst (λ k. SingleOver ps (16 - depth) s at (record { to = k; truth = x.truth })) (sym c.to_is)
+        (subst (λ k. SingleOver ps (16 - depth) s at (record { to = inside.after; truth = k })) (sym c.truth_is) made)
 
-    well : number ≡ 0 → (next ≡ 3) ⊎ (next ≡ 3 → ⊥) → SingleRead ps (16 - depth) s at n t x
-    well f (inl h) =
-        let k = c.close f h in
-        let j = r.behind f in
-        subst (λ m. SingleRead ps (16 - depth) s at m t x) (sym k.0)
-        (subst (λ m. SingleRead ps (16 - depth) s at 0 m x) (sym k.1)
-        (subst (SingleRead ps (16 - depth) s at 0 after) (sym k.2)
+    ends : (inside.next ≡ Closed → ⊥) → inside.next ≡ End
+    ends n = go inside.next refl
+      where
+        go : (k : Next) → inside.next ≡ k → inside.next ≡ End
+        go And e = absurd (r.no_and e)
+        go nexts.Or e = absurd (r.no_or e)
+        go Closed e = absurd (n e)
+        go End e = e
+
+    pub group_unclosed : {m : Refused} → Unclosed inside m → SingleStop (16 - depth) s at m
+    group_unclosed {m} u =
+        let j = r.behind in
+        let four = ends u.no_close in
+        let o = r.is in
+        subst (SingleStop (16 - depth) s at) (sym u.is)
         (record {
-          on = through begins j.on;
+          on = behind (through r.on j.on);
           most = j.most;
-          fine = λ _. true_group deepest room token (r.fine f) (j.close h);
-          wrong = λ m. absurd (m refl);
-        })))
-    well f (inr h) =
-        let k = c.cut f h in
-        let o = r.fine f in
-        let j = r.behind f in
-        let low : 3 ≤ next = r.least f in
-        let few : next ≤ 4 = j.few in
-        let four : next ≡ 4 = ending low few h in
-        subst (λ m. SingleRead ps (16 - depth) s at m t x) (sym k.0)
-        (subst (λ m. SingleRead ps (16 - depth) s at 14 m x) (sym k.1)
-        (single_refused (through begins j.on) j.most (λ m. never m)
-        (stops_unclosed deepest room token o.over
-        (λ w q.
-        gap_moves (j.end four) deepest (behind_or w o.tree)
-        ∙ ap (run deepest (suc after) (Between (behind_or w o.tree))) (drop_of_length-le s (at_end_lem (j.over four)))
-        ∙ stops_cut deepest (suc after) (behind_or w o.tree) (unclosed (16 - depth) w o.tree q)))))
+          stops =
+              stops_unclosed deepest room token o.over
+              (λ w q.
+              gap_moves (j.end four) deepest (behind_or w o.tree)
+              ∙ ap (run deepest (suc inside.after) (Between (behind_or w o.tree))) (drop_of_length-le s (at_end_lem (j.over four)))
+              ∙ stops_cut deepest (suc inside.after) (behind_or w o.tree) (unclosed (16 - depth) w o.tree q));
+        })
       where
-        ending : 3 ≤ next → next ≤ 4 → (next ≡ 3 → ⊥) → next ≡ 4
-        ending a b m = omega arith
-
-        at_end_lem : after ≡ length s → length s ≤ after
+        at_end_lem : inside.after ≡ length s → length s ≤ inside.after
         at_end_lem m = omega arith
-
-    by_number : (number ≡ 0) ⊎ (number ≡ 0 → ⊥) → SingleRead ps (16 - depth) s at n t x
-    by_number (inl f) = well f (decide next)
-      where
-        decide : (k : ℕ) → (k ≡ 3) ⊎ (k ≡ 3 → ⊥)
-        decide k = go (eqb k 3) refl
-          where
-            go : (y : Bool) → eqb k 3 ≡ y → (k ≡ 3) ⊎ (k ≡ 3 → ⊥)
-            go true h = inl (eqb-true k 3 h)
-            go false h = inr (eqb-false k 3 h)
-    by_number (inr f) = refused f
-
-pub single_simple : {ps : List Held} {d : ℕ} {s : List ℕ} {at number to truth : ℕ} → SimpleRead ps s at number to truth → SingleRead ps d s at number to truth
-single_simple {d = d} r = r.read d

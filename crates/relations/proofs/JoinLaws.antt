@@ -1,7 +1,7 @@
 -- What comes behind a single condition or an assignment.
-use Prim.Native.Nat.{ℕ, zero, suc, ◌-◌, ◌≤◌, ◌<◌}
-use mathlib.Core.Path.{◌≡◌, refl, ◌∙◌, ap, subst}
-use mathlib.Core.Bool.{Bool, true, false, false≢true}
+use Prim.Native.Nat.{ℕ, zero, suc, ◌≤◌, ◌<◌}
+use mathlib.Core.Path.{◌≡◌, refl, ◌∙◌}
+use mathlib.Core.Bool.{true}
 use mathlib.Core.List.{List, [], ◌∷◌, map}
 use mathlib.Core.Option.{Option, some}
 use native.Mathlib.Omega.{arith}
@@ -11,60 +11,34 @@ use Rattle.rules.specs.Letters.{text, letter}
 use Rattle.relation_rules.specs.Grammar.{Fixed, OrChain, AndChain, token_of, reserved, deepest}
 use Rattle.relation_rules.specs.Reader.{Part, Around, AtSingle, next}
 use Rattle.rules.proofs.TestLaws.{and_false}
-use Rattle.relation_words.specs.Words.{Gap, word_of}
+use Rattle.relation_words.specs.declared.tokens.Token.{Token as Found}
+use Rattle.relation_words.specs.declared.tokens.Stop.{Stop}
+use Rattle.relation_words.specs.Words.{Gap}
 use Rattle.relation_words.specs.Wanted.{Wanted, wanted_by, plain_words}
-use Rattle.relation_words.specs.Heard.{may_hear, ByteAt, Heard}
+use Rattle.relation_words.specs.Heard.{ByteAt, TokenHeard, NothingHeard}
 use Rattle.relation_words.proofs.TokenLaws.{gap_moves, gap_token}
-use Rattle.relations.specs.Expected.{only_words, closes, wants_join}
-use Rattle.relations.specs.Reading.{Joined}
-
-pub never : {A : Type 0} {n : ℕ} → (suc n ≡ 0) → A
-never {A} {n} e = absurd (omega arith)
-
-pub differ : {A : Type 0} (m n : ℕ) → eqb m n ≡ false → m ≡ n → A
-differ m n e h = absurd (Rattle.relation_words.proofs.HeardLaws.differ {A = ⊥} m n e h)
-
--- ---- what comes behind a single condition
-
-module _ {s : List ℕ} {from kind which at to : ℕ} {below : Bool} {size depth : ℕ} where
-  pub closers_outer : depth ≡ 16 → Heard (wants_join 0) s from kind which at to below size → Heard (wants_join (16 - depth)) s from kind which at to below size
-  closers_outer e h = let k : 0 ≡ 16 - depth = omega arith in subst (λ d. Heard (wants_join d) s from kind which at to below size) k h
-
-  pub closers_inner : (depth ≡ 16 → ⊥) → depth ≤ 16 → Heard (wants_join 1) s from kind which at to below size → Heard (wants_join (16 - depth)) s from kind which at to below size
-  closers_inner e l h =
-      let k : suc (15 - depth) ≡ 16 - depth = omega arith in
-      subst (λ d. Heard (wants_join d) s from kind which at to below size) k h
+use Rattle.relations.specs.declared.conditions.Next.TheVariants.{And, Or, Closed, End}
+use Rattle.relations.specs.Told.{bad_relation}
+use Rattle.relations.specs.Expected.{only_words, closes, wants_join, word_in}
+use Rattle.relations.specs.Reading.{Joined, JoinStop}
+use Rattle.relations.proofs.ExpectedLaws.{through, here_least, here_last, here_token}
 
 pub byte_behind : {s : List ℕ} {at i : ℕ} → Gap s at i → i < length s → ByteAt s i
 byte_behind g l = record { there = l; no_blank = g.next l }
 
-pub join_end : {d : ℕ} {s : List ℕ} {at i : ℕ} → Gap s at i → length s ≤ i → Joined d s at 4 i
+pub join_end : {d : ℕ} {s : List ℕ} {at i : ℕ} → Gap s at i → length s ≤ i → Joined d s at End i
 join_end {d} {s} {at} {i} g l =
     let m : i ≤ length s = g.most in
     record {
       on = g.on;
       most = g.most;
-      few = omega arith;
-      wrong = λ e. differ 4 0 refl e;
-      and = λ e. differ 4 1 refl e;
-      or = λ e. differ 4 2 refl e;
-      close = λ e. differ 4 3 refl e;
+      and = λ e. cc;
+      or = λ e. cc;
+      close = λ e. cc;
       end = λ _. g;
       over = λ _. omega arith;
-      further = λ _ e. absurd (omega arith);
+      further = λ n. absurd (n refl);
     }
-
-pub word_kind : {ws : List (List ℕ)} {s : List ℕ} {at kind which from to : ℕ} {below : Bool} {size : ℕ} → Heard (only_words ws) s at kind which from to below size
-    → (kind ≡ 0 → ⊥) → kind ≡ 1
-word_kind {ws} {kind = kind} h n = go kind n h.asked
-  where
-    go : (k : ℕ) → (k ≡ 0 → ⊥) → may_hear (only_words ws) k ≡ true → k ≡ 1
-    go zero m a = absurd (m refl)
-    go (suc zero) m a = refl
-    go (suc (suc zero)) m a = absurd (false≢true a)
-    go (suc (suc (suc zero))) m a = absurd (false≢true a)
-    go (suc (suc (suc (suc zero)))) m a = absurd (false≢true a)
-    go (suc (suc (suc (suc (suc k))))) m a = absurd (false≢true a)
 
 join_wants : (w : Around) (os : Option OrChain) (a : AndChain) (d : ℕ) → length w.outer ≡ d → wanted_by (AtSingle w os a) ≡ wants_join d
 unfolding wanted_by next
@@ -86,44 +60,63 @@ unfolding token_of
 closes_token zero n = refl
 closes_token (suc d) n = refl
 
-pub through : {at i to : ℕ} → at ≤ i → i ≤ to → at ≤ to
-through {at} {i} {to} a b = omega arith
-
-module _ {d : ℕ} {s : List ℕ} {at i : ℕ} (g : Gap s at i) {kind which from to : ℕ} {below : Bool} {size : ℕ} (h : Heard (wants_join d) s i kind which from to below size) where
-  pub join_none : kind ≡ 0 → Joined d s at 0 to
+module _ (d : ℕ) {s : List ℕ} {at i : ℕ} (g : Gap s at i) where
+  pub join_none : {e : Stop} → NothingHeard (wants_join d) s i e → JoinStop d s at (bad_relation e.at)
   unfolding next
-  join_none e =
+  join_none h =
       record {
         on = through g.on h.on;
         most = h.most;
-        few = omega arith;
         wrong =
-            λ _ w os a k.
+            λ w os a k.
             gap_moves g deepest (AtSingle w os a)
-            ∙ (h.wrong e (plain_join d)).stops deepest (AtSingle w os a) (join_wants w os a d k) (and_false (eqb (get_or s i 0) (letter "(")));
-        and = λ f. differ 0 1 refl f;
-        or = λ f. differ 0 2 refl f;
-        close = λ f. differ 0 3 refl f;
-        end = λ f. differ 0 4 refl f;
-        over = λ f. differ 0 4 refl f;
-        further = λ f. absurd (omega arith);
+            ∙ (h.wrong (plain_join d)).stops deepest (AtSingle w os a) (join_wants w os a d k) (and_false (eqb (get_or s i 0) (letter "(")));
       }
 
-  pub join_word : (kind ≡ 0 → ⊥) → Joined d s at which to
-  unfolding token_of reserved
-  join_word n =
-      let k = word_kind h n in
-      let a : 1 ≤ which = h.least k in
-      let b : which ≤ 3 = h.last k in
-      record {
-        on = through g.on h.on;
-        most = h.most;
-        few = omega arith;
-        wrong = λ e. absurd (omega arith);
-        and = λ e. gap_token g (h.word k (Fixed (text "AND")) (ap (λ j. token_of (suc i) (word_of (wants_join d).words j)) e));
-        or = λ e. gap_token g (h.word k (Fixed (text "OR")) (ap (λ j. token_of (suc i) (word_of (wants_join d).words j)) e));
-        close = λ e. gap_token g (h.word k (Fixed (closes d)) (ap (λ j. token_of (suc i) (word_of (wants_join d).words j)) e ∙ closes_token d (suc i)));
-        end = λ e. absurd (omega arith);
-        over = λ e. absurd (omega arith);
-        further = λ _ _. let c : at ≤ i = g.on in let f : i < to = h.further n in omega arith;
-      }
+  module _ {t : Found} (h : TokenHeard (wants_join d) s i t) {k : ℕ} (told : k ≡ word_in t.kind) where
+    further : at < t.to
+    further = let a : at ≤ i = g.on in let b : i < t.to = h.further in omega arith
+
+    ahead : at ≤ t.to
+    ahead = let a : at < t.to = further in omega arith
+
+    pub join_and : k ≡ 1 → Joined d s at And t.to
+    unfolding token_of reserved
+    join_and e = record {
+      on = ahead;
+      most = h.most;
+      and = λ _. gap_token g (here_token h 1 (omega arith) (Fixed (text "AND")) refl);
+      or = λ f. cc;
+      close = λ f. cc;
+      end = λ f. cc;
+      over = λ f. cc;
+      further = λ _. further;
+    }
+
+    pub join_or : k ≡ 2 → Joined d s at Or t.to
+    unfolding token_of reserved
+    join_or e = record {
+      on = ahead;
+      most = h.most;
+      and = λ f. cc;
+      or = λ _. gap_token g (here_token h 2 (omega arith) (Fixed (text "OR")) refl);
+      close = λ f. cc;
+      end = λ f. cc;
+      over = λ f. cc;
+      further = λ _. further;
+    }
+
+    pub join_closed : (k ≡ 1 → ⊥) → (k ≡ 2 → ⊥) → Joined d s at Closed t.to
+    join_closed m n =
+        let a : 1 ≤ word_in t.kind = here_least h in
+        let b : word_in t.kind ≤ 3 = here_last h in
+        record {
+          on = ahead;
+          most = h.most;
+          and = λ f. cc;
+          or = λ f. cc;
+          close = λ _. gap_token g (here_token h 3 (omega arith) (Fixed (closes d)) (closes_token d (suc i)));
+          end = λ f. cc;
+          over = λ f. cc;
+          further = λ _. further;
+        }

@@ -1,12 +1,12 @@
 pub mod ExpectedLaws
 pub mod MarkLaws
-pub mod JoinLaws
 pub mod AmongLaws
 pub mod SimpleLaws
 pub mod FirstLaws
+pub mod JoinLaws
 pub mod ConditionLaws
-pub mod StartLaws
 pub mod ChainLaws
+pub mod StartLaws
 pub mod AssignmentLaws
 pub mod NameLaws
 pub mod TextLaws

@@ -1,37 +1,28 @@
--- A mark behind a constant of a list: a token of one byte, whatever stands behind it.
+-- A mark behind a constant of a list: a token of one byte, whatever stands behind it; or one that was read as anywhere.
 use Prim.Native.Nat.{ℕ, suc, ◌+◌, ◌≤◌, ◌<◌}
-use mathlib.Core.Path.{◌≡◌, refl, sym, ◌∙◌, ap, subst}
-use mathlib.Core.Bool.{Bool, true, false, not}
+use mathlib.Core.Path.{◌≡◌, refl, sym, ◌∙◌, ap}
+use mathlib.Core.Bool.{Bool, true, false, not, ◌||◌}
 use mathlib.Core.List.{List, [], ◌∷◌}
 use mathlib.Core.Option.{some}
 use native.Mathlib.Omega.{arith}
 use native.Mathlib.Numerals.{add-one}
 use lib.Dec.{eqb}
 use lib.ListN.{length, drop, get_or}
-use borrow.Author.Tests.{eq-eqb, ne_eqb, eqb-true}
+use borrow.Author.Tests.{eqb-true, eqb-false}
+use Rattle.rules.specs.Letters.{text}
 use Rattle.layout.specs.Reads.{part}
-use Rattle.relation_rules.specs.Grammar.{Token, Mark, sort_of, reaches, goes_on, apart, token_of}
-use Rattle.relation_words.specs.Words.{Gap, word_of}
+use Rattle.relation_rules.specs.Grammar.{Token, Fixed, Mark, sort_of, reaches, goes_on, apart, token_of}
+use Rattle.relation_rules.specs.Parts.{TokenAt}
+use Rattle.relation_words.specs.declared.tokens.Token.{Token as Found}
+use Rattle.relation_words.specs.Words.{Gap}
 use Rattle.relation_words.specs.Wanted.{TokenHere}
-use Rattle.relation_words.specs.Heard.{HeardOn}
-use Rattle.relation_words.proofs.RunLaws.{one_part}
-use Rattle.relation_words.proofs.HeardLaws.{heard_word}
-use Rattle.relation_words.proofs.TokenLaws.{on_token}
-use Rattle.relations.specs.Expected.{wants_mark, MarkIs}
+use Rattle.relation_words.specs.Heard.{TokenHeardOn}
+use Rattle.relation_words.proofs.StretchLaws.{one_part}
+use Rattle.relation_words.proofs.TokenLaws.{gap_token}
+use Rattle.relations.specs.Expected.{wants_mark, word_in, MarkOver}
+use Rattle.relations.proofs.ExpectedLaws.{word_least, word_last, word_token}
 
--- ---- which mark a byte is
-
-pub comma_is : {b : ℕ} → b ≡ 44 → MarkIs b 1
-comma_is {b} e = record { is = rw (eq-eqb b 44 e) }
-
-module _ {b : ℕ} (n : b ≡ 44 → ⊥) where
-  pub closing_is : b ≡ 41 → MarkIs b 2
-  closing_is e = record { is = rw (ne_eqb b 44 n, eq-eqb b 41 e) }
-
-  pub neither_is : (b ≡ 41 → ⊥) → MarkIs b 0
-  neither_is m = record { is = rw (ne_eqb b 44 n, ne_eqb b 41 m) }
-
--- ---- heard by its byte
+-- ---- by its byte
 
 mark_alone : (b : ℕ) (l : List ℕ) → sort_of b ≡ Mark → apart (b ∷ []) l ≡ true
 unfolding goes_on
@@ -50,23 +41,36 @@ module _ {s : List ℕ} {at i : ℕ} (g : Gap s at i) (l : i < length s) where
     alone = ap (λ z. apart z (drop (i + 1) s)) (one b e) ∙ mark_alone b (drop (i + 1) s) m;
   }
 
-  numbered : (b k : ℕ) → get_or s i 0 ≡ b → sort_of b ≡ Mark → 1 ≤ k → k ≤ 2 → word_of wants_mark.words k ≡ b ∷ [] → HeardOn wants_mark s at 1 k i (i + 1) false 0
-  numbered b k e m low high w =
-      on_token g (heard_word (omega arith) (omega arith) refl low high (λ t f. mark_here b e m t (ap (token_of (suc i)) (sym w) ∙ f)))
+  told : (b : ℕ) → get_or s i 0 ≡ b → sort_of b ≡ Mark → token_of (suc i) (b ∷ []) ≡ some (Fixed (b ∷ [])) → TokenAt (suc at) (drop at s) (Fixed (b ∷ [])) (suc (i + 1)) (drop (i + 1) s)
+  told b e m f = gap_token g (mark_here b e m (Fixed (b ∷ [])) f)
 
-  pub mark_heard : {k : ℕ} → MarkIs (get_or s i 0) k → 0 < k → HeardOn wants_mark s at 1 k i (i + 1) false 0
-  mark_heard {k} is h = comma (eqb (get_or s i 0) 44) refl
+  pub mark_byte : (eqb (get_or s i 0) 44 || eqb (get_or s i 0) 41) ≡ true → MarkOver s at (record { closes = eqb (get_or s i 0) 41; to = i + 1 })
+  unfolding token_of
+  mark_byte h = record {
+    further = let a : at ≤ i = g.on in omega arith;
+    most = omega arith;
+    closing = λ e. told 41 (eqb-true (get_or s i 0) 41 e) refl refl;
+    comma = λ e. told 44 (eqb-true (get_or s i 0) 44 (either (eqb (get_or s i 0) 44) (eqb (get_or s i 0) 41) h e)) refl refl;
+  }
     where
-      closing : (x : Bool) → eqb (get_or s i 0) 44 ≡ false → eqb (get_or s i 0) 41 ≡ x → HeardOn wants_mark s at 1 k i (i + 1) false 0
-      closing true n e =
-          let f : k ≡ 2 = is.is ∙ rw (n, e) in
-          subst (λ z. HeardOn wants_mark s at 1 z i (i + 1) false 0) (sym f) (numbered 41 2 (eqb-true _ _ e) refl (omega arith) (omega arith) refl)
-      closing false n e =
-          let f : k ≡ 0 = is.is ∙ rw (n, e) in
-          absurd (omega arith)
+      either : (x y : Bool) → (x || y) ≡ true → y ≡ false → x ≡ true
+      either true y p q = refl
+      either false y p q = absurd (mathlib.Core.Bool.false≢true (sym q ∙ p))
 
-      comma : (x : Bool) → eqb (get_or s i 0) 44 ≡ x → HeardOn wants_mark s at 1 k i (i + 1) false 0
-      comma true e =
-          let f : k ≡ 1 = is.is ∙ rw e in
-          subst (λ z. HeardOn wants_mark s at 1 z i (i + 1) false 0) (sym f) (numbered 44 1 (eqb-true _ _ e) refl (omega arith) (omega arith) refl)
-      comma false e = closing (eqb (get_or s i 0) 41) e refl
+-- ---- as a word
+
+pub mark_word : {s : List ℕ} {at k : ℕ} {t : Found} → TokenHeardOn wants_mark s at t → k ≡ word_in t.kind → MarkOver s at (record { closes = eqb k 2; to = t.to })
+unfolding token_of
+mark_word {s} {at} {k} {t} h e = record {
+  further = let a : at ≤ t.from = h.begins in let b : t.from < t.to = h.further in omega arith;
+  most = h.most;
+  closing = λ c. word_token h 2 (sym e ∙ eqb-true k 2 c) (Fixed (text ")")) refl;
+  comma = λ c. word_token h 1 (first c) (Fixed (text ",")) refl;
+}
+  where
+    first : eqb k 2 ≡ false → word_in t.kind ≡ 1
+    first c =
+        let a : 1 ≤ word_in t.kind = word_least h in
+        let b : word_in t.kind ≤ 2 = word_last h in
+        let d : k ≡ 2 → ⊥ = eqb-false k 2 c in
+        omega arith

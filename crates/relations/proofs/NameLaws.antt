@@ -1,26 +1,32 @@
 -- One name more, or a refusal.
 use Prim.Native.Nat.{ℕ, zero, suc, ◌+◌, ◌-◌, ◌≤◌, ◌<◌}
 use mathlib.Core.Path.{◌≡◌, refl, sym, ◌∙◌, ap, subst}
-use mathlib.Core.Bool.{Bool, true, false, ◌&&◌, not}
+use mathlib.Core.Bool.{Bool, true, false, ◌&&◌, ◌||◌, not}
 use mathlib.Core.List.{List, [], ◌∷◌, ◌++◌, map}
 use native.Mathlib.Omega.{arith}
 use native.Mathlib.Numerals.{add-one}
-use lib.Dec.{eqb, leb, ltb}
-use borrow.Author.Tests.{eqb-true, eqb-false, lt-ltb, le-ltb}
-use lib.ListN.{length, take, get_or, set, length-set, length-map}
-use lib.Seq.{get_or-set_same, get_or-set_other, length-take-le}
+use native.Mathlib.Nat.{not-suc-le-zero}
+use lib.Dec.{leb, ltb}
+use borrow.Author.Tests.{lt-ltb, le-ltb, leb-true, leb-false}
+use lib.ListN.{length, take, set, length-map}
+use lib.Seq.{length-take-le}
+use Rattle.std.specs.Prelude.{Ok, Err, All}
+use Rattle.std.specs.declared.result.Result.{Result}
+use Rattle.std.proofs.lemmas.List.Elements.{All-append}
 use Rattle.rules.specs.Lists.{all, between}
 use Rattle.rules.specs.Bytes.{name_byte}
 use Rattle.rules.specs.declared.Part.{Part}
-use Rattle.rules.specs.PlacedRefusals.{ResultAt, Done, RefusedAt}
+use Rattle.rules.specs.PlacedRefusals.{ResultAt, Done}
 use Rattle.relation_rules.specs.Truth.{grantable, most_names}
 use Rattle.layout.proofs.PartLaws.{part_length}
 use Rattle.rules.proofs.TestLaws.{and_false, and_left, so, not_so, between_high}
 use Rattle.layout.specs.Ensures.{Says}
+use Rattle.relations.specs.declared.assignments.Assigned.{Assigned}
 use Rattle.relations.specs.declared.names.Names.{Names}
-use Rattle.relations.specs.Names.{no_part, names_of, NamesTell, Bare, kept_name, with_name, Grows}
+use Rattle.relations.specs.declared.told.Refused.{Refused}
+use Rattle.relations.specs.Told.{unfit_name}
+use Rattle.relations.specs.Names.{names_of, parts_in, PartIn, NamesTell, Tells, kept_name, with_name, Grows}
 use Rattle.relations.specs.Assignments.{part_in, Within}
-use Rattle.relations.proofs.JoinLaws.{never}
 
 -- ---- parts in a list
 
@@ -33,134 +39,96 @@ map_append : {A B : Type 0} (f : A → B) (xs ys : List A) → map f (xs ++ ys) 
 map_append f [] ys = refl
 map_append f (x ∷ xs) ys = ap (λ r. f x ∷ r) (map_append f xs ys)
 
-names_length : (s : List ℕ) (parts : List Part) (n : ℕ) → n ≤ length parts → length (names_of s parts n) ≡ n
-names_length s parts n h = length-map (take n parts) (part_in s) ∙ length-take-le n parts h
+all_one : (P : Part → Type 0) (y : Part) → P y → All P (y ∷ [])
+all_one P y p zero d h = p
+all_one P y p (suc k) d h = absurd (omega arith)
 
-names_set : (s : List ℕ) (parts : List Part) (n : ℕ) (p : Part) → n < length parts → names_of s (set parts n p) (n + 1) ≡ names_of s parts n ++ (part_in s p ∷ [])
-names_set s parts n p h =
-    ap (λ k. names_of s (set parts n p) k) (add-one n) ∙ ap (map (part_in s)) (take_set parts n p h) ∙ map_append (part_in s) (take n parts) (p ∷ [])
+names_length : (s : List ℕ) (parts : List Part) (n : ℕ) → n ≤ length parts → length (names_of s (take n parts)) ≡ n
+names_length s parts n h = length-map (take n parts) (part_in s) ∙ length-take-le n parts h
 
 -- ---- names that code may grant
 
 pub grantable_is : (s : List ℕ) {good : Bool} → Says (all name_byte s) good → Says (grantable s) ((leb 1 (length s) && leb (length s) 20) && good)
 grantable_is s h = record { is = ap (λ b. between 1 20 (length s) && b) h.is }
 
--- ---- none yet, or a refusal
+-- ---- none yet
 
-bare_few : {number place : ℕ} {r : Names} → Bare number place r → r.count ≤ 32
-bare_few {r = r} b = let e : r.count ≡ 0 = b.empty in omega arith
-
-bare_none : {number place : ℕ} {r : Names} {A : Type 0} → Bare number place r → (i : ℕ) → i < r.count → A
-bare_none {r = r} b i l = let e : r.count ≡ 0 = b.empty in absurd (omega arith)
-
-pub tell_none : {s : List ℕ} {r : Names} → Bare 0 0 r → NamesTell s (Done []) r
-tell_none {s} {r} b =
-    record {
-      number_is = b.number_is;
-      place_is = b.place_is;
-      few = bare_few b;
-      names_are = λ _. sym (ap (λ n. Done (names_of s r.names n)) b.empty);
-      each_in = λ i l. bare_none b i l;
-      each_short = λ i l. bare_none b i l;
-      long = b.long;
-    }
-
-pub tell_refused : {s : List ℕ} {r : Names} (number place : ℕ) → (number ≡ 0 → ⊥) → Bare number place r → NamesTell s (RefusedAt number place) r
-tell_refused {s} {r} number place n b =
-    record {
-      number_is = b.number_is;
-      place_is = b.place_is;
-      few = bare_few b;
-      names_are = λ e. absurd (n (sym b.number_is ∙ e));
-      each_in = λ i l. bare_none b i l;
-      each_short = λ i l. bare_none b i l;
-      long = b.long;
-    }
+pub tell_none : {s : List ℕ} {r : Names} → r.count ≡ 0 → Tells s (Done []) (Ok r)
+tell_none {s} {r} e = record {
+  is = sym (ap (λ n. Done (names_of s (take n r.names))) e);
+  few = omega arith;
+  each = subst (λ n. All (PartIn s) (take n r.names)) (sym e) (λ k d h. absurd (not-suc-le-zero h));
+}
 
 -- ---- one assignment more
 
 -- what is made of the names so far where the name is granted
-made : (s : List ℕ) (old : Names) (place : ℕ) (n : List ℕ) (granted : Bool) (o : ResultAt (List (List ℕ))) → NamesTell s o old → old.number ≡ 0 → not granted ≡ false
-    → (x : Bool) → (grantable n && ltb old.count 32) ≡ x → with_name granted place n o ≡ kept_name true x place n (names_of s old.names old.count)
+made : (s : List ℕ) (one : Assigned) (old : Names) (o : ResultAt (List (List ℕ))) → NamesTell s o old → length old.names ≡ 32 → one.granted ≡ true
+    → (x : Bool) → (grantable (part_in s one.name) && ltb old.count 32) ≡ x
+    → with_name one.granted (suc one.variable) (part_in s one.name) o ≡ kept_name true x (suc one.variable) (part_in s one.name) (names_of s (parts_in old))
 unfolding with_name
-made s old place n granted o h e g x f =
-    let ns = names_of s old.names old.count in
-    let fits : old.count ≤ length old.names = subst (λ k. old.count ≤ k) (sym h.long) h.few in
-    ap (with_name granted place n) (h.names_are e)
-    ∙ ap (λ b. kept_name b (grantable n && ltb (length ns) most_names) place n ns) (so granted g)
-    ∙ ap (λ b. kept_name true b place n ns) (ap (λ k. grantable n && ltb k 32) (names_length s old.names old.count fits) ∙ f)
+made s one old o h long g x f =
+    let ns = names_of s (parts_in old) in
+    let n = part_in s one.name in
+    let fits : old.count ≤ length old.names = let a : old.count ≤ 32 = h.few in omega arith in
+    ap (with_name one.granted (suc one.variable) n) h.is
+    ∙ ap (λ b. kept_name b (grantable n && ltb (length ns) most_names) (suc one.variable) n ns) g
+    ∙ ap (λ b. kept_name true b (suc one.variable) n ns) (ap (λ k. grantable n && ltb k 32) (names_length s old.names old.count fits) ∙ f)
 
-module _ {s : List ℕ} {old : Names} {place : ℕ} {name : Part} {granted : Bool} where
+module _ {s : List ℕ} {one : Assigned} where
   -- the first refusal stays
-  pub with_refused : (old.number ≡ 0 → ⊥) → Grows s old place name granted old
+  with_refused : {e : Refused} → Grows s (Err e) one (Err e)
   unfolding with_name
-  with_refused n = record { grows = go }
-    where
-      go : (o : ResultAt (List (List ℕ))) → NamesTell s o old → NamesTell s (with_name granted place (part_in s name) o) old
-      go (Done ns) h = absurd (n h.number_is)
-      go (RefusedAt k p) h = h
+  with_refused {e} = record { grows = λ o h. record { most = h.most; is = ap (with_name one.granted (suc one.variable) (part_in s one.name)) h.is } }
 
-  pub with_ungranted : not granted ≡ true → Grows s old place name granted old
-  unfolding with_name
-  with_ungranted n = record { grows = λ o h. subst (λ b. NamesTell s (with_name b place (part_in s name) o) old) (sym (not_so granted n)) (go o h) }
-    where
-      go : (o : ResultAt (List (List ℕ))) → NamesTell s o old → NamesTell s (with_name false place (part_in s name) o) old
-      go (Done ns) h = h
-      go (RefusedAt k p) h = h
+  pub with_err : {e : Refused} (so r : Result Names Refused) → so ≡ Err e → r ≡ Err e → Grows s so one r
+  with_err so r f g = rw (f, g) with_refused
 
-  module _ (e : old.number ≡ 0) (g : not granted ≡ false) where
-    refusing : {r : Names} → (grantable (part_in s name) && ltb old.count 32) ≡ false → Bare 16 place r → Grows s old place name granted r
-    refusing {r} f b = record { grows = λ o h. subst (λ z. NamesTell s z r) (sym (made s old place (part_in s name) granted o h e g false f)) (tell_refused 16 place (λ z. never z) b) }
+  module _ {old : Names} where
+    pub with_ungranted : not one.granted ≡ true → Grows s (Ok old) one (Ok old)
+    unfolding with_name
+    with_ungranted n = record {
+      grows = λ o h. record {
+        is = ap (with_name one.granted (suc one.variable) (part_in s one.name)) h.is ∙ ap (λ b. with_name b (suc one.variable) (part_in s one.name) (Done (names_of s (parts_in old)))) (not_so one.granted n);
+        few = h.few;
+        each = h.each;
+      };
+    }
 
-    module _ {good : Bool} (q : Says (grantable (part_in s name)) good) where
-      pub with_bad : {r : Names} → not good ≡ true → Bare 16 place r → Grows s old place name granted r
-      with_bad n b = refusing (ap (λ z. z && ltb old.count 32) (q.is ∙ not_so good n)) b
-
-      pub with_many : {r : Names} → 32 ≤ old.count → Bare 16 place r → Grows s old place name granted r
-      with_many l b = refusing (ap (λ z. grantable (part_in s name) && z) (le-ltb old.count 32 l) ∙ and_false (grantable (part_in s name))) b
-
-      pub with_more : Within s name → not good ≡ false → old.count < 32
-          → Grows s old place name granted (record { number = 0; place = 0; count = old.count + 1; names = set old.names old.count name })
-      with_more w n l = record { grows = λ o h. subst (λ z. NamesTell s z new) (sym (made s old place (part_in s name) granted o h e g true fine)) (told o h) }
+    module _ (long : length old.names ≡ 32) (g : not one.granted ≡ false) {good : Bool} (q : Says (grantable (part_in s one.name)) good) where
+      pub with_unfit : one.variable ≤ length s → (not good || leb 32 old.count) ≡ true → Grows s (Ok old) one (Err (unfit_name one.variable))
+      with_unfit l e = record { grows = λ o h. record { most = l; is = made s one old o h long (so one.granted g) false (unfit good e q) } }
         where
-          new : Names
-          new = record { number = 0; place = 0; count = old.count + 1; names = set old.names old.count name }
+          unfit : (b : Bool) → (not b || leb 32 old.count) ≡ true → Says (grantable (part_in s one.name)) b → (grantable (part_in s one.name) && ltb old.count 32) ≡ false
+          unfit false e q = ap (λ z. z && ltb old.count 32) q.is
+          unfit true e q = ap (λ z. grantable (part_in s one.name) && z) (le-ltb old.count 32 (leb-true 32 old.count e)) ∙ and_false (grantable (part_in s one.name))
 
-          grants : grantable (part_in s name) ≡ true
-          grants = q.is ∙ so good n
+      pub with_more : Within s one.name → (not good || leb 32 old.count) ≡ false → Grows s (Ok old) one (Ok (record { count = old.count + 1; names = set old.names old.count one.name }))
+      with_more w e = record { grows = λ o h. told o h }
+        where
+          split : (b : Bool) → (not b || leb 32 old.count) ≡ false → Says (grantable (part_in s one.name)) b → (grantable (part_in s one.name) ≡ true) × (old.count < 32)
+          split true e q = (q.is, leb-false 32 old.count e)
+          split false e q = absurd (mathlib.Core.Bool.false≢true (sym e))
 
-          fine : (grantable (part_in s name) && ltb old.count 32) ≡ true
-          fine = ap (λ z. z && ltb old.count 32) grants ∙ lt-ltb old.count 32 l
+          fits : (grantable (part_in s one.name) ≡ true) × (old.count < 32)
+          fits = split good e q
 
-          short : name.size ≤ 20
+          short : one.name.size ≤ 20
           short =
-              let inside : name.at + name.size ≤ length s = w.most in
-              let k : length (part_in s name) ≤ 20 = between_high 1 20 (length (part_in s name)) (and_left (between 1 20 (length (part_in s name))) (all name_byte (part_in s name)) grants) in
-              let j : length (part_in s name) ≡ name.at + name.size - name.at = part_length s name.at (name.at + name.size) inside in
+              let inside : one.name.at + one.name.size ≤ length s = w.most in
+              let k : length (part_in s one.name) ≤ 20 = between_high 1 20 (length (part_in s one.name)) (and_left (between 1 20 (length (part_in s one.name))) (all name_byte (part_in s one.name)) fits.0) in
+              let j : length (part_in s one.name) ≡ one.name.at + one.name.size - one.name.at = part_length s one.name.at (one.name.at + one.name.size) inside in
               omega arith
 
-          told : (o : ResultAt (List (List ℕ))) → NamesTell s o old → NamesTell s (Done (names_of s old.names old.count ++ (part_in s name ∷ []))) new
-          told o h =
-              record {
-                number_is = refl;
-                place_is = refl;
-                few = omega arith;
-                names_are = λ _. ap Done (sym (names_set s old.names old.count name here));
-                each_in = λ i k. each (λ p. p.at + p.size ≤ length s) h.each_in w.most i k;
-                each_short = λ i k. each (λ p. p.size ≤ 20) h.each_short short i k;
-                long = length-set old.names old.count name ∙ h.long;
-              }
-            where
-              here : old.count < length old.names
-              here = subst (λ k. old.count < k) (sym h.long) l
+          fine : (grantable (part_in s one.name) && ltb old.count 32) ≡ true
+          fine = ap (λ z. z && ltb old.count 32) fits.0 ∙ lt-ltb old.count 32 fits.1
 
-              each : (P : Part → Type 0) → ((i : ℕ) → i < old.count → P (get_or old.names i no_part)) → P name
-                  → (i : ℕ) → i < old.count + 1 → P (get_or (set old.names old.count name) i no_part)
-              each P before last i k = go (eqb i old.count) refl
-                where
-                  go : (x : Bool) → eqb i old.count ≡ x → P (get_or (set old.names old.count name) i no_part)
-                  go true f =
-                      subst P (sym (ap (λ j. get_or (set old.names old.count name) j no_part) (eqb-true i old.count f) ∙ get_or-set_same old.names old.count name no_part here)) last
-                  go false f =
-                      let apart : i ≡ old.count → ⊥ = eqb-false i old.count f in
-                      subst P (sym (get_or-set_other old.names old.count i name no_part apart)) (before i (omega arith))
+          grown : take (old.count + 1) (set old.names old.count one.name) ≡ parts_in old ++ (one.name ∷ [])
+          grown = let l : old.count < 32 = fits.1 in ap (λ k. take k (set old.names old.count one.name)) (add-one old.count) ∙ take_set old.names old.count one.name (omega arith)
+
+          told : (o : ResultAt (List (List ℕ))) → NamesTell s o old → NamesTell s (with_name one.granted (suc one.variable) (part_in s one.name) o) (record { count = old.count + 1; names = set old.names old.count one.name })
+          told o h = record {
+            is = made s one old o h long (so one.granted g) true fine ∙ ap Done (sym (ap (names_of s) grown ∙ map_append (part_in s) (parts_in old) (one.name ∷ [])));
+            few = let l : old.count < 32 = fits.1 in omega arith;
+            each = subst (All (PartIn s)) (sym grown) (All-append (PartIn s) (parts_in old) (one.name ∷ []) h.each (all_one (PartIn s) one.name (record { inside = w.most; short = short })));
+          }

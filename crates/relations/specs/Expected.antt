@@ -1,9 +1,28 @@
 -- What may come at each point of a condition.
-use Rattle.std.specs.Prelude.{ℕ, zero, suc, ◌≡◌, Bool, true, false, cond, List, [], ◌∷◌, ◌++◌, map, eqb}
-use Rattle.rules.specs.Letters.{text, letter}
-use Rattle.relation_rules.specs.Grammar.{sign_text}
+use Rattle.std.specs.Prelude.{ℕ, zero, suc, ◌≤◌, ◌<◌, ◌≡◌, Bool, true, false, List, [], ◌∷◌, ◌++◌, map, length, drop, Result, Ok, Err}
+use Rattle.rules.specs.Letters.{text}
+use Rattle.relation_rules.specs.Grammar.{Fixed, sign_text}
 use Rattle.relation_rules.specs.Reader.{all_signs}
+use Rattle.relation_rules.specs.Parts.{TokenAt}
+use Rattle.relation_words.specs.declared.tokens.Kind.{Kind}
+use Rattle.relation_words.specs.declared.tokens.Kind.TheVariants.{Word, Name as AName, Quoted as AString, Figure}
+use Rattle.relation_words.specs.declared.tokens.Stop.{Stop}
+use Rattle.relation_words.specs.Heard.{NothingHeardOn}
 use Rattle.relation_words.specs.Wanted.{Wanted}
+use Rattle.relations.specs.declared.expected.Mark.{Mark}
+
+-- the number of a word; 0: it is none
+abbrev pub word_in : Kind → ℕ
+word_in (Word k) = k
+word_in AName = 0
+word_in AString = 0
+word_in (Figure below size) = 0
+
+abbrev pub is_named : Kind → Bool
+is_named (Word k) = false
+is_named AName = true
+is_named AString = false
+is_named (Figure below size) = false
 
 abbrev pub only_words : List (List ℕ) → Wanted
 only_words ws = record { words = ws; name = false; quoted = false; whole = false }
@@ -26,9 +45,16 @@ wants_open = only_words (text "(" ∷ [])
 abbrev pub wants_mark : Wanted
 wants_mark = only_words (text "," ∷ text ")" ∷ [])
 
--- which of these a byte is, counted from 1; 0: neither
-pub record MarkIs (b r : ℕ) : Type 0 where
-  pub is : r ≡ cond (eqb b (letter ",")) 1 (cond (eqb b (letter ")")) 2 0)
+-- such a mark, up to where it ends; or nothing that may come
+pub record MarkOver (s : List ℕ) (at : ℕ) (m : Mark) : Type 0 where
+  pub further : at < m.to
+  pub most : m.to ≤ length s
+  pub closing : m.closes ≡ true → TokenAt (suc at) (drop at s) (Fixed (text ")")) (suc m.to) (drop m.to s)
+  pub comma : m.closes ≡ false → TokenAt (suc at) (drop at s) (Fixed (text ",")) (suc m.to) (drop m.to s)
+
+abbrev pub MarkRead : List ℕ → ℕ → Result Mark Stop → Type 0
+MarkRead s at (Ok m) = MarkOver s at m
+MarkRead s at (Err e) = NothingHeardOn wants_mark s at e
 
 -- a sign, or IN behind a name
 abbrev pub wants_sign : Bool → Wanted

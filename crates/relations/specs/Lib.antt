@@ -1,3 +1,4 @@
+pub mod Told
 pub mod Expected
 pub mod Reading
 pub mod Starts

@@ -1,39 +1,45 @@
 -- The names that code derives from a relation text: where each stands in it.
-use Rattle.std.specs.Prelude.{ℕ, ◌+◌, ◌≤◌, ◌<◌, ◌≡◌, Bool, true, false, ◌&&◌, List, [], ◌∷◌, ◌++◌, map, ltb, length, take, get_or}
-use Rattle.rules.specs.PlacedRefusals.{ResultAt, Done, RefusedAt, number_at, place_at}
+use Rattle.std.specs.Prelude.{ℕ, suc, ◌+◌, ◌≤◌, ◌≡◌, Bool, true, false, ◌&&◌, List, [], ◌∷◌, ◌++◌, map, ltb, length, take, Result, Ok, Err, All}
+use Rattle.rules.specs.PlacedRefusals.{ResultAt, Done, RefusedAt}
 use Rattle.rules.specs.declared.Part.{Part}
 use Rattle.relation_rules.specs.Truth.{Held, grantable, most_names}
 use Rattle.relation_rules.specs.Derived.{derived}
+use Rattle.relations.specs.Told.{refused_as}
 use Rattle.relations.specs.Assignments.{part_in}
+use Rattle.relations.specs.declared.assignments.Assigned.{Assigned}
 use Rattle.relations.specs.declared.names.Names.{Names}
+use Rattle.relations.specs.declared.told.Refused.{Refused}
 
-abbrev pub no_part : Part
-no_part = record { at = 0; size = 0 }
+-- these parts of a text
+abbrev pub names_of : List ℕ → List Part → List (List ℕ)
+names_of s parts = map (part_in s) parts
 
--- the first n of these parts of a text
-abbrev pub names_of : List ℕ → List Part → ℕ → List (List ℕ)
-names_of s parts n = map (part_in s) (take n parts)
+-- the parts that are names
+abbrev pub parts_in : Names → List Part
+parts_in r = take r.count r.names
 
--- r tells the outcome o: the refusal and its place, or 0 and the names
+-- a part lies in the text, and is no longer than a name
+pub record PartIn (s : List ℕ) (p : Part) : Type 0 where
+  pub inside : p.at + p.size ≤ length s
+  pub short : p.size ≤ 20
+
+-- r tells the outcome o: the names, or the refusal and its place
 pub record NamesTell (s : List ℕ) (o : ResultAt (List (List ℕ))) (r : Names) : Type 0 where
-  pub number_is : r.number ≡ number_at o
-  pub place_is : r.place ≡ place_at o
+  pub is : o ≡ Done (names_of s (parts_in r))
   pub few : r.count ≤ 32
-  pub names_are : r.number ≡ 0 → o ≡ Done (names_of s r.names r.count)
-  pub each_in : (i : ℕ) → i < r.count → (get_or r.names i no_part).at + (get_or r.names i no_part).size ≤ length s
-  pub each_short : (i : ℕ) → i < r.count → (get_or r.names i no_part).size ≤ 20
-  pub long : length r.names ≡ 32
+  pub each : All (PartIn s) (parts_in r)
 
--- a refusal; or no name yet
-pub record Bare (number place : ℕ) (r : Names) : Type 0 where
-  pub number_is : r.number ≡ number
-  pub place_is : r.place ≡ place
-  pub empty : r.count ≡ 0
-  pub long : length r.names ≡ 32
+pub record RefusalTells (s : List ℕ) (o : ResultAt (List (List ℕ))) (e : Refused) : Type 0 where
+  pub most : e.at ≤ length s
+  pub is : o ≡ refused_as e
+
+abbrev pub Tells : List ℕ → ResultAt (List (List ℕ)) → Result Names Refused → Type 0
+Tells s o (Ok r) = NamesTell s o r
+Tells s o (Err e) = RefusalTells s o e
 
 -- what a text s derives from the properties ps
-abbrev pub NamesIs : List ℕ → List Held → Names → Type 0
-NamesIs s ps r = NamesTell s (derived ps s) r
+abbrev pub NamesIs : List ℕ → List Held → Result Names Refused → Type 0
+NamesIs s ps r = Tells s (derived ps s) r
 
 -- ---- one assignment more
 
@@ -47,5 +53,5 @@ unfoldable pub with_name : Bool → ℕ → List ℕ → ResultAt (List (List �
 with_name granted place name (Done names) = kept_name granted (grantable name && ltb (length names) most_names) place name names
 with_name granted place name (RefusedAt number at) = RefusedAt number at
 
-pub record Grows (s : List ℕ) (old : Names) (place : ℕ) (name : Part) (granted : Bool) (r : Names) : Type 0 where
-  pub grows : (o : ResultAt (List (List ℕ))) → NamesTell s o old → NamesTell s (with_name granted place (part_in s name) o) r
+pub record Grows (s : List ℕ) (old : Result Names Refused) (one : Assigned) (r : Result Names Refused) : Type 0 where
+  pub grows : (o : ResultAt (List (List ℕ))) → Tells s o old → Tells s (with_name one.granted (suc one.variable) (part_in s one.name) o) r

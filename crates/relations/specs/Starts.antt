@@ -1,11 +1,14 @@
 -- The NOTs in front of a single condition, and where it starts behind them.
-use Rattle.std.specs.Prelude.{ℕ, suc, ◌≤◌, ◌<◌, ◌≡◌, Bool, List, length, drop, get_or}
+use Rattle.std.specs.Prelude.{ℕ, suc, ◌≤◌, ◌<◌, ◌≡◌, Bool, List, length, drop, get_or, Result, Ok, Err}
 use Rattle.relation_rules.specs.Grammar.{deepest}
 use Rattle.relation_rules.specs.Parts.{StopsSingle, SingleTrue}
 use Rattle.relation_rules.specs.Truth.{Held, Truth}
 use Rattle.relation_words.specs.Words.{Gap}
-use Rattle.relations.specs.Reading.{turned_by, FirstAt}
+use Rattle.relations.specs.Reading.{turned_by, FirstAt, SingleStop}
+use Rattle.relations.specs.declared.starts.First.{First}
+use Rattle.relations.specs.declared.starts.First.TheVariants.{Parenthesis, Token}
 use Rattle.relations.specs.declared.starts.Start.{Start}
+use Rattle.relations.specs.declared.told.Refused.{Refused}
 
 -- from `at` to `behind` stand NOTs: what is read behind them is read from `at` on, turned or not, and what is refused is refused
 pub record NotsOver (s : List ℕ) (at behind : ℕ) (turned : Bool) : Type 0 where
@@ -15,12 +18,24 @@ pub record NotsOver (s : List ℕ) (at behind : ℕ) (turned : Bool) : Type 0 wh
       → SingleTrue deepest ps d (suc at) (drop at s) (turned_by turned v) (suc to) (drop to s)
   pub stops : (d k p : ℕ) → StopsSingle deepest d (suc behind) (drop behind s) k p → StopsSingle deepest d (suc at) (drop at s) k p
 
--- behind them and behind blanks stands nothing, a parenthesis, or a token that is no NOT
-pub record StartRead (s : List ℕ) (at : ℕ) (r : Start) : Type 0 where
+-- at `from`, behind blanks, stands a parenthesis or a token that is no NOT
+pub record OpenAt (s : List ℕ) (at from : ℕ) : Type 0 where
+  pub gap : Gap s at from
+  pub there : from < length s
+  pub opens : get_or s from 0 ≡ 40
+
+abbrev pub FirstIs : List ℕ → ℕ → ℕ → First → Type 0
+FirstIs s at from Parenthesis = OpenAt s at from
+FirstIs s at from (Token t) = FirstAt s at t
+
+pub record StartOver (s : List ℕ) (at : ℕ) (r : Start) : Type 0 where
   pub nots : NotsOver s at r.at r.turned
-  pub gap : Gap s r.at r.from
-  pub few : r.sort ≤ 2
-  pub cut : r.sort ≡ 0 → length s ≤ r.from
-  pub there : (r.sort ≡ 0 → ⊥) → r.from < length s
-  pub opens : r.sort ≡ 1 → get_or s r.from 0 ≡ 40
-  pub token : (r.sort ≡ 0 → ⊥) → (r.sort ≡ 1 → ⊥) → FirstAt s r.at r.first.kind r.first.which r.first.from r.first.to r.first.below r.first.size
+  pub first : FirstIs s r.at r.from r.first
+
+-- or nothing that may come
+pub record StartStop (s : List ℕ) (at : ℕ) (e : Refused) : Type 0 where
+  pub stop : (d : ℕ) → SingleStop d s at e
+
+abbrev pub StartRead : List ℕ → ℕ → Result Start Refused → Type 0
+StartRead s at (Ok r) = StartOver s at r
+StartRead s at (Err e) = StartStop s at e

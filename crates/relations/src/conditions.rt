@@ -1,229 +1,187 @@
 // Conditions: or-chains of and-chains of single conditions. They call one another; at each call the depth that is left falls, or the text.
 ghost use Rattle.std.specs.Prelude.{◌-◌, ◌≤◌};
-ghost use Rattle.property_list.specs.Slots.{SlotsOf};
 ghost use Rattle.relation_words.specs.Heard.{ByteAt, Heard};
 ghost use Rattle.relation_truth.specs.Values.{held_in};
 ghost use Rattle.relations.specs.Expected.{wants_join};
-ghost use Rattle.relations.specs.Reading.{SingleRead, AndRead, OrRead, Joined, ClosedAs, TurnedAs, StoppedAs, DepthAt};
+ghost use Rattle.relations.specs.Told.{Looks};
+ghost use Rattle.relations.specs.Reading.{SingleRead, AndRead, OrRead, JoinRead, ClosedAs, TurnedAs, DepthAt};
 
-use crate::simple::{Read, simple};
-use crate::starts::start_of;
-use property_list::slots::SLOTS;
-use relation_truth::{both_of, either_of, opposite_of};
+use crate::expected::{JOIN_INSIDE, JOIN_OUTSIDE, word_of};
+use crate::reader::Reader;
+use crate::starts::{First, start_of};
+use crate::told::{Read, Refused};
+use relation_truth::Truth;
 use relation_words::bytes::blanks;
-use relation_words::tokens::{Found, token_here};
+use relation_words::tokens::{Stop, Token, token_here};
+use rules::Refusal;
 
-// What comes behind a single condition: 0 nothing that may, 1 AND, 2 OR, 3 what closes the chain, 4 the end. It ends at `after`.
+// What comes behind a single condition.
+#[derive(Clone, Copy)]
+pub enum Next {
+    And,
+    Or,
+    // A comma, or the parenthesis that closes.
+    Closed,
+    End,
+}
+
+// It ends at `after`.
 #[derive(Clone, Copy)]
 pub struct Join {
-    pub next: usize,
+    pub next: Next,
     pub after: usize,
 }
 
 // `depth` parentheses may still open: where all sixteen may, a comma closes the chain.
-fn closers(text: &[u8], from: usize, depth: u8) -> Found
+fn closers(text: &[u8], from: usize, depth: u8) -> Result<Token, Stop>
     requires byte_at { ByteAt text.now from }
     requires depth_bound { depth ≤ 16 }
-    ensures { Heard (wants_join (16 - depth)) text.now from result.kind result.which result.from result.to result.below result.size }
+    ensures { Heard (wants_join (16 - depth)) text.now from result }
 {
     if depth == 16 {
-        return token_here(text, from, b"AND OR , ", false, false, false);
+        token_here(text, from, JOIN_OUTSIDE)
+    } else {
+        token_here(text, from, JOIN_INSIDE)
     }
-    token_here(text, from, b"AND OR ) ", false, false, false)
 }
 
-pub fn joiner(text: &[u8], at: usize, depth: u8) -> Join
+pub fn joiner(text: &[u8], at: usize, depth: u8) -> Result<Join, Refused>
     requires { DepthAt text.now at depth }
-    ensures { Joined (16 - depth) text.now at result.next result.after }
+    ensures { JoinRead (16 - depth) text.now at result }
 {
     let from = blanks(text, at);
     if text.len() <= from {
-        return Join {
-            next: 4,
+        return Ok(Join {
+            next: Next::End,
             after: from,
-        };
+        });
     }
-    let word = closers(text, from, depth);
-    let after = word.to;
-    if word.kind == 0 {
-        return Join { next: 0, after };
-    }
-    Join {
-        next: word.which,
-        after,
-    }
+    let word = closers(text, from, depth)?;
+    let next = match word_of(word.kind) {
+        1 => Next::And,
+        2 => Next::Or,
+        _ => Next::Closed,
+    };
+    Ok(Join {
+        next,
+        after: word.to,
+    })
 }
 
-// A chain read up to `to`, its truth, and behind it `next`, up to `after`; or refused with `number`, and the byte that may not come stands at `to`.
+// A chain read up to `to`, its truth, and behind it `next`, up to `after`.
 #[derive(Clone, Copy)]
 pub struct Chain {
-    pub number: u8,
     pub to: usize,
-    pub truth: u8,
-    pub next: usize,
+    pub truth: Truth,
+    pub next: Next,
     pub after: usize,
 }
 
-fn refused(number: u8, to: usize) -> Read
-    ensures { StoppedAs number to result.number result.to }
-{
-    Read {
-        number,
-        to,
-        truth: 0,
-    }
-}
-
-pub fn stopped(number: u8, to: usize) -> Chain
-    ensures { StoppedAs number to result.number result.to }
-{
-    Chain {
-        number,
-        to,
-        truth: 0,
-        next: 0,
-        after: to,
-    }
-}
-
-// Its NOTs are passed over first, however many there are; only a parenthesis calls back into a chain.
-#[cycle(and_chain_or_chain_single)]
-pub fn single(text: &[u8], properties: &[u8], slots: &[usize; SLOTS], at: usize, depth: u8) -> Read
-    requires depth_at { DepthAt text.now at depth }
-    requires slots_of { SlotsOf properties.now slots.now }
-    ensures { SingleRead (held_in properties.now) (16 - depth) text.now at result.number result.to result.truth }
-{
-    let start = start_of(text, at);
-    let turned = start.turned;
-    let from = start.from;
-    if start.sort == 0 {
-        return refused(14, from);
-    }
-    if start.sort == 1 {
-        if depth == 0 {
-            return refused(15, from);
-        }
-        let inside = or_chain(text, properties, slots, from + 1, depth - 1);
-        let whole = closed(inside);
-        return turned_by(whole, turned);
-    }
-    let plain = simple(text, properties, slots, start.at, start.first);
-    turned_by(plain, turned)
-}
-
 // Behind a parenthesis: what is inside, if it is closed.
-fn closed(inside: Chain) -> Read
-    ensures { ClosedAs inside.number inside.to inside.truth inside.next inside.after result.number result.to result.truth }
+fn closed(inside: Chain) -> Result<Read, Refused>
+    ensures { ClosedAs inside result }
 {
-    if inside.number != 0 {
-        return Read {
-            number: inside.number,
-            to: inside.to,
-            truth: 0,
-        };
-    }
-    if inside.next == 3 {
-        return Read {
-            number: 0,
+    match inside.next {
+        Next::Closed => Ok(Read {
             to: inside.after,
             truth: inside.truth,
-        };
-    }
-    Read {
-        number: 14,
-        to: inside.after,
-        truth: 0,
+        }),
+        _ => Err(Refused {
+            refusal: Refusal::BadRelation,
+            at: inside.after,
+        }),
     }
 }
 
 // Behind so many NOTs that they turn it, or do not.
-fn turned_by(behind: Read, turned: bool) -> Read
-    ensures { TurnedAs turned behind.number behind.to behind.truth result.number result.to result.truth }
+fn turned_by(turned: bool, behind: Read) -> Read
+    ensures { TurnedAs turned behind result }
 {
     if turned {
         return Read {
-            number: behind.number,
             to: behind.to,
-            truth: opposite_of(behind.truth),
+            truth: behind.truth.not(),
         };
     }
     behind
 }
 
-#[cycle(and_chain_or_chain_single)]
-pub fn and_chain(
-    text: &[u8],
-    properties: &[u8],
-    slots: &[usize; SLOTS],
-    at: usize,
-    depth: u8,
-) -> Chain
-    requires depth_at { DepthAt text.now at depth }
-    requires slots_of { SlotsOf properties.now slots.now }
-    ensures { AndRead (held_in properties.now) (16 - depth) text.now at result.number result.to result.truth result.next result.after }
-{
-    let mut from = at;
-    let mut truth = 1;
-    loop {
-        let one = single(text, properties, slots, from, depth);
-        let to = one.to;
-        let number = one.number;
-        if number != 0 {
-            return stopped(number, to);
+impl<'a> Reader<'a> {
+    // Its NOTs are passed over first, however many there are; only a parenthesis calls back into a chain.
+    #[cycle(and_chain_or_chain_single)]
+    pub fn single(&self, at: usize, depth: u8) -> Result<Read, Refused>
+        requires looks { Looks self.now }
+        requires depth_at { DepthAt self.now.text.now at depth }
+        ensures { SingleRead (held_in self.now.properties.now) (16 - depth) self.now.text.now at result }
+    {
+        let start = start_of(self.text, at)?;
+        match start.first {
+            First::Parenthesis => {
+                if depth == 0 {
+                    return Err(Refused {
+                        refusal: Refusal::DeepRelation,
+                        at: start.from,
+                    });
+                }
+                let inside = self.or_chain(start.from + 1, depth - 1)?;
+                let whole = closed(inside)?;
+                Ok(turned_by(start.turned, whole))
+            }
+            First::Token(first) => {
+                let plain = self.simple(start.at, first)?;
+                Ok(turned_by(start.turned, plain))
+            }
         }
-        truth = both_of(truth, one.truth);
-        let join = joiner(text, to, depth);
-        let next = join.next;
-        let after = join.after;
-        if next == 0 {
-            return stopped(14, after);
-        }
-        if next != 1 {
-            return Chain {
-                number: 0,
-                to,
-                truth,
-                next,
-                after,
-            };
-        }
-        from = after;
     }
-}
 
-#[cycle(and_chain_or_chain_single)]
-pub fn or_chain(
-    text: &[u8],
-    properties: &[u8],
-    slots: &[usize; SLOTS],
-    at: usize,
-    depth: u8,
-) -> Chain
-    requires depth_at { DepthAt text.now at depth }
-    requires slots_of { SlotsOf properties.now slots.now }
-    ensures { OrRead (held_in properties.now) (16 - depth) text.now at result.number result.to result.truth result.next result.after }
-{
-    let mut from = at;
-    let mut truth = 2;
-    loop {
-        let chain = and_chain(text, properties, slots, from, depth);
-        let to = chain.to;
-        let number = chain.number;
-        let next = chain.next;
-        let after = chain.after;
-        if number != 0 {
-            return stopped(number, to);
+    #[cycle(and_chain_or_chain_single)]
+    pub fn and_chain(&self, at: usize, depth: u8) -> Result<Chain, Refused>
+        requires looks { Looks self.now }
+        requires depth_at { DepthAt self.now.text.now at depth }
+        ensures { AndRead (held_in self.now.properties.now) (16 - depth) self.now.text.now at result }
+    {
+        let mut from = at;
+        let mut truth = Truth::True;
+        loop {
+            let one = self.single(from, depth)?;
+            truth = truth.and(one.truth);
+            let join = joiner(self.text, one.to, depth)?;
+            match join.next {
+                Next::And => from = join.after,
+                next => {
+                    return Ok(Chain {
+                        to: one.to,
+                        truth,
+                        next,
+                        after: join.after,
+                    });
+                }
+            }
         }
-        truth = either_of(truth, chain.truth);
-        if next != 2 {
-            return Chain {
-                number: 0,
-                to,
-                truth,
-                next,
-                after,
-            };
+    }
+
+    #[cycle(and_chain_or_chain_single)]
+    pub fn or_chain(&self, at: usize, depth: u8) -> Result<Chain, Refused>
+        requires looks { Looks self.now }
+        requires depth_at { DepthAt self.now.text.now at depth }
+        ensures { OrRead (held_in self.now.properties.now) (16 - depth) self.now.text.now at result }
+    {
+        let mut from = at;
+        let mut truth = Truth::False;
+        loop {
+            let chain = self.and_chain(from, depth)?;
+            truth = truth.or(chain.truth);
+            match chain.next {
+                Next::Or => from = chain.after,
+                next => {
+                    return Ok(Chain {
+                        to: chain.to,
+                        truth,
+                        next,
+                        after: chain.after,
+                    });
+                }
+            }
         }
-        from = after;
     }
 }

@@ -5,5 +5,7 @@ mod assignments;
 mod conditions;
 mod expected;
 pub mod names;
+mod reader;
 mod simple;
 mod starts;
+pub mod told;

@@ -1,34 +1,43 @@
 // The names that a relation text derives from properties.
-ghost use Rattle.std.specs.Prelude.{◌≤◌, ◌≡◌, true};
+ghost use Rattle.std.specs.Prelude.{◌≤◌, ◌<◌, ◌≡◌, ◌++◌, [], ◌∷◌, true, length};
 ghost use Rattle.rules.specs.Lists.{is_some};
 ghost use Rattle.layout.specs.Ensures.{Says};
 ghost use Rattle.relation_rules.specs.Truth.{grantable, properties_of};
 ghost use Rattle.relation_truth.specs.Values.{held_in};
 ghost use Rattle.relations.specs.Assignments.{Within};
-ghost use Rattle.relations.specs.Names.{NamesIs, Bare, Grows};
+ghost use Rattle.relations.specs.Names.{NamesIs, Grows, parts_in};
 
-use crate::assignments::assignment;
+use crate::assignments::Assigned;
+use crate::conditions::Next;
+use crate::reader::Reader;
+use crate::told::Refused;
 use layout::names::all_name_bytes;
 use property_list::slots::slots_of;
-use rules::Part;
+use rules::{Part, Refusal};
 
-// The refusal's number and its place, counted from 1; or 0 and 0, and the first `count` parts of the text are the names.
+// At most 32 parts of the text: the first `count`.
+// As it is: an array with its count, since the library takes no heap.
 #[derive(Drop)]
 pub struct Names {
-    pub number: u8,
-    pub place: usize,
     pub count: usize,
     pub names: [Part; 32],
 }
 
-fn no_names(number: u8, place: usize) -> Names
-    ensures { Bare number place result }
+fn no_names() -> Names
+    ensures { result.count ≡ 0 }
 {
     Names {
-        number,
-        place,
         count: 0,
         names: [Part { at: 0, size: 0 }; 32],
+    }
+}
+
+impl Names {
+    pub fn parts(&self) -> &[Part]
+        requires { self.now.count ≤ 32 }
+        ensures { result.now ≡ parts_in self.now }
+    {
+        &self.names[..self.count]
     }
 }
 
@@ -39,57 +48,48 @@ fn is_grantable(s: &[u8]) -> bool
     ((1 <= s.len()) & (s.len() <= 20)) & all_name_bytes(s)
 }
 
-// With one assignment more: its name behind the others, if it is granted. 16 where no question can grant it, or where it is one too many; the first refusal stays.
-fn with_name(text: &[u8], old: Names, place: usize, name: Part, granted: bool) -> Names
-    requires within { Within text.now name }
-    requires count_bound { old.count ≤ 32 }
-    ensures { Grows text.now old place name granted result }
+// With one assignment more: its name behind the others, if it is granted. It is unfit where no question can grant it, or where it is one too
+// many; the first refusal stays.
+fn with_name(text: &[u8], so_far: Result<Names, Refused>, one: Assigned) -> Result<Names, Refused>
+    requires stands { one.variable ≤ length text.now }
+    requires within { Within text.now one.name }
+    ensures { Grows text.now so_far one result }
 {
-    if old.number != 0 {
-        return old;
+    let mut names = so_far?;
+    if !one.granted {
+        return Ok(names);
     }
-    if !granted {
-        return old;
+    let name = one.name;
+    let good = is_grantable(&text[name.at..name.at + name.size]);
+    if !good | (32 <= names.count) {
+        return Err(Refused {
+            refusal: Refusal::UnfitName,
+            at: one.variable,
+        });
     }
-    let count = old.count;
-    let from = name.at;
-    let to = from + name.size;
-    let good = is_grantable(&text[from..to]);
-    if !good {
-        return no_names(16, place);
-    }
-    if 32 <= count {
-        return no_names(16, place);
-    }
-    let mut names = old.names;
-    names[count] = name;
-    Names {
-        number: 0,
-        place: 0,
-        count: count + 1,
-        names,
-    }
+    names.names[names.count] = name;
+    names.count += 1;
+    Ok(names)
 }
 
-pub fn names_of(text: &[u8], properties: &[u8]) -> Names
+pub fn names_of(text: &[u8], properties: &[u8]) -> Result<Names, Refused>
     requires { is_some (properties_of properties.now) ≡ true }
     ensures { NamesIs text.now (held_in properties.now) result }
 {
     let slots = slots_of(properties);
+    let reader = Reader {
+        text,
+        properties,
+        slots: &slots,
+    };
     let mut at = 0;
-    let mut names = no_names(0, 0);
+    let mut names = Ok(no_names());
     loop {
-        let one = assignment(text, properties, &slots, at);
-        let number = one.number;
-        let to = one.to;
-        if number != 0 {
-            return no_names(number, to + 1);
-        }
-        let name = one.name;
-        names = with_name(text, names, one.place, name, one.granted);
-        if one.next == 4 {
+        let one = reader.assignment(at)?;
+        names = with_name(text, names, one);
+        if let Next::End = one.join.next {
             return names;
         }
-        at = one.after;
+        at = one.join.after;
     }
 }

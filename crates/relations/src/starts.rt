@@ -1,38 +1,30 @@
 // Where a single condition starts, behind the NOTs in front of it.
-ghost use Rattle.std.specs.Prelude.{◌≤◌, ◌&&◌, eqb, length};
-ghost use Rattle.layout.specs.Ensures.{Says};
+ghost use Rattle.std.specs.Prelude.{◌≡◌, ◌≤◌, length};
 ghost use Rattle.relations.specs.Starts.{StartRead};
 
-use crate::expected::condition_here;
+use crate::expected::{CONDITION, word_of};
+use crate::told::Refused;
 use relation_words::bytes::blanks;
-use relation_words::tokens::Found;
+use relation_words::tokens::{Token, token_here};
+use rules::Refusal;
 
-// Behind the last NOT, at `at`, and behind blanks, at `from`, stands: `sort` 0 nothing, 1 a parenthesis, 2 the token `first`. `turned`: the NOTs are odd in number.
+// A parenthesis, or another token that is no NOT.
+#[derive(Clone, Copy)]
+pub enum First {
+    Parenthesis,
+    Token(Token),
+}
+
+// Behind the last NOT, at `at`, and behind blanks, at `from`, stands the first token. `turned`: the NOTs are odd in number.
 #[derive(Clone, Copy)]
 pub struct Start {
-    pub sort: u8,
     pub at: usize,
     pub from: usize,
-    pub first: Found,
     pub turned: bool,
+    pub first: First,
 }
 
-const NO_TOKEN: Found = Found {
-    kind: 0,
-    which: 0,
-    from: 0,
-    to: 0,
-    below: false,
-    size: 0,
-};
-
-fn is_not(first: Found) -> bool
-    ensures { Says (eqb first.kind 1 && eqb first.which 1) result }
-{
-    (first.kind == 1) & (first.which == 1)
-}
-
-pub fn start_of(text: &[u8], at: usize) -> Start
+pub fn start_of(text: &[u8], at: usize) -> Result<Start, Refused>
     requires { at ≤ length text.now }
     ensures { StartRead text.now at result }
 {
@@ -41,32 +33,27 @@ pub fn start_of(text: &[u8], at: usize) -> Start
     loop {
         let from = blanks(text, behind);
         if text.len() <= from {
-            return Start {
-                sort: 0,
-                at: behind,
-                from,
-                first: NO_TOKEN,
-                turned,
-            };
+            return Err(Refused {
+                refusal: Refusal::BadRelation,
+                at: from,
+            });
         }
         if text[from] == b'(' {
-            return Start {
-                sort: 1,
+            return Ok(Start {
                 at: behind,
                 from,
-                first: NO_TOKEN,
                 turned,
-            };
+                first: First::Parenthesis,
+            });
         }
-        let first = condition_here(text, from);
-        if !is_not(first) {
-            return Start {
-                sort: 2,
+        let first = token_here(text, from, CONDITION)?;
+        if word_of(first.kind) != 1 {
+            return Ok(Start {
                 at: behind,
                 from,
-                first,
                 turned,
-            };
+                first: First::Token(first),
+            });
         }
         behind = first.to;
         turned = !turned;

@@ -23,3 +23,4 @@ pub mod FinalNumber
 pub mod Packaging
 pub mod Text
 pub mod Program
+pub mod Reasons

@@ -1,16 +1,20 @@
 // The words that definitions and code share: what stands on a price row, and what a caller reads of an answer.
-// Nothing here computes; what is right is said in specs/, and the promises about it are proved in proofs/.
+// Nothing here computes but the number of a refusal; what is right is said in specs/, and the promises about it are proved in proofs/.
 #![tactic(auto)]
+
+mod refused;
+
+ghost use Rattle.rules.specs.Reasons.{NumberOf};
 
 // ---- three sorts of whole number (the third, `Day`, has its own crate)
 
 // Hundredths of a currency's unit.
 #[repr(C)]
-#[derive(Clone, Copy)]
+#[derive(Clone, Copy, PartialEq, Eq)]
 pub struct Cents(pub i64);
 
 // Hundredths of a percent.
-#[derive(Clone, Copy)]
+#[derive(Clone, Copy, PartialEq, Eq)]
 pub struct Hundredths(pub i64);
 
 // ---- what a book's records hold
@@ -23,7 +27,7 @@ pub enum Value {
 }
 
 // The levels of a price, in the order of its lines.
-#[derive(Clone, Copy)]
+#[derive(Clone, Copy, PartialEq, Eq)]
 pub enum Level {
     Base,
     Surcharge,
@@ -31,25 +35,27 @@ pub enum Level {
 }
 
 // What a percentage is of: the sum of the base lines, or the running total before it.
-#[derive(Clone, Copy)]
+#[derive(Clone, Copy, PartialEq, Eq)]
 pub enum Rule {
     OfBase,
     OfTotal,
 }
 
 // Three capitals; or three zeros, where there is none.
+// As it is: no `Option`, since an outcome that is handed to C has it, and the definition `no_currency` is three zeros.
 #[repr(C)]
-#[derive(Clone, Copy)]
+#[derive(Clone, Copy, PartialEq, Eq)]
 pub struct Currency(pub u8, pub u8, pub u8);
 
 // Some bytes of a record: where they start in it, and how many they are.
-#[derive(Clone, Copy)]
+#[derive(Clone, Copy, PartialEq, Eq)]
 pub struct Part {
     pub at: usize,
     pub size: usize,
 }
 
 // A price record, read by value. Its two names stay in the book. Its dates are numbers, since a row may have one that is no day.
+// As it is: the sort is the byte of the record, since what `is_row` and `survey` promise of a sort is so of every byte.
 #[derive(Clone, Copy)]
 pub struct PriceRow {
     pub article: Part,
@@ -67,7 +73,7 @@ pub struct PriceRow {
 }
 
 // To which multiple of the step an amount goes.
-#[derive(Clone, Copy)]
+#[derive(Clone, Copy, PartialEq, Eq)]
 pub enum Way {
     Down,
     Up,
@@ -87,7 +93,7 @@ pub struct Rounding {
 // ---- what a question's properties are
 
 // A property has a value, or it is hidden, or nobody has chosen its value yet.
-#[derive(Clone, Copy)]
+#[derive(Clone, Copy, PartialEq, Eq)]
 pub enum State {
     Valued,
     Hidden,
@@ -109,6 +115,7 @@ pub const LEAST_TOTAL: i64 = -1_000_000_000;
 pub const MOST_TOTAL: i64 = 1_000_000_000;
 
 // What lines come to, if the total was in range after each of them; or that it was not.
+// As it is: no `Option`, since the definition `total_of` and the theorems on it have this type.
 #[derive(Clone, Copy)]
 pub enum Total {
     InRange(Cents),
@@ -116,8 +123,9 @@ pub enum Total {
 }
 
 // What a day comes to: 0, the currency and what one piece costs; or the number of the refusal, with zeros.
+// As it is: no `Result`, since it is the end of the record of a stretch, which is handed to C.
 #[repr(C)]
-#[derive(Clone, Copy)]
+#[derive(Clone, Copy, PartialEq, Eq)]
 pub struct Outcome {
     pub unit: Cents,
     pub refusal: u8,
@@ -135,7 +143,7 @@ pub const WITH_FACTORS: u8 = 2;
 // The bytes of a line.
 pub const LINE_SIZE: usize = 16;
 
-// ---- what a caller reads
+// ---- what a caller reads (as it is: laid out for C, so a refusal is its number here, and each call has an answer of its own name)
 
 // A price: for one piece and for all, how many lines were written, which granted names brought none (a bit for each place, the lowest
 // for place 1) and how many those are, the number of the refusal or 0, and the currency.
@@ -195,4 +203,50 @@ pub struct TextAnswer {
     pub length: u64,
     pub number: u8,
     pub book: u8,
+}
+
+// ---- why a call is refused
+
+// The fifteen reasons. A caller reads a number for each; 10 is no reason's.
+#[derive(Clone, Copy, Debug, PartialEq, Eq)]
+pub enum Refusal {
+    BrokenBook,
+    BrokenQuestion,
+    NoArticle,
+    NoBaseLine,
+    MixedCurrencies,
+    TotalOutOfRange,
+    ShortOutput,
+    NoPackaging,
+    BadPeriod,
+    UnfitPackaging,
+    NoText,
+    BadRow,
+    BadRelation,
+    DeepRelation,
+    UnfitName,
+}
+
+impl From<Refusal> for u8 {
+    ghost from_gives = { NumberOf };
+
+    fn from(refusal: Refusal) -> u8 {
+        match refusal {
+            Refusal::BrokenBook => 1,
+            Refusal::BrokenQuestion => 2,
+            Refusal::NoArticle => 3,
+            Refusal::NoBaseLine => 4,
+            Refusal::MixedCurrencies => 5,
+            Refusal::TotalOutOfRange => 6,
+            Refusal::ShortOutput => 7,
+            Refusal::NoPackaging => 8,
+            Refusal::BadPeriod => 9,
+            Refusal::UnfitPackaging => 11,
+            Refusal::NoText => 12,
+            Refusal::BadRow => 13,
+            Refusal::BadRelation => 14,
+            Refusal::DeepRelation => 15,
+            Refusal::UnfitName => 16,
+        }
+    }
 }

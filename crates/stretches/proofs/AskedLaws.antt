@@ -1,5 +1,5 @@
 -- The stretches that a question asks for: it asks by what is made of it, and the marks make only days of change due.
-use Prim.Native.Nat.{ℕ, ◌+◌, ◌≤◌, ◌<◌}
+use Prim.Native.Nat.{ℕ, ◌+◌, ◌<◌}
 use mathlib.Core.Path.{◌≡◌, sym, ◌∙◌, ap, subst}
 use mathlib.Core.Bool.{Bool, true, false}
 use mathlib.Core.List.{List}
@@ -17,8 +17,8 @@ use Rattle.rules.proofs.StaysLaws.{stays_next}
 use Rattle.layout.specs.Records.{records_left}
 use Rattle.question.specs.declared.Ask.{Ask}
 use Rattle.question.specs.Asked.{ask_in}
-use Rattle.grants.specs.declared.terms.Wanted.{Wanted}
-use Rattle.grants.specs.Asks.{article_cut, WantedIs}
+use Rattle.grants.specs.declared.asking.Asking.{Asking}
+use Rattle.grants.specs.Asking.{AskingIs}
 use Rattle.survey.specs.declared.window.Window.{Window}
 use Rattle.survey.specs.Window.{Windows}
 use Rattle.survey.proofs.WindowLaws.{window_as}
@@ -32,13 +32,13 @@ use Rattle.stretches.specs.Stretches.{Marked, Lists, ListsBy}
 
 module _ {b article : List ℕ} {sort : ℕ} {w : Window} (h : Windows b 5 article sort w) where
   -- the days of change are those of the rows of the article and sort
-  change_own : (d : ℕ) → is_change (records_left (take w.last b) w.first) article sort d ≡ is_change (records_left b 5) article sort d
+  change_own : (d : ℕ) → is_change (records_left (take w.spans.rows.last b) w.spans.rows.first) article sort d ≡ is_change (records_left b 5) article sort d
   unfolding is_change
-  change_own d = ap (any (eqb d)) (same_changes (records_left (take w.last b) w.first) (records_left b 5) article sort h.same)
+  change_own d = ap (any (eqb d)) (same_changes (records_left (take w.spans.rows.last b) w.spans.rows.first) (records_left b 5) article sort h.same)
 
   -- a question for them has one outcome from a day to the next, but for days of change
   steady : (q : Question) → q.article ≡ article → q.sort ≡ sort → {dates : List ℕ} {marks : List Bool} → Dates dates → 0 < length dates
-      → MarksAre (take w.last b) w.first article sort dates marks → Marked (outcome (records_left b 5) q) dates marks
+      → MarksAre (take w.spans.rows.last b) w.spans.rows.first article sort dates marks → Marked (outcome (records_left b 5) q) dates marks
   steady q mine same-sort {dates} {marks} d l m = record {
     some_day = l;
     few = d.few;
@@ -54,21 +54,18 @@ module _ {b article : List ℕ} {sort : ℕ} {w : Window} (h : Windows b 5 artic
         ∙ ap (outcome (records_left b 5) q) (sym n);
   }
 
--- ---- the question, by its article, terms and table
+-- ---- the question, by what it asks
 
-module _ {s : List ℕ} {ask : Ask} {k : Wanted} (made : WantedIs s ask k) {b : List ℕ} where
+module _ {s : List ℕ} {ask : Ask} {asking : Asking} (is : AskingIs s ask asking) {b : List ℕ} where
   module _ {w : Window} (h : Windows b 5 (ask_in s ask).article ask.sort w) where
-    pub asked_window : Windows b 5 (article_cut s ask) k.terms.sort w
-    asked_window = window_as made.asks.article made.asks.sort h
+    pub asked_window : Windows b 5 asking.article.now asking.terms.sort w
+    asked_window = window_as is.asks.article is.asks.sort h
 
     -- what is known of each day makes the question's stretches
-    pub asked_lists : {dates : List ℕ} {marks : List Bool} → Dates dates → 0 < length dates → MarksAre (take w.last b) w.first (article_cut s ask) k.terms.sort dates marks
-        → {outcomes : List Coded.Outcome} → OutcomesFor b (article_cut s ask) k.table k.terms dates marks outcomes → {r : Stretches} → ListsBy dates marks outcomes r
+    pub asked_lists : {dates : List ℕ} {marks : List Bool} → Dates dates → 0 < length dates → MarksAre (take w.spans.rows.last b) w.spans.rows.first asking.article.now asking.terms.sort dates marks
+        → {outcomes : List Coded.Outcome} → OutcomesFor b asking.article.now asking.table.now asking.terms dates marks outcomes → {r : Stretches} → ListsBy dates marks outcomes r
         → Lists (stretches (outcome (records_left b 5) (ask_in s ask)) dates) r
     asked_lists d l m o r = r.of (outcome (records_left b 5) (ask_in s ask)) (record {
-      marked = steady asked_window (ask_in s ask) made.asks.article made.asks.sort d l m;
-      priced = o.of (ask_in s ask) made.asks;
+      marked = steady asked_window (ask_in s ask) is.asks.article is.asks.sort d l m;
+      priced = o.of (ask_in s ask) is.asks;
     })
-
-pub dates_few : {dates : List ℕ} → Dates dates → length dates ≤ 1096
-dates_few d = d.few

@@ -1,6 +1,6 @@
 -- The days that have gone by and those still to come make up the stretches of the period.
 use Prim.Native.Nat.{ℕ, ◌+◌, ◌-◌, ◌≤◌, ◌<◌}
-use mathlib.Core.Path.{◌≡◌, refl, sym, ◌∙◌, ap}
+use mathlib.Core.Path.{◌≡◌, refl, sym, ◌∙◌, ap, subst}
 use mathlib.Core.Bool.{Bool, true, false, not, cond, or-true}
 use mathlib.Core.List.{List, [], ◌∷◌, ◌++◌, map, append_assoc}
 use native.Mathlib.Omega.{arith}
@@ -16,7 +16,12 @@ use Rattle.layout.proofs.StoreLaws.{all_same, behind_store}
 use Rattle.outcomes.specs.Outcomes.{no_outcome}
 use Rattle.stretches.specs.declared.Stretch as Declared
 use Rattle.stretches.specs.declared.turns.Turning.{Turning}
-use Rattle.stretches.specs.Stretches.{as_stretch, no_stretch, Opened, Told, Turned, TurnedBy, Marked, Known, Lists, Going, ListsBy, GoingBy}
+use Rattle.stretches.specs.declared.turns.Turning.TheVariants.{Grown, Begun}
+use Rattle.stretches.specs.Stretches.{as_stretch, no_stretch, in_hand, fresh, Opened, Told, Turned, TurnedBy, Marked, Known, Lists, Going, ListsBy, GoingBy}
+
+fresh_most : (t : Turning) → fresh t ≤ 1
+fresh_most (Grown r) = omega arith
+fresh_most (Begun r) = omega arith
 
 map_snoc : (xs : List Declared.Stretch) (r : Declared.Stretch) → map as_stretch (xs ++ (r ∷ [])) ≡ map as_stretch xs ++ (as_stretch r ∷ [])
 map_snoc [] r = refl
@@ -69,41 +74,41 @@ module _ {f : ℕ → Outcome} {dates : List ℕ} {marks : List Bool} where
 
       module _ {t : Turning} (w : Turned f hand d t) where
         abbrev list' : List Declared.Stretch
-        list' = set list (n + t.fresh) t.stretch
+        list' = set list (n + fresh t) (in_hand t)
 
-        in_list : n + t.fresh < length list
-        in_list = omega (arith, w.most, g.place, g.long, g.marked.few)
+        in_list : n + fresh t < length list
+        in_list = omega (arith, fresh_most t, g.place, g.long, g.marked.few)
 
-        here : get_or list' (n + t.fresh) no_stretch ≡ t.stretch
-        here = get_or-set_same list (n + t.fresh) t.stretch no_stretch in_list
+        here : get_or list' (n + fresh t) no_stretch ≡ in_hand t
+        here = get_or-set_same list (n + fresh t) (in_hand t) no_stretch in_list
 
         closed : (s : Bool) → same_outcome (as_outcome hand.outcome) (f d) ≡ s → (ss : List Stretch)
-            → map as_stretch (take (n + t.fresh) list) ++ ss ≡ map as_stretch (take n list) ++ cons_if (not s) (as_stretch hand) ss
+            → map as_stretch (take (n + fresh t) list) ++ ss ≡ map as_stretch (take n list) ++ cons_if (not s) (as_stretch hand) ss
         closed true e ss =
-            let y : t.fresh ≡ 0 = w.fresh ∙ ap (λ (x : Bool). cond x 0 1) e in
-            let z : n + t.fresh ≡ n = omega arith in
+            let y : fresh t ≡ 0 = w.fresh_is ∙ ap (λ (x : Bool). cond x 0 1) e in
+            let z : n + fresh t ≡ n = omega arith in
             ap (λ (k : ℕ). map as_stretch (take k list) ++ ss) z
         closed false e ss =
-            let y : t.fresh ≡ 1 = w.fresh ∙ ap (λ (x : Bool). cond x 0 1) e in
-            let z : n + t.fresh ≡ n + 1 = omega arith in
+            let y : fresh t ≡ 1 = w.fresh_is ∙ ap (λ (x : Bool). cond x 0 1) e in
+            let z : n + fresh t ≡ n + 1 = omega arith in
             ap (λ (k : ℕ). map as_stretch (take k list) ++ ss) z
             ∙ ap (λ l. l ++ ss) (front_more list n (omega (arith, g.place, g.long, g.marked.few)))
             ∙ append_assoc (map as_stretch (take n list)) (as_stretch hand ∷ []) ss
 
-        go_turn : Going f dates marks list' (n + t.fresh) (i + 1)
+        go_turn : Going f dates marks list' (n + fresh t) (i + 1)
         go_turn = record {
           marked = g.marked;
           low = omega arith;
-          place = omega (arith, w.most, g.place);
+          place = omega (arith, fresh_most t, g.place);
           most = omega arith;
-          long = length-set list (n + t.fresh) t.stretch ∙ g.long;
-          behind = behind_store list (n + t.fresh) t.stretch no_stretch (λ i k. g.behind i (omega arith));
+          long = length-set list (n + fresh t) (in_hand t) ∙ g.long;
+          behind = behind_store list (n + fresh t) (in_hand t) no_stretch (λ i k. g.behind i (omega arith));
           hand =
               let k : i + 1 - 1 ≡ i = omega arith in
               ap (λ (r : Declared.Stretch). as_outcome r.outcome) here ∙ ap (λ s. s.outcome) w.is ∙ turned_outcome ∙ ap (λ (j : ℕ). f (get_or dates j 0)) (sym k);
           goes =
-              ap (λ l. map as_stretch l ++ Walk.walked f (as_stretch (get_or list' (n + t.fresh) no_stretch)) (drop (i + 1) dates)) (take-set-le (n + t.fresh) list (n + t.fresh) t.stretch (omega arith))
-              ∙ ap (λ s. map as_stretch (take (n + t.fresh) list) ++ Walk.walked f s (drop (i + 1) dates)) (ap as_stretch here ∙ w.is)
+              ap (λ l. map as_stretch l ++ Walk.walked f (as_stretch (get_or list' (n + fresh t) no_stretch)) (drop (i + 1) dates)) (take-set-le (n + fresh t) list (n + fresh t) (in_hand t) (omega arith))
+              ∙ ap (λ s. map as_stretch (take (n + fresh t) list) ++ Walk.walked f s (drop (i + 1) dates)) (ap as_stretch here ∙ w.is)
               ∙ closed (same_outcome (as_outcome hand.outcome) (f d)) refl (Walk.walked f (Walk.turned (as_stretch hand) d (f d)) (drop (i + 1) dates))
               ∙ ap (λ ss. map as_stretch (take n list) ++ ss) (sym walked_on)
               ∙ g.goes;
@@ -112,11 +117,10 @@ module _ {f : ℕ → Outcome} {dates : List ℕ} {marks : List Bool} where
             turned_outcome : (Walk.turned (as_stretch hand) d (f d)).outcome ≡ f d
             turned_outcome = unfold Walk.turned in refl
 
-    go_end : length dates ≤ i → Lists (stretches f dates) (record { list = list; n = n + 1 })
+    go_end : length dates ≤ i → {few : n + 1 ≤ 1096} → Lists (stretches f dates) (record { list = list; n = n + 1; few = few })
     unfolding Walk.walked
     go_end h = record {
       long = g.long;
-      few = omega (arith, g.place, g.most, g.marked.few);
       is =
           front_more list n (omega (arith, g.place, g.most, g.long, g.marked.few))
           ∙ ap (λ ds. map as_stretch (take n list) ++ Walk.walked f (as_stretch hand) ds) (sym (drop_of_length-le dates h))
@@ -146,16 +150,26 @@ module _ (dates : List ℕ) (marks : List Bool) (outcomes : List Coded.Outcome) 
         priced = λ e. k.priced.each i h (rw (e, or-true (eqb i 0)));
       }
 
-      pub by_turn : {t : Turning} → TurnedBy (get_or list n no_stretch) (get_or dates i 0) (get_or marks i false) (get_or outcomes i no_outcome) t
-          → GoingBy dates marks outcomes (set list (n + t.fresh) t.stretch) (n + t.fresh) (i + 1)
+      by_turn : {t : Turning} → TurnedBy (get_or list n no_stretch) (get_or dates i 0) (get_or marks i false) (get_or outcomes i no_outcome) t
+          → GoingBy dates marks outcomes (set list (n + fresh t) (in_hand t)) (n + fresh t) (i + 1)
       by_turn {t} w = record {
         few = g.few;
         low = omega arith;
-        place = omega (arith, w.most, g.place);
+        place = omega (arith, fresh_most t, g.place);
         most = omega arith;
-        long = length-set list (n + t.fresh) t.stretch ∙ g.long;
+        long = length-set list (n + fresh t) (in_hand t) ∙ g.long;
         of = λ f k. go_turn (g.of f k) h (w.of f (told f k));
       }
 
-    pub by_end : length dates ≤ i → ListsBy dates marks outcomes (record { list = list; n = n + 1 })
+      pub by_grown : {r : Declared.Stretch} → TurnedBy (get_or list n no_stretch) (get_or dates i 0) (get_or marks i false) (get_or outcomes i no_outcome) (Grown r)
+          → GoingBy dates marks outcomes (set list n r) n (i + 1)
+      by_grown {r} w =
+          let e : n + 0 ≡ n = omega arith in
+          subst (λ (k : ℕ). GoingBy dates marks outcomes (set list k r) k (i + 1)) e (by_turn w)
+
+      pub by_begun : {r : Declared.Stretch} → TurnedBy (get_or list n no_stretch) (get_or dates i 0) (get_or marks i false) (get_or outcomes i no_outcome) (Begun r)
+          → GoingBy dates marks outcomes (set list (n + 1) r) (n + 1) (i + 1)
+      by_begun w = by_turn w
+
+    pub by_end : length dates ≤ i → {few : n + 1 ≤ 1096} → ListsBy dates marks outcomes (record { list = list; n = n + 1; few = few })
     by_end h = record { of = λ f k. go_end (g.of f k) h }

@@ -8,6 +8,7 @@ use Rattle.outcomes.specs.Outcomes.{PricedOn}
 use Rattle.stretches.specs.declared.Stretch as Declared
 use Rattle.stretches.specs.declared.Stretches.{Stretches}
 use Rattle.stretches.specs.declared.turns.Turning.{Turning}
+use Rattle.stretches.specs.declared.turns.Turning.TheVariants.{Grown, Begun}
 
 -- the definition's stretch, of one in the code
 abbrev pub as_stretch : Declared.Stretch → Stretch
@@ -49,14 +50,21 @@ pub record Told (f : ℕ → Outcome) (hand : Declared.Stretch) (d : ℕ) (due :
   pub stays : due ≡ false → as_outcome hand.outcome ≡ f d
   pub priced : due ≡ true → as_outcome o ≡ f d
 
+-- the stretch in hand, and 1 if it begins on the day, else 0
+abbrev pub in_hand : Turning → Declared.Stretch
+in_hand (Grown r) = r
+in_hand (Begun r) = r
+
+abbrev pub fresh : Turning → ℕ
+fresh (Grown r) = 0
+fresh (Begun r) = 1
+
 pub record Turned (f : ℕ → Outcome) (hand : Declared.Stretch) (d : ℕ) (r : Turning) : Type 0 where
-  pub most : r.fresh ≤ 1
-  pub fresh : r.fresh ≡ cond (same_outcome (as_outcome hand.outcome) (f d)) 0 1
-  pub is : as_stretch r.stretch ≡ Walk.turned (as_stretch hand) d (f d)
+  pub fresh_is : fresh r ≡ cond (same_outcome (as_outcome hand.outcome) (f d)) 0 1
+  pub is : as_stretch (in_hand r) ≡ Walk.turned (as_stretch hand) d (f d)
 
 -- whatever the outcomes of days are, as long as these are told
 pub record TurnedBy (hand : Declared.Stretch) (d : ℕ) (due : Bool) (o : Coded.Outcome) (r : Turning) : Type 0 where
-  pub most : r.fresh ≤ 1
   pub of : (f : ℕ → Outcome) → Told f hand d due o → Turned f hand d r
 
 -- ---- all days
@@ -75,7 +83,6 @@ pub record Known (f : ℕ → Outcome) (dates : List ℕ) (marks : List Bool) (o
 -- `r` lists these stretches, and none behind them
 pub record Lists (ss : List Stretch) (r : Stretches) : Type 0 where
   pub long : length r.list ≡ most_days
-  pub few : r.n ≤ most_days
   pub is : map as_stretch (take r.n r.list) ≡ ss
   pub behind : (i : ℕ) → r.n ≤ i → get_or r.list i no_stretch ≡ no_stretch
 

@@ -9,6 +9,7 @@ ghost use Rattle.stretches.specs.Stretches.{Lists};
 
 use crate::Stretches;
 use crate::walk::stretches_of;
+use grants::asking::Asking;
 use grants::terms::wanted_in;
 use outcomes::outcomes_of;
 use period::marks::marks_of;
@@ -30,14 +31,15 @@ pub fn stretches_in(
     ensures { Lists (stretches (outcome (records_left book.now 5) (ask_in question.now ask)) dates.now) result }
 {
     let wanted = wanted_in(question, ask);
-    let table = wanted.table;
-    let terms = wanted.terms;
-    let part = ask.article;
-    let from = part.at;
-    let to = from + part.size;
-    let article = &question[from..to];
-    let last = window.last;
-    let marks = marks_of(&book[..last], window.first, article, terms.sort, dates);
-    let priced = outcomes_of(book, window, article, &table, terms, dates, marks);
-    stretches_of(dates, marks, priced)
+    let asking = Asking::of(question, ask, &wanted);
+    let own = window.spans.rows;
+    let marks = marks_of(
+        &book[..own.last],
+        own.first,
+        asking.article,
+        asking.terms.sort,
+        dates,
+    );
+    let priced = outcomes_of(book, window, &asking, dates, &marks);
+    stretches_of(dates, &marks, &priced)
 }

@@ -5,6 +5,8 @@ pub mod asked;
 mod turns;
 mod walk;
 
+ghost use Rattle.std.specs.Prelude.{◌≡◌, ◌≤◌, take};
+
 use days::Day;
 use rules::{Cents, Currency, Outcome};
 
@@ -28,8 +30,18 @@ pub const NO_STRETCH: Stretch = Stretch {
 };
 
 // The first n of the list count; behind them stand empty ones, which are no stretch of any days.
+// As it is: an array with its count, since the library takes no heap.
 #[derive(Clone, Copy)]
 pub struct Stretches {
     pub list: [Stretch; 1096],
     pub n: usize,
+    ghost few: { n ≤ 1096 },
+}
+
+impl Stretches {
+    pub fn as_slice(&self) -> &[Stretch]
+        ensures { result.now ≡ take self.now.n self.now.list }
+    {
+        &self.list[..self.n]
+    }
 }

@@ -1,7 +1,7 @@
 -- The spots of the roundings that have gone by: while they are few, they are all noted, in their order.
 use Prim.Native.Nat.{ℕ, suc, ◌+◌, ◌≤◌, ◌<◌}
 use mathlib.Core.Path.{◌≡◌, refl, sym, ◌∙◌, ap, subst}
-use mathlib.Core.Bool.{Bool, true, false, cond, false≢true}
+use mathlib.Core.Bool.{Bool, true, false, cond, not, false≢true}
 use mathlib.Core.List.{List, [], ◌∷◌, ◌++◌, map, append-nil, append_assoc}
 use mathlib.Core.Option.{Option, some, none}
 use native.Mathlib.Omega.{arith}
@@ -14,6 +14,7 @@ use Rattle.rules.specs.Book.{Record, as_rounding, roundings}
 use Rattle.rules.specs.BookLayout.{kinded}
 use Rattle.rules.specs.declared.Rounding.{Rounding}
 use Rattle.rules.proofs.ListLaws.{All}
+use Rattle.rules.proofs.TestLaws.{so, not_so}
 use Rattle.layout.specs.Reads.{part}
 use Rattle.layout.specs.Ensures.{Says}
 use Rattle.layout.specs.Records.{records_left, Between, StopIs}
@@ -21,27 +22,30 @@ use Rattle.records.specs.Tests.{is_rounding}
 use Rattle.records.proofs.RoundingLaws.{rounding_told}
 use Rattle.lookup.specs.Roundings.{rounding_held, rounding_there, RoundingSpot}
 use Rattle.lookup.proofs.LookupLaws.{there_rounding}
+use Rattle.survey.specs.declared.window.Noted.{Noted}
 use Rattle.survey.specs.Window.{SpotNoted, NotedIn}
+use Rattle.survey.specs.Survey.{none_noted}
 
 -- ---- what the function computes
 
-module _ (spots : List ℕ) (count : ℕ) (o : Option Record) (at : ℕ) (long : length spots ≡ 16) {r : Bool} (said : Says (is_rounding o) r) where
-  pub note_other : r ≡ false → SpotNoted spots count (is_rounding o) at spots count
-  note_other f = record { long = long; few = λ h. h; is = λ h. rw (said.is, f) }
+module _ (k : Noted) (o : Option Record) (at : ℕ) (long : length k.spots ≡ 16) {r : Bool} (said : Says (is_rounding o) r) where
+  pub note_other : not r ≡ true → SpotNoted k (is_rounding o) at k
+  note_other f = record { long = long; few = λ h. h; is = λ h. rw (said.is, not_so r f) }
 
-  pub note_one : r ≡ true → count < 16 → SpotNoted spots count (is_rounding o) at (set spots count at) (count + 1)
-  note_one t l = record {
-    long = length-set spots count at ∙ long;
-    few = λ h. omega arith;
-    is = λ h.
-        let e : count + 1 ≡ suc count = omega arith in
-        ap (λ (k : ℕ). take k (set spots count at)) e
-        ∙ take-suc-set spots count at (omega (arith, long))
-        ∙ ap (λ (b : Bool). cond b (take count spots ++ (at ∷ [])) (take count spots)) (sym (said.is ∙ t));
-  }
+  module _ (t : not r ≡ false) where
+    pub note_one : k.count < 16 → SpotNoted k (is_rounding o) at (record { count = k.count + 1; spots = set k.spots k.count at })
+    note_one l = record {
+      long = length-set k.spots k.count at ∙ long;
+      few = λ h. omega arith;
+      is = λ h.
+          let e : k.count + 1 ≡ suc k.count = omega arith in
+          ap (λ (n : ℕ). take n (set k.spots k.count at)) e
+          ∙ take-suc-set k.spots k.count at (omega (arith, long))
+          ∙ ap (λ (b : Bool). cond b (take k.count k.spots ++ (at ∷ [])) (take k.count k.spots)) (sym (said.is ∙ so r t));
+    }
 
-  pub note_many : r ≡ true → 16 ≤ count → SpotNoted spots count (is_rounding o) at spots 17
-  note_many t l = record { long = long; few = λ h. absurd (omega arith); is = λ h. absurd (omega arith) }
+    pub note_many : 16 ≤ k.count → SpotNoted k (is_rounding o) at (record { count = 17; spots = k.spots })
+    note_many l = record { long = long; few = λ h. absurd (omega arith); is = λ h. absurd (omega arith) }
 
 -- ---- the loop
 
@@ -50,9 +54,9 @@ pub record SpotsSoFar (b : List ℕ) (from : ℕ) (spots : List ℕ) (at : ℕ) 
   pub there : All (RoundingSpot b) spots
   pub rest : map (rounding_there b) spots ++ roundings (records_left b at) ≡ roundings (records_left b from)
 
-pub record Noting (b : List ℕ) (from : ℕ) (spots : List ℕ) (count at : ℕ) : Type 0 where
-  pub long : length spots ≡ 16
-  pub are : count ≤ 16 → SpotsSoFar b from (take count spots) at
+pub record Noting (b : List ℕ) (from : ℕ) (k : Noted) (at : ℕ) : Type 0 where
+  pub long : length k.spots ≡ 16
+  pub are : k.count ≤ 16 → SpotsSoFar b from (take k.count k.spots) at
 
 map_append : {A B : Type 0} (f : A → B) (xs ys : List A) → map f (xs ++ ys) ≡ map f xs ++ map f ys
 map_append f [] ys = refl
@@ -76,7 +80,7 @@ module _ {b : List ℕ} {at end : ℕ} (between : Between b at) (stop : StopIs b
   }
 
 module _ {b : List ℕ} {from : ℕ} where
-  pub noting_start : Noting b from (replicate 16 0) 0 from
+  pub noting_start : Noting b from none_noted from
   noting_start = record { long = length-replicate {A = ℕ} 16 0; are = λ h. record { there = tt; rest = refl } }
 
   module _ {at end : ℕ} (between : Between b at) (stop : StopIs b at end) (step : records_left b at ≡ cons_some (whole kinded (part b (at + 2) end)) (records_left b end)) where
@@ -114,19 +118,19 @@ module _ {b : List ℕ} {from : ℕ} where
           go none e = absurd (false≢true (sym (ap is_some e) ∙ stop.ok))
           go (some r) e = kind r e (as_rounding r) refl
 
-    pub noting_turn : {spots : List ℕ} {count : ℕ} → Noting b from spots count at → {after : List ℕ} {r : ℕ} → SpotNoted spots count (is_rounding (record_at b at end)) at after r → Noting b from after r end
+    pub noting_turn : {k : Noted} → Noting b from k at → {r : Noted} → SpotNoted k (is_rounding (record_at b at end)) at r → Noting b from r end
     noting_turn inv note = record {
       long = note.long;
       are = λ h. subst (λ xs. SpotsSoFar b from xs end) (sym (note.is h)) (gone (inv.are (note.few h)));
     }
 
-  pub noting_end : {spots : List ℕ} {count at : ℕ} → Noting b from spots count at → records_left b at ≡ [] → NotedIn b from (record { count = count; spots = spots })
-  noting_end {spots} {count} inv e = record {
+  pub noting_end : {k : Noted} {at : ℕ} → Noting b from k at → records_left b at ≡ [] → NotedIn b from k
+  noting_end {k} inv e = record {
     are = λ h.
-        let k = inv.are h in
+        let f = inv.are h in
         record {
           fits = omega (arith, inv.long);
-          there = k.there;
-          are = sym (append-nil (map (rounding_there b) (take count spots))) ∙ ap (λ rs. map (rounding_there b) (take count spots) ++ roundings rs) (sym e) ∙ k.rest;
+          there = f.there;
+          are = sym (append-nil (map (rounding_there b) (take k.count k.spots))) ∙ ap (λ rs. map (rounding_there b) (take k.count k.spots) ++ roundings rs) (sym e) ∙ f.rest;
         };
   }

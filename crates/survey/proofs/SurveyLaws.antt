@@ -7,7 +7,7 @@ use mathlib.Core.List.{List}
 use mathlib.Core.Option.{Option}
 use native.Mathlib.Omega.{arith}
 use lib.Dec.{eqb}
-use lib.ListN.{length, take, drop, get_or, replicate, length-replicate}
+use lib.ListN.{length, take, drop, get_or, length-replicate}
 use borrow.Author.Tests.{eqb-true, eq-eqb, ne_eqb}
 use Rattle.rules.specs.Lists.{is_some}
 use Rattle.rules.specs.Layout.{whole}
@@ -29,10 +29,10 @@ use Rattle.records.proofs.PriceLaws.{no_row}
 use Rattle.records.proofs.RoundingLaws.{rounding_told}
 use Rattle.survey.specs.declared.Found.{Found}
 use Rattle.survey.specs.declared.Sighted.{Sighted}
-use Rattle.survey.specs.declared.Surveyed.{Surveyed}
 use Rattle.survey.specs.declared.window.Spans.{Spans}
-use Rattle.survey.specs.Window.{row_span, rounding_span, SpansAfter, SpotNoted}
-use Rattle.survey.specs.Survey.{unseen, nothing, SightedAfter, FoundOf, FoundIs, PassIs, SurveyIs}
+use Rattle.survey.specs.declared.window.Noted.{Noted}
+use Rattle.survey.specs.Window.{SpansAfter, SpotNoted}
+use Rattle.survey.specs.Survey.{unseen, none_noted, SightedAfter, FoundOf, FoundIs, BookFound, NoBook}
 use Rattle.survey.proofs.WindowLaws.{span_kept, Spanning, rows_gather, roundings_gather, rows_outside, roundings_outside, span_start, span_turn, span_end, windows}
 use Rattle.survey.proofs.SpotLaws.{Noting, noting_start, noting_turn, noting_end}
 
@@ -72,20 +72,20 @@ module _ (s : Sighted) (t article : List ℕ) (sort : ℕ) (a : Accepted t) {at 
         → SightedAfter s article sort (whole kinded t) at end (record { article = s.article || there; spans = s.spans })
     noted_other d n there =
         noted_is s article sort (whole kinded t) (no_row t article sort (starts_not t 2 article a d) refl) (record { is = said.is ∙ n })
-        (record { rows = span_kept (row_span s.spans) at end refl; roundings = span_kept (rounding_span s.spans) at end refl }) there
+        (record { rows = span_kept s.spans.rows at end refl; roundings = span_kept s.spans.roundings at end refl }) there
 
 -- ---- the pass over an accepted book
 
 -- what is kept and noted is what the records before `at` have
-pub record Passed (b article : List ℕ) (sort : ℕ) (seen : Sighted) (spots : List ℕ) (count at : ℕ) : Type 0 where
+pub record Passed (b article : List ℕ) (sort : ℕ) (seen : Sighted) (k : Noted) (at : ℕ) : Type 0 where
   pub between : Between b at
-  pub rows_span : Spanning (rows_of article sort) b 5 (row_span seen.spans) at
-  pub roundings_span : Spanning roundings b 5 (rounding_span seen.spans) at
-  pub noting : Noting b 5 spots count at
+  pub rows_span : Spanning (rows_of article sort) b 5 seen.spans.rows at
+  pub roundings_span : Spanning roundings b 5 seen.spans.roundings at
+  pub noting : Noting b 5 k at
   pub there : (seen.article || is_some (article_of (records_left b at) article)) ≡ is_some (article_of (records_left b 5) article)
 
 module _ (b article : List ℕ) (sort : ℕ) where
-  pub find_start : is_some (records b) ≡ true → Passed b article sort unseen (replicate 16 0) 0 5
+  pub find_start : is_some (records b) ≡ true → Passed b article sort unseen none_noted 5
   find_start ok = record {
     between = pass_start b ok;
     rows_span = span_start (rows_gather article sort) (omega arith);
@@ -94,17 +94,17 @@ module _ (b article : List ℕ) (sort : ℕ) where
     there = refl;
   }
 
-  module _ {seen : Sighted} {spots : List ℕ} {count at : ℕ} (p : Passed b article sort seen spots count at) where
+  module _ {seen : Sighted} {k : Noted} {at : ℕ} (p : Passed b article sort seen k at) where
     pub find_here : at < length b → RecordHere b at
     find_here h = pass_here p.between h
 
-    pub find_long : length spots ≡ 16
+    pub find_long : length k.spots ≡ 16
     find_long = p.noting.long
 
     pub find_turn : at < length b → {end : ℕ} → StopIs b at end → {next : Sighted}
         → SightedAfter seen article sort (whole kinded (take (end - (at + 2)) (drop (at + 2) b))) at end next
-        → {after : List ℕ} {r : ℕ} → SpotNoted spots count (Tests.is_rounding (whole kinded (take (end - (at + 2)) (drop (at + 2) b)))) at after r
-        → Passed b article sort next after r end
+        → {r : Noted} → SpotNoted k (Tests.is_rounding (whole kinded (take (end - (at + 2)) (drop (at + 2) b)))) at r
+        → Passed b article sort next r end
     find_turn h {end} stop {next} after noted =
         let o : Option Record = whole kinded (part b (at + 2) end) in
         let step = pass_record p.between h stop in
@@ -120,7 +120,7 @@ module _ (b article : List ℕ) (sort : ℕ) where
               ∙ p.there;
         }
 
-    pub find_end : length b ≤ at → {found : Found} → FoundOf seen (record { count = count; spots = spots }) found → FoundIs b article sort found
+    pub find_end : length b ≤ at → {found : Found} → FoundOf seen k found → FoundIs b article sort found
     unfolding article_of
     find_end h of =
         let none_left = pass_end p.between h in
@@ -138,43 +138,39 @@ module _ (b article : List ℕ) (sort : ℕ) where
 -- ---- the pass that accepts a book
 
 -- the records from `at` on decide about the book
-pub record Surveying (b article : List ℕ) (sort : ℕ) (seen : Sighted) (spots : List ℕ) (count at : ℕ) : Type 0 where
+pub record Surveying (b article : List ℕ) (sort : ℕ) (seen : Sighted) (k : Noted) (at : ℕ) : Type 0 where
   pub decides : Decides b at
-  pub long : length spots ≡ 16
-  pub passed : is_some (records b) ≡ true → Passed b article sort seen spots count at
+  pub long : length k.spots ≡ 16
+  pub passed : is_some (records b) ≡ true → Passed b article sort seen k at
 
 module _ (b article : List ℕ) (sort : ℕ) where
-  -- what the pass tells of no book
-  refuses : (found : Found) → false ≡ is_some (records b) → PassIs b article sort (record { ok = false; found = found })
-  refuses found e = record { ok = e; found = λ t. absurd (false≢true t) }
-
   module _ {r : Bool} (header : Says (book_head_ok b) r) where
-    pub survey_header : not r ≡ true → PassIs b article sort (record { ok = false; found = nothing })
-    survey_header e = refuses nothing (book_not b header (not_so r e))
+    pub survey_header : not r ≡ true → NoBook b
+    survey_header e = record { is = sym (book_not b header (not_so r e)) }
 
-    pub survey_start : not r ≡ false → Surveying b article sort unseen (replicate 16 0) 0 5
+    pub survey_start : not r ≡ false → Surveying b article sort unseen none_noted 5
     survey_start e = record {
       decides = book_start b header (so r e);
       long = length-replicate {A = ℕ} 16 0;
       passed = find_start b article sort;
     }
 
-  module _ {seen : Sighted} {spots : List ℕ} {count at : ℕ} (inv : Surveying b article sort seen spots count at) where
+  module _ {seen : Sighted} {k : Noted} {at : ℕ} (inv : Surveying b article sort seen k at) where
     pub survey_here : at < length b → at ≤ length b
     survey_here h = omega arith
 
-    pub survey_long : length spots ≡ 16
+    pub survey_long : length k.spots ≡ 16
     survey_long = inv.long
 
-    pub survey_end : length b ≤ at → {found : Found} → FoundOf seen (record { count = count; spots = spots }) found
-        → PassIs b article sort (record { ok = true; found = found })
+    pub survey_end : length b ≤ at → {found : Found} → FoundOf seen k found
+        → BookFound b article sort found
     survey_end h of =
-        let ok : true ≡ is_some (records b) = Book.walk_end inv.decides h in
-        record { ok = ok; found = λ t. find_end b article sort (inv.passed (sym ok)) h of }
+        let ok : is_some (records b) ≡ true = sym (Book.walk_end inv.decides h) in
+        record { book = ok; found = find_end b article sort (inv.passed ok) h of }
 
     module _ (h : at < length b) {end : ℕ} (e : RecordEnd b at end) where
-      pub survey_bad : end < 1 → (found : Found) → PassIs b article sort (record { ok = false; found = found })
-      survey_bad g found = refuses found (walk_bad inv.decides h e g)
+      pub survey_bad : end < 1 → NoBook b
+      survey_bad g = record { is = sym (walk_bad inv.decides h e g) }
 
       module _ (g : 1 ≤ end) where
         pub survey_low : at + 2 ≤ end
@@ -187,21 +183,10 @@ module _ (b article : List ℕ) (sort : ℕ) where
         survey_accepted = record { ok = (end_stops e g).ok }
 
         pub survey_turn : {next : Sighted} → SightedAfter seen article sort (whole kinded (take (end - (at + 2)) (drop (at + 2) b))) at end next
-            → {after : List ℕ} {r : ℕ} → SpotNoted spots count (Tests.is_rounding (whole kinded (take (end - (at + 2)) (drop (at + 2) b)))) at after r
-            → Surveying b article sort next after r end
+            → {r : Noted} → SpotNoted k (Tests.is_rounding (whole kinded (take (end - (at + 2)) (drop (at + 2) b)))) at r
+            → Surveying b article sort next r end
         survey_turn after noted = record {
           decides = walk_again inv.decides h e g;
           long = noted.long;
           passed = λ ok. find_turn b article sort (inv.passed ok) h (end_stops e g) after noted;
         }
-
--- ---- what is told of a pass
-module _ (b article : List ℕ) (sort : ℕ) {r : Surveyed} (p : PassIs b article sort r) where
-  pub survey_some : r.ok ≡ true → SurveyIs b article sort r
-  survey_some t = record { ok = p.ok; found = p.found; empty = λ f. absurd (false≢true (sym f ∙ t)) }
-
-  pub survey_none : r.ok ≡ false → SurveyIs b article sort (record { ok = false; found = nothing })
-  survey_none f = record { ok = sym f ∙ p.ok; found = λ t. absurd (false≢true t); empty = λ t. refl }
-
-  pub survey_book : r.ok ≡ is_some (records b)
-  survey_book = p.ok

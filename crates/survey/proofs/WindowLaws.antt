@@ -24,7 +24,7 @@ use Rattle.survey.specs.declared.window.Span.{Span}
 use Rattle.survey.specs.declared.window.Noted.{Noted}
 use Rattle.survey.specs.declared.window.Spans.{Spans}
 use Rattle.survey.specs.declared.window.Window.{Window}
-use Rattle.survey.specs.Window.{span_after, SpanAfter, row_span, rounding_span, SpansAfter, NotedIn, Windows}
+use Rattle.survey.specs.Window.{span_after, SpanAfter, SpansAfter, NotedIn, Windows}
 
 -- ---- what the function computes
 
@@ -238,13 +238,13 @@ module _ {A : Type 0} {f : List Record → List A} (g : Gathers f) {w : List ℕ
 
 -- ---- the window
 
-pub spans_noted : {s : Spans} {own rounding : Bool} {at end : ℕ} {a b : Span} → SpanAfter (row_span s) own at end a → SpanAfter (rounding_span s) rounding at end b
-    → SpansAfter s own rounding at end (record { first = a.first; last = a.last; from = b.first; to = b.last })
+pub spans_noted : {s : Spans} {own rounding : Bool} {at end : ℕ} {a b : Span} → SpanAfter s.rows own at end a → SpanAfter s.roundings rounding at end b
+    → SpansAfter s own rounding at end (record { rows = a; roundings = b })
 spans_noted a b = record { rows = a; roundings = b }
 
 pub windows : {b : List ℕ} {start : ℕ} {article : List ℕ} {sort : ℕ} {rs ss : Span} {k : Noted}
     → Spanned (rows_of article sort) b start rs → Spanned roundings b start ss → NotedIn b start k
-    → Windows b start article sort (record { first = rs.first; last = rs.last; from = ss.first; to = ss.last; noted = k })
+    → Windows b start article sort (record { spans = record { rows = rs; roundings = ss }; noted = k })
 windows a b k = record {
   fits = a.fits;
   between = a.between;

@@ -15,29 +15,37 @@ const MOST_NOTED: usize = 16;
 pub const MANY: usize = 17;
 
 // How many roundings there are, and where each stands: the first `count` of the spots. Where there are many, no spot counts.
+// As it is: an array with its count, since the library takes no heap.
 #[derive(Clone, Copy)]
 pub struct Noted {
     pub count: usize,
     pub spots: [usize; MOST_NOTED],
 }
 
-// All rows of the article and sort stand from `first` to `last`, all roundings from `from` to `to`.
-#[derive(Clone, Copy)]
-pub struct Spans {
-    pub first: usize,
-    pub last: usize,
-    pub from: usize,
-    pub to: usize,
-}
+impl Noted {
+    // No rounding has gone by.
+    pub const NONE: Noted = Noted {
+        count: 0,
+        spots: [0; MOST_NOTED],
+    };
 
-// The same, and the roundings noted.
-#[derive(Clone, Copy)]
-pub struct Window {
-    pub first: usize,
-    pub last: usize,
-    pub from: usize,
-    pub to: usize,
-    pub noted: Noted,
+    // The record t at `at` has gone by: a rounding is counted, and its spot noted if it is one of few.
+    pub fn note_spot(&mut self, t: &[u8], at: usize)
+        requires spots_len { length self.old.spots ≡ 16 }
+        requires accepted { Accepted t.now }
+        ensures { SpotNoted self.old (is_rounding (whole kinded t.now)) at self.new }
+    {
+        if !is_rounding(t) {
+            return;
+        }
+        let count = self.count;
+        if count < MOST_NOTED {
+            self.spots[count] = at;
+            self.count = count + 1;
+            return;
+        }
+        self.count = MANY;
+    }
 }
 
 // From the first record that counts to the end of the last; while there is none, both are the same.
@@ -47,59 +55,49 @@ pub struct Span {
     pub last: usize,
 }
 
-// The span once the record from `at` to `end` has gone by, if that counts.
-pub fn widened(span: Span, counts: bool, at: usize, end: usize) -> Span
-    ensures { SpanAfter span counts at end result }
-{
-    if counts {
-        if span.first == span.last {
+impl Span {
+    // The span once the record from `at` to `end` has gone by, if that counts.
+    pub fn widened(self, counts: bool, at: usize, end: usize) -> Span
+        ensures { SpanAfter self counts at end result }
+    {
+        if !counts {
+            return self;
+        }
+        if self.first == self.last {
             return Span {
                 first: at,
                 last: end,
             };
         }
-        return Span {
-            first: span.first,
+        Span {
+            first: self.first,
             last: end,
-        };
-    }
-    span
-}
-
-// The spans once a record has gone by: it may be a row of the article and sort, or a rounding.
-pub fn spans_after(spans: Spans, own: bool, rounding: bool, at: usize, end: usize) -> Spans
-    ensures { SpansAfter spans own rounding at end result }
-{
-    let rows = Span {
-        first: spans.first,
-        last: spans.last,
-    };
-    let roundings = Span {
-        first: spans.from,
-        last: spans.to,
-    };
-    let a = widened(rows, own, at, end);
-    let b = widened(roundings, rounding, at, end);
-    Spans {
-        first: a.first,
-        last: a.last,
-        from: b.first,
-        to: b.last,
-    }
-}
-
-// The count of the roundings once the record t at `at` has gone by, and its spot if it is one of few.
-pub fn note_spot(spots: &mut [usize; MOST_NOTED], count: usize, t: &[u8], at: usize) -> usize
-    requires spots_len { length spots.old ≡ 16 }
-    requires accepted { Accepted t.now }
-    ensures { SpotNoted spots.old count (is_rounding (whole kinded t.now)) at spots.new result }
-{
-    if is_rounding(t) {
-        if count < MOST_NOTED {
-            spots[count] = at;
-            return count + 1;
         }
-        return MANY;
     }
-    count
+}
+
+// All rows of the article and sort stand in the one, all roundings in the other.
+#[derive(Clone, Copy)]
+pub struct Spans {
+    pub rows: Span,
+    pub roundings: Span,
+}
+
+impl Spans {
+    // The spans once a record has gone by: it may be a row of the article and sort, or a rounding.
+    pub fn widened(self, own: bool, rounding: bool, at: usize, end: usize) -> Spans
+        ensures { SpansAfter self own rounding at end result }
+    {
+        Spans {
+            rows: self.rows.widened(own, at, end),
+            roundings: self.roundings.widened(rounding, at, end),
+        }
+    }
+}
+
+// The spans, and the roundings noted.
+#[derive(Clone, Copy)]
+pub struct Window {
+    pub spans: Spans,
+    pub noted: Noted,
 }

@@ -4,22 +4,21 @@ use mathlib.Core.Path.{◌≡◌, sym, ◌∙◌, ap, subst}
 use mathlib.Core.List.{List}
 use native.Mathlib.Omega.{arith}
 use native.Mathlib.Decide.{dec_lt}
-use lib.ListN.{length, get_or, set, length-set}
+use lib.ListN.{length, get_or, set, length-set, length-replicate}
 use lib.Seq.{get_or-set_same, get_or-set_other}
-use Rattle.layout.specs.Ensures.{Number}
-use Rattle.text_names.specs.Names.{name_from, StartsName, hash_of, hash_at, Chained, Candidate, Latest, Hashed, Table, EnteredIs}
+use Rattle.layout.proofs.StoreLaws.{all_same}
+use Rattle.text_names.specs.declared.Names.{Names}
+use Rattle.text_names.specs.Hashes.{name_from, StartsName, hash_of}
+use Rattle.text_names.specs.Names.{hash_at, Chained, Candidate, Latest, Table, Empty, EnteredIs}
 
 -- what `find` starts from
 latest_candidate : {file starts last : List ℕ} {k : ℕ} → Latest file starts last k → (x : List ℕ) (h : ℕ) → h ≡ hash_of x → h < 65536
     → Candidate file starts k x (get_or last h 0)
 latest_candidate t x h e l = record { low = t.low h l; alike = λ g. t.alike h l g ∙ e; above = λ m g n f. t.above h m l g n (ap hash_of f ∙ sym e) }
 
-module _ {file starts before last : List ℕ} {k : ℕ} (t : Table file starts before last k) {x : List ℕ} {h : ℕ} (n : Hashed x h) where
-  pub find_hash : h < length last
-  find_hash = omega (arith, n.below, t.latest.long)
-
-  pub find_start : {j : ℕ} → Number (get_or last h 0) 65536 j → Candidate file starts k x j
-  find_start p = subst (Candidate file starts k x) (sym p.is) (latest_candidate t.latest x h n.is n.below)
+pub find_start : {file : List ℕ} {names : Names} → Table file names → (x : List ℕ) {h : ℕ} → h ≡ hash_of x → h < 65536
+    → Candidate file names.starts names.count x (get_or names.last h 0)
+find_start t x {h} e l = latest_candidate t.latest x h e l
 
 module _ {file starts before last : List ℕ} {k : ℕ} (c : Chained file starts before k) (t : Latest file starts last k) {start h : ℕ}
     (s : StartsName file start)
@@ -116,21 +115,29 @@ module _ {file starts before last : List ℕ} {k : ℕ} (c : Chained file starts
       last_name g n d m a f (no x) b = let w : k ≡ m = omega arith in d (sym f ∙ (sym (ap (hash_at file starts') w) ∙ new_hash))
 
 -- The table with a name more.
-pub entered : {file starts before last : List ℕ} {k : ℕ} → Table file starts before last k → {start h : ℕ} → StartsName file start
-    → Hashed (name_from file start) h → k < length starts → k < length before
-    → {starts' before' last' : List ℕ} → EnteredIs starts before last k start h starts' before' last' → Table file starts' before' last' (k + 1)
-entered {file} {starts} {before} {last} {k} t {start} {h} s n ls lb {starts'} {before'} e =
-    subst (λ (l : List ℕ). Table file starts' before' l (k + 1)) (sym e.last_is)
-    (subst (λ (b : List ℕ). Table file starts' b (set last h (k + 1)) (k + 1)) (sym e.before_is)
-    (subst (λ (a : List ℕ). Table file a (set before k (get_or last h 0)) (set last h (k + 1)) (k + 1)) (sym e.starts_is)
-    (record {
-      chained = entered_chained t.chained t.latest s n.is n.below ls lb;
-      latest = entered_latest t.chained t.latest s n.is n.below ls lb;
-    })))
+pub entered : {file : List ℕ} {names : Names} → Table file names → {start h : ℕ} → StartsName file start
+    → h ≡ hash_of (name_from file start) → h < 65536 → names.count < length names.starts → names.count < length names.before
+    → {names' : Names} → EnteredIs names start h names' → Table file names'
+entered {file} {names} t {start} {h} s n g ls lb {names'} e = record {
+  chained =
+      let P : List ℕ → List ℕ → ℕ → Type 0 = λ a b k. Chained file a b k in
+      subst (λ k. P names'.starts names'.before k) (sym e.count_is)
+      (subst (λ b. P names'.starts b (names.count + 1)) (sym e.before_is)
+      (subst (λ a. P a (set names.before names.count (get_or names.last h 0)) (names.count + 1)) (sym e.starts_is)
+      (entered_chained t.chained t.latest s n g ls lb)));
+  latest =
+      let P : List ℕ → List ℕ → ℕ → Type 0 = λ a l k. Latest file a l k in
+      subst (λ k. P names'.starts names'.last k) (sym e.count_is)
+      (subst (λ l. P names'.starts l (names.count + 1)) (sym e.last_is)
+      (subst (λ a. P a (set names.last h (names.count + 1)) (names.count + 1)) (sym e.starts_is)
+      (entered_latest t.chained t.latest s n g ls lb)));
+}
 
 -- An empty one.
-pub no_names : {file starts before last : List ℕ} → length last ≡ 65536 → ((h : ℕ) → get_or last h 0 ≡ 0) → Table file starts before last 0
-no_names long zeros =
+pub no_names : {file : List ℕ} {names : Names} → Empty names → Table file names
+no_names {file} {names} p =
+    let e : names.count ≡ 0 = p.none in
+    let z : (h : ℕ) → get_or names.last h 0 ≡ 0 = λ h. ap (λ (l : List ℕ). get_or l h 0) p.last_is ∙ all_same 65536 h 0 in
     record {
       chained = record {
         fields = λ i l. absurd (omega arith);
@@ -141,9 +148,9 @@ no_names long zeros =
         between_not = λ i m l. absurd (omega arith);
       };
       latest = record {
-        long = long;
-        low = λ h l. omega (arith, zeros h);
-        alike = λ h l g. absurd (omega (arith, zeros h));
+        long = ap length p.last_is ∙ length-replicate {A = ℕ} 65536 0;
+        low = λ h l. omega (arith, z h);
+        alike = λ h l g. absurd (omega (arith, z h));
         above = λ h m l a b. absurd (omega arith);
       };
     }

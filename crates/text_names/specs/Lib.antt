@@ -1,1 +1,2 @@
+pub mod Hashes
 pub mod Names

@@ -1,31 +1,7 @@
 -- Names of texts, each at the field where it was met first, and chains of those with the same hash.
-use Rattle.std.specs.Prelude.{ℕ, ◌+◌, ◌-◌, ◌*◌, ◌%◌, ◌≤◌, ◌<◌, ◌≡◌, List, [], ◌∷◌, true, cond, eqb, length, drop, get_or, set}
-use Rattle.rules.specs.Lists.{is_some, if_some}
-use Rattle.file_rules.specs.Fields.{field}
-
--- the name in the field that starts there
-unfoldable pub name_from : List ℕ → ℕ → List ℕ
-name_from file start = if_some (field (drop start file)) [] (λ p. p.0)
-
-pub record StartsName (file : List ℕ) (start : ℕ) : Type 0 where
-  pub fits : start ≤ length file
-  pub good : is_some (field (drop start file)) ≡ true
-
--- any hash will do: no law of the chains opens it. Quotes do not count, so that a text and its bytes between quotes have one hash
-abbrev pub add_byte : ℕ → ℕ → ℕ
-add_byte n b = cond (eqb 34 b) n ((n * 31 + b) % 65536)
-
-unfoldable pub hash_from : ℕ → List ℕ → ℕ
-hash_from n [] = n
-hash_from n (b ∷ s) = hash_from (add_byte n b) s
-
-abbrev pub hash_of : List ℕ → ℕ
-hash_of s = hash_from 0 s
-
--- `h` is its hash
-pub record Hashed (x : List ℕ) (h : ℕ) : Type 0 where
-  pub is : h ≡ hash_of x
-  pub below : h < 65536
+use Rattle.std.specs.Prelude.{ℕ, ◌+◌, ◌-◌, ◌≤◌, ◌<◌, ◌≡◌, List, length, get_or, set, replicate, Option, Some, None}
+use Rattle.text_names.specs.declared.Names.{Names}
+use Rattle.text_names.specs.Hashes.{name_from, hash_of, StartsName}
 
 -- the hash of the name of place i
 abbrev pub hash_at : List ℕ → List ℕ → ℕ → ℕ
@@ -46,11 +22,19 @@ pub record Candidate (file starts : List ℕ) (k : ℕ) (x : List ℕ) (j : ℕ)
   pub alike : 1 ≤ j → hash_at file starts (j - 1) ≡ hash_of x
   pub above : (m : ℕ) → j ≤ m → m < k → name_from file (get_or starts m 0) ≡ x → ⊥
 
--- r is the number of x among the first k names, or 0
-pub record FoundIs (file starts : List ℕ) (k : ℕ) (x : List ℕ) (r : ℕ) : Type 0 where
-  pub low : r ≤ k
-  pub is : 1 ≤ r → name_from file (get_or starts (r - 1) 0) ≡ x
-  pub none : r < 1 → (m : ℕ) → m < k → name_from file (get_or starts m 0) ≡ x → ⊥
+-- j is the number of x among the first k names
+pub record Found (file starts : List ℕ) (k : ℕ) (x : List ℕ) (j : ℕ) : Type 0 where
+  pub some : 1 ≤ j
+  pub low : j ≤ k
+  pub is : name_from file (get_or starts (j - 1) 0) ≡ x
+
+-- none of them is x
+pub record Unmet (file starts : List ℕ) (k : ℕ) (x : List ℕ) : Type 0 where
+  pub none : (m : ℕ) → m < k → name_from file (get_or starts m 0) ≡ x → ⊥
+
+abbrev pub FoundIs : List ℕ → Names → List ℕ → Option ℕ → Type 0
+FoundIs file names x (Some j) = Found file names.starts names.count x j
+FoundIs file names x None = Unmet file names.starts names.count x
 
 -- by hash, the number of the last name that has it, or 0
 pub record Latest (file starts last : List ℕ) (k : ℕ) : Type 0 where
@@ -60,19 +44,20 @@ pub record Latest (file starts last : List ℕ) (k : ℕ) : Type 0 where
   pub above : (h m : ℕ) → h < 65536 → get_or last h 0 ≤ m → m < k → hash_at file starts m ≡ h → ⊥
 
 -- both together
-pub record Table (file starts before last : List ℕ) (k : ℕ) : Type 0 where
-  pub chained : Chained file starts before k
-  pub latest : Latest file starts last k
+pub record Table (file : List ℕ) (names : Names) : Type 0 where
+  pub chained : Chained file names.starts names.before names.count
+  pub latest : Latest file names.starts names.last names.count
 
--- a place for name k + 1 with hash h
-pub record Vacant (starts before last : List ℕ) (k h : ℕ) : Type 0 where
-  pub few : k < 65535
-  pub starts_long : k < length starts
-  pub before_long : k < length before
-  pub last_long : h < length last
+-- no name yet
+pub record Empty (names : Names) : Type 0 where
+  pub none : names.count ≡ 0
+  pub starts_long : length names.starts ≡ 65535
+  pub before_long : length names.before ≡ 65535
+  pub last_is : names.last ≡ replicate 65536 0
 
 -- a name more: where its field starts, the one before it with the same hash, and that it is the last with it
-pub record EnteredIs (starts before last : List ℕ) (k start h : ℕ) (starts' before' last' : List ℕ) : Type 0 where
-  pub starts_is : starts' ≡ set starts k start
-  pub before_is : before' ≡ set before k (get_or last h 0)
-  pub last_is : last' ≡ set last h (k + 1)
+pub record EnteredIs (names : Names) (start h : ℕ) (names' : Names) : Type 0 where
+  pub count_is : names'.count ≡ names.count + 1
+  pub starts_is : names'.starts ≡ set names.starts names.count start
+  pub before_is : names'.before ≡ set names.before names.count (get_or names.last h 0)
+  pub last_is : names'.last ≡ set names.last h (names.count + 1)

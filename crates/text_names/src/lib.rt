@@ -1,13 +1,11 @@
-// The names of texts that were met, in a table: each at the field where it stood first, and found again along a chain of those with the same
-// hash. The table is lent as three arrays: `starts` has where those fields start, `before` the number of the last name before it with the
-// same hash, and `last` by hash the number of the last name that has it; 0 where there is none.
+// The names of texts that were met, in a table: each at the field where it stood first, and found again along a chain of those with the same hash.
 #![tactic(auto)]
 
-ghost use Rattle.std.specs.Prelude.{◌<◌};
+ghost use Rattle.std.specs.Prelude.{◌≡◌};
 ghost use Rattle.rules.specs.Lists.{same};
-ghost use Rattle.layout.specs.Ensures.{Says, Number};
+ghost use Rattle.layout.specs.Ensures.{Says};
 ghost use Rattle.fields.specs.Field.{text_of, TextIs};
-ghost use Rattle.text_names.specs.Names.{name_from, add_byte, Hashed, StartsName, Table, FoundIs, Vacant, EnteredIs};
+ghost use Rattle.text_names.specs.Hashes.{name_from, add_byte, hash_of, StartsName};
 
 use fields::content::same_text;
 use fields::field::{Field, field_at};
@@ -17,10 +15,14 @@ pub const MOST: usize = 65_535;
 
 pub const HASHES: usize = 65_536;
 
-fn wide(n: u16) -> usize
-    ensures { Number n 65536 result }
-{
-    n as usize
+// `count` names: `starts` has where their fields start, `before` the number of the last name before each with the same hash, and `last` by hash the
+// number of the last name that has it. Numbers count from 1, and 0 stands where there is none: the memory is fixed, and a number has two bytes of it.
+#[derive(Drop)]
+pub struct Names {
+    pub starts: [usize; MOST],
+    pub before: [u16; MOST],
+    pub last: [u16; HASHES],
+    pub count: usize,
 }
 
 // Whether the field that starts there names this text.
@@ -29,77 +31,82 @@ fn is_named(file: &[u8], start: usize, line: &[u8], f: Field) -> bool
     requires text_is { TextIs line.now f }
     ensures { Says (same (name_from file.now start) (text_of line.now f)) result }
 {
-    let name = field_at(file, start);
+    let Some(name) = field_at(file, start) else {
+        unreachable!()
+    };
     same_text(file, name, line, f)
 }
 
-// The number of this text's name, which has hash h, among the first k; 0 where none is.
-pub fn find(
-    file: &[u8],
-    starts: &[usize],
-    before: &[u16],
-    last: &[u16],
-    k: usize,
-    h: usize,
-    line: &[u8],
-    f: Field,
-) -> usize
-    requires table { Table file.now starts.now before.now last.now k }
-    requires hashed { Hashed (text_of line.now f) h }
-    requires text_is { TextIs line.now f }
-    ensures { FoundIs file.now starts.now k (text_of line.now f) result }
-{
-    let mut j = wide(last[h]);
-    while 0 < j {
-        let i = j - 1;
-        let start = starts[i];
-        if is_named(file, start, line, f) {
-            return j;
+impl Names {
+    ghost use Rattle.std.specs.Prelude.{◌<◌, leb};
+    ghost use Rattle.text_names.specs.Names.{Table, FoundIs, EnteredIs, Empty};
+
+    // None yet.
+    pub fn new() -> Names
+        ensures { Empty result }
+    {
+        Names {
+            starts: [0; MOST],
+            before: [0; MOST],
+            last: [0; HASHES],
+            count: 0,
         }
-        j = wide(before[i]);
     }
-    0
+
+    pub fn is_full(&self) -> bool
+        ensures { result ≡ leb 65535 self.now.count }
+    {
+        MOST <= self.count
+    }
+
+    // The number of this text's name, which has hash h.
+    pub fn find(&self, file: &[u8], line: &[u8], f: Field, h: u16) -> Option<usize>
+        requires table { Table file.now self.now }
+        requires hashed { h ≡ hash_of (text_of line.now f) }
+        requires text_is { TextIs line.now f }
+        ensures { FoundIs file.now self.now (text_of line.now f) result }
+    {
+        let mut number = self.last[h as usize];
+        while 0 < number {
+            let i = number as usize - 1;
+            if is_named(file, self.starts[i], line, f) {
+                return Some(number as usize);
+            }
+            number = self.before[i];
+        }
+        None
+    }
+
+    // One more, met first in the field that starts there, with hash h.
+    pub fn enter(&mut self, start: usize, h: u16)
+        requires { self.old.count < 65535 }
+        ensures { EnteredIs self.old start h self.new }
+    {
+        let k = self.count;
+        self.starts[k] = start;
+        self.before[k] = self.last[h as usize];
+        self.last[h as usize] = (k + 1) as u16;
+        self.count = k + 1;
+    }
 }
 
-// ---- the hash of a name, and a new name entered
+// ---- the hash of a name
 
-fn add_byte(n: usize, byte: u8) -> usize
-    requires { n < 65536 }
-    ensures { Number (add_byte n byte) 65536 result }
+fn add_byte(n: u16, byte: u8) -> u16
+    ensures { result ≡ add_byte n byte }
 {
     if byte == b'"' {
         return n;
     }
-    (n * 31 + byte as usize) % 65536
+    n.wrapping_mul(31).wrapping_add(byte as u16)
 }
 
 // Over the bytes between the quotes: those that stand twice do not count anyway.
-pub fn hash_of(line: &[u8], f: Field) -> usize
+pub fn hash_of(line: &[u8], f: Field) -> u16
     requires { TextIs line.now f }
-    ensures { Hashed (text_of line.now f) result }
+    ensures { result ≡ hash_of (text_of line.now f) }
 {
-    let mut n = 0;
-    let mut i = f.from;
-    while i < f.to {
-        n = add_byte(n, line[i]);
-        i += 1;
-    }
-    n
-}
-
-// Name k + 1, met first in the field that starts there, with hash h.
-pub fn enter(
-    starts: &mut [usize],
-    before: &mut [u16],
-    last: &mut [u16],
-    k: usize,
-    start: usize,
-    h: usize,
-)
-    requires { Vacant starts.old before.old last.old k h }
-    ensures { EnteredIs starts.old before.old last.old k start h starts.new before.new last.new }
-{
-    starts[k] = start;
-    before[k] = last[h];
-    last[h] = (k + 1) as u16;
+    line[f.from..f.to]
+        .iter()
+        .fold(0, |n, byte| add_byte(n, *byte))
 }

@@ -8,8 +8,8 @@ use denote.Ref.{Bor}
 use Rattle.rules.specs.Refusals.{Result, done, refused}
 use Rattle.rules.specs.Text.{Found, InAsked, InFallback, text, part, shown}
 use Rattle.rules.specs.declared.TextAnswer.{TextAnswer}
-use Rattle.texts.specs.declared.Looked.{Looked}
-use Rattle.texts.specs.Ensures.{Looks, Handed, IsPart, lender}
+use Rattle.texts.specs.Ensures.{Handed, IsPart, lender}
+use Rattle.texts.specs.Looks.{Looked, Looks}
 use Rattle.texts.proofs.StandLaws.{Stands}
 use Rattle.texts.proofs.TextLaws.{OneOfTwo, text_refused, fallback_stands, asked_stands, lends_fallback, lends_asked}
 

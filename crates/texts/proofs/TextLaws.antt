@@ -2,7 +2,8 @@
 use Prim.Native.Nat.{ℕ, ◌+◌, ◌≤◌}
 use mathlib.Core.Path.{◌≡◌, refl, sym, ◌∙◌, ap, transport}
 use mathlib.Core.List.{List}
-use mathlib.Core.Option.{Option, some, none}
+use mathlib.Core.Option.{Option as Maybe, some, none}
+use Rattle.std.specs.Prelude.{Option, Some, None, Ok, Err}
 use mathlib.Core.Logic.{◌⊎◌, inl, inr}
 use native.Mathlib.Omega.{arith}
 use lib.Dec.{eqb}
@@ -13,9 +14,11 @@ use Rattle.rules.specs.Refusals.{Result, done, refused, ◌>>=◌, or_refuse}
 use Rattle.rules.specs.Text.{Found, InAsked, InFallback, entry_of, either, text, part, shown}
 use Rattle.rules.specs.declared.TextAnswer.{TextAnswer}
 use Rattle.rules.proofs.ListLaws.{Holds, first_holds}
-use Rattle.texts.specs.declared.Looked.{Looked}
-use Rattle.texts.specs.declared.Looked.TheVariants.{Broken, Absent, At}
-use Rattle.texts.specs.Ensures.{seen, looked, Looks, found_at, lender, IsPart, Handed}
+use Rattle.rules.specs.declared.Part.{Part}
+use Rattle.rules.specs.declared.Refusal.{Refusal}
+use Rattle.rules.specs.Reasons.{number_for}
+use Rattle.texts.specs.Ensures.{found_at, lender, IsPart, Handed}
+use Rattle.texts.specs.Looks.{Looked, seen, looked, Looks}
 use Rattle.texts.proofs.StandLaws.{Stands, StandsIn, all_stand}
 
 -- ---- the answer of two looks
@@ -25,22 +28,14 @@ unfolding shown
 refusal_is n = refl
 
 answer_of : Looked → Looked → TextAnswer
-answer_of Broken there = shown (refused 1)
-answer_of Absent Broken = shown (refused 1)
-answer_of Absent Absent = shown (refused 12)
-answer_of Absent (At place size) = found_at 2 place size
-answer_of (At place size) Broken = shown (refused 1)
-answer_of (At place size) Absent = found_at 1 place size
-answer_of (At place size) (At other long) = found_at 1 place size
-
-fallback_broken : (here : Looked) → answer_of here Broken ≡ shown (refused 1)
-unfolding answer_of
-fallback_broken Broken = refl
-fallback_broken Absent = refl
-fallback_broken (At place size) = refl
+answer_of (Err e) there = shown (refused (number_for e))
+answer_of (Ok o) (Err e) = shown (refused (number_for e))
+answer_of (Ok None) (Ok None) = shown (refused 12)
+answer_of (Ok None) (Ok (Some p)) = found_at 2 p.at p.size
+answer_of (Ok (Some p)) (Ok q) = found_at 1 p.at p.size
 
 -- the call, by the texts of its two books
-abbrev pub call_of : ℕ → Option (List Entry) → Option (List Entry) → Result Found
+abbrev pub call_of : ℕ → Maybe (List Entry) → Maybe (List Entry) → Result Found
 call_of n o p = do
   here ← or_refuse 1 o
   there ← or_refuse 1 p
@@ -50,43 +45,40 @@ answer_is : (s t : List ℕ) (n : ℕ) → answer_of (looked n (entries s)) (loo
 unfolding text shown looked answer_of
 answer_is s t n = go (entries s) (entries t)
   where
-    two : (x y : Option Entry) → answer_of (seen x) (seen y) ≡ shown (or_refuse 12 (either x y))
+    two : (x y : Maybe Entry) → answer_of (Ok (seen x)) (Ok (seen y)) ≡ shown (or_refuse 12 (either x y))
     two none none = refl
     two none (some e) = refl
     two (some e) none = refl
     two (some e) (some f) = refl
 
-    go : (o p : Option (List Entry)) → answer_of (looked n o) (looked n p) ≡ shown (call_of n o p)
+    go : (o p : Maybe (List Entry)) → answer_of (looked n o) (looked n p) ≡ shown (call_of n o p)
     go none p = refl
-    go (some es) none = fallback_broken (seen (entry_of n es))
+    go (some es) none = refl
     go (some es) (some fs) = two (entry_of n es) (entry_of n fs)
 
 module _ (s t : List ℕ) (n : ℕ) {here there : Looked} (p : Looks (looked n (entries s)) here) (q : Looks (looked n (entries t)) there) where
   both : (h k : Looked) → here ≡ h → there ≡ k → answer_of h k ≡ shown (text s t n)
   both h k e f = (λ i. answer_of (sym (p.is ∙ e) i) (sym (q.is ∙ f) i)) ∙ answer_is s t n
 
-  pub asked_broken : {r : TextAnswer} → here ≡ Broken → r ≡ shown (refused 1) → r ≡ shown (text s t n)
+  pub asked_broken : {e : Refusal} {r : TextAnswer} → here ≡ Err e → r ≡ shown (refused (number_for e)) → r ≡ shown (text s t n)
   unfolding answer_of
-  asked_broken e i = i ∙ both Broken there e refl
+  asked_broken {e} h i = i ∙ both (Err e) there h refl
 
-  pub other_broken : {r : TextAnswer} → there ≡ Broken → r ≡ shown (refused 1) → r ≡ shown (text s t n)
-  other_broken e i = i ∙ (sym (fallback_broken here) ∙ both here Broken refl e)
-
-  pub in_neither : {r : TextAnswer} → here ≡ Absent → there ≡ Absent → r ≡ shown (refused 12) → r ≡ shown (text s t n)
+  pub other_broken : {o : Option Part} {e : Refusal} {r : TextAnswer} → here ≡ Ok o → there ≡ Err e → r ≡ shown (refused (number_for e)) → r ≡ shown (text s t n)
   unfolding answer_of
-  in_neither e f i = i ∙ both Absent Absent e f
+  other_broken {o} {e} h k i = i ∙ both (Ok o) (Err e) h k
 
-  pub in_fallback : {place size : ℕ} {r : TextAnswer} → here ≡ Absent → there ≡ At place size → r ≡ found_at 2 place size → r ≡ shown (text s t n)
+  pub in_neither : {r : TextAnswer} → here ≡ Ok None → there ≡ Ok None → r ≡ shown (refused 12) → r ≡ shown (text s t n)
   unfolding answer_of
-  in_fallback {place} {size} e f i = i ∙ both Absent (At place size) e f
+  in_neither h k i = i ∙ both (Ok None) (Ok None) h k
 
-  pub in_asked_lem : {place size : ℕ} {r : TextAnswer} → here ≡ At place size → there ≡ Absent → r ≡ found_at 1 place size → r ≡ shown (text s t n)
+  pub in_fallback : {p : Part} {r : TextAnswer} → here ≡ Ok None → there ≡ Ok (Some p) → r ≡ found_at 2 p.at p.size → r ≡ shown (text s t n)
   unfolding answer_of
-  in_asked_lem {place} {size} e f i = i ∙ both (At place size) Absent e f
+  in_fallback {p} h k i = i ∙ both (Ok None) (Ok (Some p)) h k
 
-  pub in_both : {place size other long : ℕ} {r : TextAnswer} → here ≡ At place size → there ≡ At other long → r ≡ found_at 1 place size → r ≡ shown (text s t n)
+  pub in_asked_lem : {p : Part} {q : Option Part} {r : TextAnswer} → here ≡ Ok (Some p) → there ≡ Ok q → r ≡ found_at 1 p.at p.size → r ≡ shown (text s t n)
   unfolding answer_of
-  in_both {place} {size} {other} {long} e f i = i ∙ both (At place size) (At other long) e f
+  in_asked_lem {p} {q} h k i = i ∙ both (Ok (Some p)) (Ok q) h k
 
 -- ---- what is handed out stands in its book
 
@@ -98,12 +90,12 @@ pub text_stands : (s t : List ℕ) (n : ℕ) → Holding s t (text s t n)
 unfolding text shown part Holding
 text_stands s t n = go (entries s) (entries t) refl refl
   where
-    two : (x y : Option Entry) → Holds (StandsIn s) x → Holds (StandsIn t) y → Holding s t (or_refuse 12 (either x y))
+    two : (x y : Maybe Entry) → Holds (StandsIn s) x → Holds (StandsIn t) y → Holding s t (or_refuse 12 (either x y))
     two none none h k = record { is = refl; fits = omega arith }
     two none (some e) h k = k
     two (some e) y h k = h
 
-    go : (o p : Option (List Entry)) → entries s ≡ o → entries t ≡ p → Holding s t (call_of n o p)
+    go : (o p : Maybe (List Entry)) → entries s ≡ o → entries t ≡ p → Holding s t (call_of n o p)
     go none p e f = record { is = refl; fits = omega arith }
     go (some es) none e f = record { is = refl; fits = omega arith }
     go (some es) (some fs) e f =
@@ -119,11 +111,11 @@ pub text_refused : (s t : List ℕ) (n : ℕ) → OneOfTwo (text s t n)
 unfolding text
 text_refused s t n = go (entries s) (entries t)
   where
-    two : (o : Option Found) → OneOfTwo (or_refuse 12 o)
+    two : (o : Maybe Found) → OneOfTwo (or_refuse 12 o)
     two none = inr refl
     two (some f) = tt
 
-    go : (o p : Option (List Entry)) → OneOfTwo (call_of n o p)
+    go : (o p : Maybe (List Entry)) → OneOfTwo (call_of n o p)
     go none p = inl refl
     go (some es) none = inl refl
     go (some es) (some fs) = two (either (entry_of n es) (entry_of n fs))

@@ -1,16 +1,13 @@
 -- What the functions over text books ensure, and what they ask: contracts that name a definition and a result.
 use Rattle.std.specs.Prelude.{ℕ, ◌+◌, ◌≤◌, ◌<◌, ◌≡◌, List, ltb, length, take, drop}
-use Rattle.std.proofs.Math.Option.{Option, some, none}
 use Rattle.std.specs.Borrow.{Bor}
 use Rattle.rules.specs.Bytes.{big}
 use Rattle.rules.specs.TextBook.{Entry, entry}
 use Rattle.rules.specs.Refusals.{Result, done, refused}
-use Rattle.rules.specs.Text.{Found, InAsked, InFallback, entry_of, text, part, shown}
+use Rattle.rules.specs.Text.{Found, InAsked, InFallback, text, part, shown}
 use Rattle.rules.specs.declared.TextAnswer.{TextAnswer}
 use Rattle.layout.specs.Reads.{Reads}
 use Rattle.layout.specs.Reads as reads
-use Rattle.texts.specs.declared.Looked.{Looked}
-use Rattle.texts.specs.declared.Looked.TheVariants.{Broken, Absent, At}
 
 -- ---- an entry of a text book
 
@@ -27,27 +24,6 @@ pub record EntryIn (s : List ℕ) (at to : ℕ) : Type 0 where
 pub record EntryEnd (s : List ℕ) (at r : ℕ) : Type 0 where
   pub reads : Reads (entry (length s)) s at (ltb 0 r) (entry_at s at r) r
   pub inside : 0 < r → EntryIn s at r
-
--- ---- a look through a text book
-
-abbrev pub seen : Option Entry → Looked
-seen none = Absent
-seen (some e) = At e.start (length e.text)
-
--- what a look for a number says of a text book's texts, or of bytes that are none
-unfoldable pub looked : ℕ → Option (List Entry) → Looked
-looked n none = Broken
-looked n (some es) = seen (entry_of n es)
-
--- what was found goes before what comes later
-abbrev pub first_of : Looked → Looked → Looked
-first_of Broken next = Broken
-first_of Absent next = next
-first_of (At place size) next = At place size
-
--- `r` is what is to be seen
-pub record Looks (want r : Looked) : Type 0 where
-  pub is : want ≡ r
 
 -- ---- what is handed out
 

@@ -82,8 +82,8 @@ module _ (old : List ℕ) (base : ℕ) (q : List ℕ) (t : List ℕ) (scheme : S
     put_room h = omega (arith, inv.room)
 
     pub put_again : {x : PropertyParts} {new : List ℕ} {r : ℕ} → 0 < left → SchemeIs t scheme → PropertyIs q p x → PutsTo out at (brought (scheme_in t scheme) (eqb at base) (property_in q x)) new r
-        → Putting old base q (scheme_in t scheme) from count new r (x.value.at + x.value.size) (left - 1)
-    put_again {x} {new} {r} h is read w =
+        → {left' : ℕ} → left' ≡ left - 1 → Putting old base q (scheme_in t scheme) from count new r (x.value.at + x.value.size) left'
+    put_again {x} {new} {r} h is read w i =
         let step = walk_step inv.standing h in
         let o = shown_of s (property_in q x) in
         let vs = gather (shown_of s) (properties_at q (property_stop q p) (left - 1)) in
@@ -91,7 +91,7 @@ module _ (old : List ℕ) (base : ℕ) (q : List ℕ) (t : List ℕ) (scheme : S
         ap (λ (ps : List Property). led_all s (eqb at base) (gather (shown_of s) ps)) step.values
         ∙ (ap (λ (y : Property). led_all s (eqb at base) (cons_some (shown_of s y) vs)) read.is
         ∙ (led_step s (eqb at base) o vs ∙ ap (λ b. led s (eqb at base) o ++ led_all s b vs) (sym (still_first s base at inv.low o r w.ends)))) in
-        rw read.next (record {
+        rw (i, read.next) (record {
           low = omega (arith, inv.low, w.ends);
           room = omega (arith, inv.room, w.ends, w.puts.long, led_short s is.bounds q x read.fits (eqb at base));
           long = w.puts.long ∙ inv.long;

@@ -1,6 +1,6 @@
 -- One property: the separator in front of it, and what it shows.
 use Prim.Native.Nat.{ℕ, zero, suc, ◌+◌, ◌-◌, ◌≤◌}
-use mathlib.Core.Path.{◌≡◌, refl, sym, ◌∙◌, ap, subst}
+use mathlib.Core.Path.{◌≡◌, refl, sym, ◌∙◌, subst}
 use mathlib.Core.Bool.{Bool, true, false, ◌&&◌, false≢true}
 use mathlib.Core.List.{List, [], ◌∷◌, ◌++◌}
 use mathlib.Core.Option.{Option, some, none, none-ne-some, some-injective}
@@ -8,17 +8,15 @@ use native.Mathlib.Omega.{arith}
 use lib.Dec.{eqb}
 use borrow.Author.Tests.{eqb-true}
 use Rattle.rules.proofs.TestLaws.{and_left, and_right}
-use lib.ListN.{length, take, drop, replicate, length-append, length-drop, length-replicate}
-use lib.Seq.{length-take-le, take-take, drop-drop}
+use lib.ListN.{length, drop, replicate, length-append, length-drop, length-replicate}
+use lib.Seq.{length-take-le}
 use Rattle.rules.specs.Book.{Scheme}
 use Rattle.rules.specs.BookLayout.{given, hidden_byte, unselected_byte}
 use Rattle.rules.specs.Question.{Property, state_number}
 use Rattle.rules.specs.FinalNumber.{padded, hidden_run, stated, shown_of, separator_of}
 use Rattle.rules.specs.declared.Part.{Part}
-use Rattle.rules.specs.declared.State.{State}
 use Rattle.rules.specs.declared.State.TheVariants.{Valued, Hidden, Unselected}
 use Rattle.layout.specs.Ensures.{Says, Number, PutsTo}
-use Rattle.layout.proofs.LayoutLaws.{part_is}
 use Rattle.layout.proofs.StoreLaws.{to_nothing, to_then}
 use Rattle.records.specs.Ensures.{bytes_in, scheme_in, SchemeBounds, SchemeIs}
 use Rattle.records.specs.declared.schemes.SchemeParts.{SchemeParts}
@@ -28,26 +26,8 @@ use Rattle.values.specs.Values.{before, most, led, brought, by_state, value_byte
 
 -- ---- a part
 
--- the bytes from where a part starts to where it ends are the part
-pub part_bytes : (s : List ℕ) (p : Part) → take (p.at + p.size - p.at) (drop p.at s) ≡ bytes_in s p
-part_bytes s p = part_is s p.at p.size
-
 pub part_long : (s : List ℕ) (p : Part) → p.at + p.size ≤ length s → length (bytes_in s p) ≡ p.size
 part_long s p h = length-take-le p.size (drop p.at s) (rw length-drop (omega arith))
-
--- a part of a part
-pub inner_bytes : (s : List ℕ) (p x : Part) → x.at + x.size ≤ p.size → take (p.at + x.at + x.size - (p.at + x.at)) (drop (p.at + x.at) s) ≡ bytes_in (bytes_in s p) x
-inner_bytes s p x h =
-    part_is s (p.at + x.at) x.size ∙ (ap (take x.size) (sym (drop-drop x.at p.at s)) ∙ sym (cut x.size x.at p.size (drop p.at s) h))
-  where
-    cut : (n m k : ℕ) (l : List ℕ) → m + n ≤ k → take n (drop m (take k l)) ≡ take n (drop m l)
-    cut n zero k l h = take-take n k l (omega arith)
-    cut n (suc m) zero l h = absurd (omega arith)
-    cut n (suc m) (suc k) [] h = refl
-    cut n (suc m) (suc k) (x ∷ l) h = cut n m k l (omega arith)
-
-pub part_put : (s : List ℕ) (p : Part) {old new : List ℕ} {at r : ℕ} → PutsTo old at (take (p.at + p.size - p.at) (drop p.at s)) new r → PutsTo old at (bytes_in s p) new r
-part_put s p {old} {new} {at} {r} h = subst (λ (x : List ℕ). PutsTo old at x new r) (part_bytes s p) h
 
 -- ---- the separator
 
@@ -105,14 +85,14 @@ module _ (q : List ℕ) (p : PropertyParts) (fits : PropertyFits q p) where
   shown_room old at h = omega (arith, fits.wide)
 
   -- there is no more of a value than it is wide
-  pub value_long : length (take (p.value.at + p.value.size - p.value.at) (drop p.value.at q)) ≤ p.width
-  value_long = rw (part_bytes q p.value) (omega (arith, part_long q p.value fits.inside, fits.short))
+  pub value_long : {value : List ℕ} → value ≡ bytes_in q p.value → length value ≤ p.width
+  value_long e = rw e (omega (arith, part_long q p.value fits.inside, fits.short))
 
 module _ (q : List ℕ) (p : PropertyParts) (s : SchemeParts) {old new : List ℕ} {at r : ℕ} where
-  pub valued : p.state ≡ Valued → PutsTo old at (padded s.trim p.width (take (p.value.at + p.value.size - p.value.at) (drop p.value.at q))) new r
+  pub valued : p.state ≡ Valued → {value : List ℕ} → value ≡ bytes_in q p.value → PutsTo old at (padded s.trim p.width value) new r
       → PutsTo old at (value_bytes s (property_in q p)) new r
   unfolding value_bytes
-  valued e h = rw e (rw (part_bytes q p.value) at h)
+  valued e f h = rw e (rw f at h)
 
   module _ {c : ℕ} where
     pub hidden : p.state ≡ Hidden → Number (given 45 s.hidden) 256 c → PutsTo old at (replicate p.width c) new r → PutsTo old at (value_bytes s (property_in q p)) new r
@@ -183,16 +163,6 @@ module _ (t : List ℕ) (s : SchemeParts) where
       by zero e = refl
       by (suc zero) e = run s.visibility e
       by (suc (suc state)) e = refl
-
--- whether a property is left out, by its state
-pub valued_out : (state : State) (visibility : ℕ) → state ≡ Valued → Says (eqb (state_number state) 1 && eqb visibility 0) false
-valued_out state visibility e = record { is = rw e }
-
-pub hidden_out : (state : State) (visibility : ℕ) → state ≡ Hidden → Says (eqb (state_number state) 1 && eqb visibility 0) (eqb visibility 0)
-hidden_out state visibility e = record { is = rw e }
-
-pub unselected_out : (state : State) (visibility : ℕ) → state ≡ Unselected → Says (eqb (state_number state) 1 && eqb visibility 0) false
-unselected_out state visibility e = record { is = rw e }
 
 module _ (t : List ℕ) (s : SchemeParts) (q : List ℕ) (p : PropertyParts) (at : ℕ) (first : Bool) (a : List ℕ) where
   module _ {out : Bool} (said : Says (eqb (state_number p.state) 1 && eqb s.visibility 0) out) where

@@ -12,7 +12,7 @@ ghost use Rattle.values.specs.Values.{before, most, brought, brought_all, value_
 use kinds::given_or;
 use layout::strings::{put_bytes, put_run};
 use properties::{PropertyParts, property_of};
-use records::SchemeParts;
+use records::{SchemeParts, bytes_of};
 use rules::{Part, State};
 
 // A part of s, put at a place.
@@ -21,9 +21,7 @@ pub fn put_part(out: &mut [u8], at: usize, s: &[u8], part: Part) -> usize
     requires size_in_bounds_2 { at + part.size ≤ length out.old }
     ensures { PutsTo out.old at (bytes_in s.now part) out.new result }
 {
-    let from = part.at;
-    let to = from + part.size;
-    put_bytes(out, at, &s[from..to])
+    put_bytes(out, at, bytes_of(s, part))
 }
 
 // What stands in front of a value: of the first one the number separator, or a blank where that is empty, and of the others the value separator.
@@ -32,15 +30,13 @@ fn put_separator(out: &mut [u8], at: usize, first: bool, t: &[u8], scheme: Schem
     requires at_in_bounds { at + 8 ≤ length out.old }
     ensures { PutsTo out.old at (before (scheme_in t.now scheme) first) out.new result }
 {
-    let numbers = scheme.numbersep;
-    let values = scheme.valuesep;
-    if first {
-        if numbers.size == 0 {
-            return put_run(out, at, b' ', 1);
-        }
-        return put_part(out, at, t, numbers);
+    if !first {
+        return put_part(out, at, t, scheme.valuesep);
     }
-    put_part(out, at, t, values)
+    if scheme.numbersep.size == 0 {
+        return put_run(out, at, b' ', 1);
+    }
+    put_part(out, at, t, scheme.numbersep)
 }
 
 // A value, filled with blanks to its width unless it is trimmed.
@@ -69,12 +65,8 @@ fn put_value(
     ensures { PutsTo out.old at (value_bytes scheme (property_in q.now property)) out.new result }
 {
     let width = property.width;
-    let value = property.value;
-    let from = value.at;
-    let to = from + value.size;
-    let state = property.state;
-    match state {
-        State::Valued => put_padded(out, at, scheme.trim, width, &q[from..to]),
+    match property.state {
+        State::Valued => put_padded(out, at, scheme.trim, width, bytes_of(q, property.value)),
         State::Hidden => put_run(out, at, given_or(b'-', scheme.hidden), width),
         State::Unselected => put_run(out, at, given_or(b'X', scheme.unselected), width),
     }
@@ -84,11 +76,7 @@ fn put_value(
 fn left_out(state: State, visibility: u8) -> bool
     ensures { Says (eqb (state_number state) 1 && eqb visibility 0) result }
 {
-    match state {
-        State::Valued => false,
-        State::Hidden => visibility == 0,
-        State::Unselected => false,
-    }
+    (state == State::Hidden) & (visibility == 0)
 }
 
 // The property with its separator. One that is left out has none either.
@@ -106,8 +94,7 @@ fn put_next(
     requires most_in_bounds { at + most ≤ length out.old }
     ensures { PutsTo out.old at (brought (scheme_in t.now scheme) first (property_in q.now property)) out.new result }
 {
-    let state = property.state;
-    if left_out(state, scheme.visibility) {
+    if left_out(property.state, scheme.visibility) {
         return at;
     }
     let from = put_separator(out, at, first, t, scheme);
@@ -132,13 +119,11 @@ pub fn put_values(
 {
     let mut at = base;
     let mut p = from;
-    let mut left = count;
-    while 0 < left {
+    for _ in 0..count {
         let property = property_of(q, p);
         at = put_next(out, at, at == base, q, property, t, scheme);
         let value = property.value;
         p = value.at + value.size;
-        left -= 1;
     }
     at
 }

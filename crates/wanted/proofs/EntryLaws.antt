@@ -12,7 +12,6 @@ use Rattle.rules.specs.Layout.{whole}
 use Rattle.rules.specs.Book.{Record, ArticleRecord, PriceRecord, RoundingRecord, PackagingRecord, SchemeRecord}
 use Rattle.rules.specs.BookLayout.{kinded}
 use Rattle.rules.specs.declared.PriceRow.{PriceRow}
-use Rattle.rules.proofs.TestLaws.{not_so}
 use Rattle.layout.specs.Ensures.{Says}
 use Rattle.records.specs.Asks.{Accepted}
 use Rattle.records.specs.Ensures.{row_in, RowIs}
@@ -22,12 +21,9 @@ use Rattle.survey.specs.declared.window.Span.{Span}
 use Rattle.survey.specs.Window.{SpanAfter}
 use Rattle.survey.proofs.WindowLaws.{span_kept}
 use Rattle.wanted.specs.declared.entries.Entry.{Entry}
-use Rattle.wanted.specs.Entries.{is_article, is_row, SeenIs, spans_in, ToldIs}
+use Rattle.wanted.specs.Entries.{is_article, is_row, EntryAfter, ToldIs}
 
 -- ---- what is kept of it
-
-pub seen_not : {wanted : Bool} → not wanted ≡ true → (o : Option Record) (e : Entry) (at end : ℕ) → SeenIs wanted e o at end e
-seen_not {wanted} n o e at end = record { after = λ w. absurd (false≢true (sym (not_so wanted n) ∙ w)) }
 
 module _ {t : List ℕ} where
   article_byte : Accepted t → is_article (whole kinded t) ≡ eqb (get_or t 0 0) 1
@@ -54,24 +50,20 @@ module _ {t : List ℕ} where
       go (some (PackagingRecord r)) i = refl
       go (some (SchemeRecord r)) i = refl
 
-  module _ {wanted : Bool} (e : Entry) (at end : ℕ) (p : Accepted t) where
+  module _ (e : Entry) (at end : ℕ) (p : Accepted t) where
     pub seen_other : (get_or t 0 0 ≡ 2 → ⊥)
-        → SeenIs wanted e (whole kinded t) at end (record { found = e.found || eqb (get_or t 0 0) 1; sale = e.sale; purchase = e.purchase })
+        → EntryAfter e (whole kinded t) at end (record { found = e.found || eqb (get_or t 0 0) 1; sale = e.sale; purchase = e.purchase })
     seen_other n = record {
-      after = λ w. record {
-        found = ap (λ (b : Bool). e.found || b) (sym (article_byte p));
-        sale = span_kept e.sale at end (no_row p n true);
-        purchase = span_kept e.purchase at end (no_row p n false);
-      };
+      found = ap (λ (b : Bool). e.found || b) (sym (article_byte p));
+      sale = span_kept e.sale at end (no_row p n true);
+      purchase = span_kept e.purchase at end (no_row p n false);
     }
 
     pub seen_row : {row : PriceRow} → RowIs t row → {a c : Span} → SpanAfter e.sale (eqb row.sort 83) at end a
         → SpanAfter e.purchase (not (eqb row.sort 83)) at end c
-        → SeenIs wanted e (whole kinded t) at end (record { found = e.found || eqb (get_or t 0 0) 1; sale = a; purchase = c })
+        → EntryAfter e (whole kinded t) at end (record { found = e.found || eqb (get_or t 0 0) 1; sale = a; purchase = c })
     unfolding is_row row_in
-    seen_row {row} r {a} {c} x y = record {
-      after = λ w. record { found = ap (λ (b : Bool). e.found || b) (sym (article_byte p)); sale = rw r.is x; purchase = rw r.is y };
-    }
+    seen_row {row} r {a} {c} x y = record { found = ap (λ (b : Bool). e.found || b) (sym (article_byte p)); sale = rw r.is x; purchase = rw r.is y }
 
 pub rounded_is : (s : Span) (o : Option Record) {r : Bool} {at end : ℕ} {next : Span} → Says (is_rounding o) r → SpanAfter s r at end next
     → SpanAfter s (is_rounding o) at end next
@@ -80,8 +72,8 @@ rounded_is s o {at = at} {end} {next} kind after = subst (λ (x : Bool). SpanAft
 -- ---- what is told of it
 
 module _ (e : Entry) (sort : ℕ) (roundings : Span) where
-  pub told_sale : sort ≡ 83 → ToldIs e sort roundings (record { article = e.found; spans = spans_in e.sale roundings })
+  pub told_sale : sort ≡ 83 → ToldIs e sort roundings (record { article = e.found; spans = record { rows = e.sale; roundings = roundings } })
   told_sale s = record { is = rw (eq-eqb sort 83 s) }
 
-  pub told_purchase : (sort ≡ 83 → ⊥) → ToldIs e sort roundings (record { article = e.found; spans = spans_in e.purchase roundings })
+  pub told_purchase : (sort ≡ 83 → ⊥) → ToldIs e sort roundings (record { article = e.found; spans = record { rows = e.purchase; roundings = roundings } })
   told_purchase s = record { is = rw (ne_eqb sort 83 s) }

@@ -9,6 +9,7 @@ use native.Mathlib.Decide.{ℕ_discrete}
 use lib.Dec.{T, eqb}
 use lib.ListN.{length, take, drop, get_or}
 use borrow.Author.Tests.{ne_eqb, eqb-true}
+use Rattle.std.specs.Prelude as Std
 use Rattle.rules.specs.Lists.{same}
 use Rattle.rules.specs.Layout.{whole}
 use Rattle.rules.specs.Book.{Record, ArticleRecord, PriceRecord, RoundingRecord, PackagingRecord, SchemeRecord}
@@ -22,24 +23,25 @@ use Rattle.records.specs.Asks.{Accepted}
 use Rattle.records.specs.Tests.{starts_with}
 use Rattle.records.proofs.FieldLaws.{kind_byte, first_long, first_in, starts_is, accepted_long}
 use Rattle.wanted.specs.declared.last.Last.{Last}
-use Rattle.wanted.specs.Table.{FoundAt}
+use Rattle.questions.specs.declared.Name.{Name}
+use Rattle.wanted.specs.Table.{FoundOr}
 use Rattle.wanted.specs.Entries.{of_article}
 use Rattle.wanted.specs.Last.{PartOf, RecordAt, LastIs, LastNamed, LastAfter}
 
 -- ---- a name
 
-pub first_is : {b names starts ends : List ℕ} {n r : ℕ} → FoundAt names starts ends n (take (0 - 0) (drop 0 b)) r
-    → LastIs b names starts ends n (record { from = 0; to = 0; rank = r })
+pub first_is : {b bs : List ℕ} {names : List Name} {n : ℕ} {r : Std.Option ℕ} → FoundOr bs names n (take (0 - 0) (drop 0 b)) r
+    → LastIs b bs names n (record { from = 0; to = 0; rank = r })
 first_is f = record { low = omega arith; fits = omega arith; found = f }
 
-module _ {b names starts ends : List ℕ} {n from to : ℕ} where
-  pub named_same : {last : Last} → LastIs b names starts ends n last → {r : Bool}
+module _ {b bs : List ℕ} {names : List Name} {n from to : ℕ} where
+  pub named_same : {last : Last} → LastIs b bs names n last → {r : Bool}
       → Says (same (take (last.to - last.from) (drop last.from b)) (take (to - from) (drop from b))) r → r ≡ true
-      → LastNamed b names starts ends n from to last
+      → LastNamed b bs names n from to last
   named_same {last} is s t = record { is = is; name = same_eq (part b last.from last.to) (part b from to) (s.is ∙ t) }
 
-  pub named_new : PartOf b from to → {r : ℕ} → FoundAt names starts ends n (take (to - from) (drop from b)) r
-      → LastNamed b names starts ends n from to (record { from = from; to = to; rank = r })
+  pub named_new : PartOf b from to → {r : Std.Option ℕ} → FoundOr bs names n (take (to - from) (drop from b)) r
+      → LastNamed b bs names n from to (record { from = from; to = to; rank = r })
   named_new p f = record { is = record { low = p.low; fits = p.fits; found = f }; name = refl }
 
 -- ---- a record by itself
@@ -98,10 +100,10 @@ module _ {b : List ℕ} {start end : ℕ} (p : RecordAt b start end) where
   pub last_some : 0 < length (take (end - start) (drop start b))
   last_some = accepted_long p.accepted
 
-  pub last_none : {names starts ends : List ℕ} {n : ℕ} {last : Last} → LastIs b names starts ends n last
+  pub last_none : {bs : List ℕ} {names : List Name} {n : ℕ} {last : Last} → LastIs b bs names n last
       → (eqb (get_or (take (end - start) (drop start b)) 0 0) 1 || eqb (get_or (take (end - start) (drop start b)) 0 0) 2) ≡ false
-      → LastAfter b names starts ends n (whole kinded (part b start end)) last
-  last_none is f = record { rank = is.found.fits; is = is; own = λ x e. absurd (of_none p.accepted f x e) }
+      → LastAfter b bs names n (whole kinded (part b start end)) last
+  last_none is f = record { is = is; own = λ x e. absurd (of_none p.accepted f x e) }
 
   module _ (h : (eqb (get_or (take (end - start) (drop start b)) 0 0) 1 || eqb (get_or (take (end - start) (drop start b)) 0 0) 2) ≡ true) where
     pub last_long : 1 < length (take (end - start) (drop start b))
@@ -124,6 +126,6 @@ module _ {b : List ℕ} {start end : ℕ} (p : RecordAt b start end) where
       its : (y : List ℕ) → of_article (whole kinded (part b start end)) ≡ some y → part b (start + 2) (start + 2 + x) ≡ y
       its y e = some-injective (part b (start + 2) (start + 2 + x)) y (sym its_name ∙ e)
 
-      pub last_named : {names starts ends : List ℕ} {k : ℕ} {r : Last} → LastNamed b names starts ends k (start + 2) (start + 2 + x) r
-          → LastAfter b names starts ends k (whole kinded (part b start end)) r
-      last_named r = record { rank = r.is.found.fits; is = r.is; own = λ y e. r.name ∙ its y e }
+      pub last_named : {bs : List ℕ} {names : List Name} {k : ℕ} {r : Last} → LastNamed b bs names k (start + 2) (start + 2 + x) r
+          → LastAfter b bs names k (whole kinded (part b start end)) r
+      last_named r = record { is = r.is; own = λ y e. r.name ∙ its y e }

@@ -1,6 +1,8 @@
 -- The table of the wanted names: filled name by name, and followed from a mark's last name to its first.
 use Prim.Native.Nat.{ℕ, ◌+◌, ◌-◌, ◌≤◌, ◌<◌}
-use mathlib.Core.Path.{◌≡◌, sym, ◌∙◌, ap, subst}
+use Rattle.std.specs.Prelude.{Some, None}
+use Rattle.std.specs.Prelude as Std
+use mathlib.Core.Path.{◌≡◌, refl, sym, ◌∙◌, ap, subst}
 use mathlib.Core.Bool.{Bool, true, false, false≢true}
 use mathlib.Core.List.{List}
 use native.Mathlib.Omega.{arith}
@@ -10,25 +12,26 @@ use lib.Seq.{get_or-set_same, get_or-set_other}
 use Rattle.rules.specs.Lists.{same}
 use Rattle.rules.proofs.ListLaws.{same_eq, same_refl}
 use Rattle.layout.specs.Reads.{part}
-use Rattle.layout.specs.Names.{name_at, Listed}
+use Rattle.questions.specs.declared.Name.{Name}
+use Rattle.questions.specs.Questions.{no_name, name_at, Listed}
 use Rattle.layout.specs.Ensures.{Says, Number}
 use Rattle.wanted.specs.Marks.{mark_of}
-use Rattle.wanted.specs.Table.{Leads, Filled, FoundAt, RanksFound}
+use Rattle.wanted.specs.Table.{Leads, Filled, FoundAt, NotFound, FoundOr}
 
 -- ---- the table is filled
 
 -- with the names before j, of n
-pub record Filling (names starts ends : List ℕ) (n : ℕ) (heads links : List ℕ) (j : ℕ) : Type 0 where
+pub record Filling (bs : List ℕ) (names : List Name) (n : ℕ) (heads links : List ℕ) (j : ℕ) : Type 0 where
   pub fits : j ≤ n
   pub heads_long : length heads ≡ 1024
   pub links_long : length links ≡ 500
-  pub filled : Filled names starts ends j heads links
+  pub filled : Filled bs names j heads links
 
-module _ (names starts ends : List ℕ) where
+module _ (bs : List ℕ) (names : List Name) where
   mark_at : ℕ → ℕ
-  mark_at j = mark_of (name_at names starts ends j)
+  mark_at j = mark_of (name_at bs names j)
 
-  pub filling_start : (n : ℕ) → Filling names starts ends n (replicate 1024 0) (replicate 500 0) 0
+  pub filling_start : (n : ℕ) → Filling bs names n (replicate 1024 0) (replicate 500 0) 0
   filling_start n = record {
     fits = omega arith;
     heads_long = length-replicate {A = ℕ} 1024 0;
@@ -44,22 +47,22 @@ module _ (names starts ends : List ℕ) where
     };
   }
 
-  module _ {n j : ℕ} (l : Listed names starts ends n) (h : j < n) where
-    pub filling_order : get_or starts j 0 ≤ get_or ends j 0
+  module _ {n j : ℕ} (l : Listed bs names n) (h : j < n) where
+    pub filling_order : (get_or names j no_name).start ≤ (get_or names j no_name).end
     filling_order = l.order j h
 
-    pub filling_inside : get_or ends j 0 ≤ length names
+    pub filling_inside : (get_or names j no_name).end ≤ length bs
     filling_inside = l.inside j h
 
-  module _ {n : ℕ} {heads links : List ℕ} {j : ℕ} (inv : Filling names starts ends n heads links j) where
-    pub filling_end : n ≤ j → Filled names starts ends n heads links
-    filling_end h = let e : j ≡ n = omega (arith, inv.fits) in subst (λ (k : ℕ). Filled names starts ends k heads links) e inv.filled
+  module _ {n : ℕ} {heads links : List ℕ} {j : ℕ} (inv : Filling bs names n heads links j) where
+    pub filling_end : n ≤ j → Filled bs names n heads links
+    filling_end h = let e : j ≡ n = omega (arith, inv.fits) in subst (λ (k : ℕ). Filled bs names k heads links) e inv.filled
 
-    wider : {m c : ℕ} → Leads names starts ends j m c → Leads names starts ends (j + 1) m c
+    wider : {m c : ℕ} → Leads bs names j m c → Leads bs names (j + 1) m c
     wider l = record { fits = omega (arith, l.fits); mark = l.mark }
 
-    module _ (h : j < n) (list : Listed names starts ends n) {m : ℕ}
-        (is : Number (mark_of (part names (get_or starts j 0) (get_or ends j 0))) 1024 m) where
+    module _ (h : j < n) (list : Listed bs names n) {m : ℕ}
+        (is : Number (mark_of (part bs (get_or names j no_name).start (get_or names j no_name).end)) 1024 m) where
       new_heads : List ℕ
       new_heads = set heads m (j + 1)
 
@@ -86,24 +89,24 @@ module _ (names starts ends : List ℕ) where
       unfolding new_links
       link_there k l = get_or-set_other links j k (get_or heads m 0) 0 (λ e. omega arith)
 
-      heads_lead : (k : ℕ) → k < 1024 → Dec (k ≡ m) → Leads names starts ends (j + 1) k (get_or new_heads k 0)
+      heads_lead : (k : ℕ) → k < 1024 → Dec (k ≡ m) → Leads bs names (j + 1) k (get_or new_heads k 0)
       unfolding mark_at
       heads_lead k l (yes e) =
           let at : get_or new_heads k 0 ≡ j + 1 = ap (λ (x : ℕ). get_or new_heads x 0) e ∙ head_here in
           record {
             fits = omega (arith, at);
-            mark = λ i f. let g : i ≡ j = omega (arith, at) in ap (λ (x : ℕ). mark_of (name_at names starts ends x)) g ∙ mine ∙ sym e;
+            mark = λ i f. let g : i ≡ j = omega (arith, at) in ap (λ (x : ℕ). mark_of (name_at bs names x)) g ∙ mine ∙ sym e;
           }
-      heads_lead k l (no n) = subst (Leads names starts ends (j + 1) k) (sym (head_there k n)) (wider (inv.filled.head k l))
+      heads_lead k l (no n) = subst (Leads bs names (j + 1) k) (sym (head_there k n)) (wider (inv.filled.head k l))
 
-      links_lead : (k : ℕ) → k < j + 1 → Dec (k < j) → Leads names starts ends (j + 1) (mark_at k) (get_or new_links k 0)
+      links_lead : (k : ℕ) → k < j + 1 → Dec (k < j) → Leads bs names (j + 1) (mark_at k) (get_or new_links k 0)
       unfolding mark_at
-      links_lead k l (yes g) = subst (Leads names starts ends (j + 1) (mark_at k)) (sym (link_there k g)) (wider (inv.filled.link k g))
+      links_lead k l (yes g) = subst (Leads bs names (j + 1) (mark_at k)) (sym (link_there k g)) (wider (inv.filled.link k g))
       links_lead k l (no g) =
           let e : j ≡ k = omega arith in
-          subst (λ (x : ℕ). Leads names starts ends (j + 1) (mark_at x) (get_or new_links x 0)) e
-          (subst (Leads names starts ends (j + 1) (mark_at j)) (sym link_here)
-          (subst (λ (x : ℕ). Leads names starts ends (j + 1) x (get_or heads m 0)) (sym mine) (wider (inv.filled.head m is.below))))
+          subst (λ (x : ℕ). Leads bs names (j + 1) (mark_at x) (get_or new_links x 0)) e
+          (subst (Leads bs names (j + 1) (mark_at j)) (sym link_here)
+          (subst (λ (x : ℕ). Leads bs names (j + 1) x (get_or heads m 0)) (sym mine) (wider (inv.filled.head m is.below))))
 
       heads_last : (i : ℕ) → i < j + 1 → Dec (mark_at i ≡ m) → i < get_or new_heads (mark_at i) 0
       unfolding mark_at
@@ -130,7 +133,7 @@ module _ (names starts ends : List ℕ) where
           ap (λ (x : ℕ). get_or heads x 0) (e ∙ ap mark_at s ∙ mine) ∙ sym link_here ∙ ap (λ (x : ℕ). get_or new_links x 0) (sym s) in
           omega (arith, u, inv.filled.last i t)
 
-      pub filling_again : Filling names starts ends n (set heads m (j + 1)) (set links j (get_or heads m 0)) (j + 1)
+      pub filling_again : Filling bs names n (set heads m (j + 1)) (set links j (get_or heads m 0)) (j + 1)
       unfolding new_heads new_links mark_at
       filling_again = record {
         fits = omega arith;
@@ -148,88 +151,59 @@ module _ (names starts ends : List ℕ) where
 -- ---- a name is found
 
 -- ranks from c on have another name
-pub record Finding (names starts ends : List ℕ) (n : ℕ) (name : List ℕ) (c : ℕ) : Type 0 where
-  pub leads : Leads names starts ends n (mark_of name) c
-  pub before : (j : ℕ) → j < n → name_at names starts ends j ≡ name → j < c
+pub record Finding (bs : List ℕ) (names : List Name) (n : ℕ) (name : List ℕ) (c : ℕ) : Type 0 where
+  pub leads : Leads bs names n (mark_of name) c
+  pub before : (j : ℕ) → j < n → name_at bs names j ≡ name → j < c
 
-module _ {names starts ends : List ℕ} {n : ℕ} {heads links : List ℕ} (filled : Filled names starts ends n heads links) (name : List ℕ) where
-  pub find_start : {m : ℕ} → Number (mark_of name) 1024 m → Finding names starts ends n name (get_or heads m 0)
+module _ {bs : List ℕ} {names : List Name} {n : ℕ} {heads links : List ℕ} (filled : Filled bs names n heads links) (name : List ℕ) where
+  pub find_start : {m : ℕ} → Number (mark_of name) 1024 m → Finding bs names n name (get_or heads m 0)
   find_start {m} is = record {
-    leads = subst (λ (x : ℕ). Leads names starts ends n x (get_or heads m 0)) is.is (filled.head m is.below);
+    leads = subst (λ (x : ℕ). Leads bs names n x (get_or heads m 0)) is.is (filled.head m is.below);
     before = λ j h e. omega (arith, filled.last j h, ap (λ (x : ℕ). get_or heads x 0) (ap mark_of e ∙ sym is.is));
   }
 
-  module _ {c : ℕ} (inv : Finding names starts ends n name c) where
-    pub find_none : c ≤ 0 → FoundAt names starts ends n name n
-    find_none z = record {
-      fits = omega arith;
-      alike = λ h. absurd (omega arith);
-      some = λ j h e. absurd (omega (arith, inv.before j h e));
-      last = λ j h e. omega arith;
-    }
+  module _ {c : ℕ} (inv : Finding bs names n name c) where
+    pub find_none : c ≤ 0 → NotFound bs names n name
+    find_none z = record { none = λ j h e. omega (arith, inv.before j h e) }
 
     module _ (p : 0 < c) where
       here : c - 1 < n
       here = omega (arith, inv.leads.fits)
 
-      pub find_order : Listed names starts ends n → get_or starts (c - 1) 0 ≤ get_or ends (c - 1) 0
+      pub find_order : Listed bs names n → (get_or names (c - 1) no_name).start ≤ (get_or names (c - 1) no_name).end
       find_order l = l.order (c - 1) here
 
-      pub find_inside : Listed names starts ends n → get_or ends (c - 1) 0 ≤ length names
+      pub find_inside : Listed bs names n → (get_or names (c - 1) no_name).end ≤ length bs
       find_inside l = l.inside (c - 1) here
 
       pub find_less : get_or links (c - 1) 0 < c
       find_less = omega (arith, filled.down (c - 1) here)
 
-      module _ {r : Bool} (s : Says (same (part names (get_or starts (c - 1) 0) (get_or ends (c - 1) 0)) name) r) where
-        pub find_hit : r ≡ true → FoundAt names starts ends n name (c - 1)
+      module _ {r : Bool} (s : Says (same (part bs (get_or names (c - 1) no_name).start (get_or names (c - 1) no_name).end) name) r) where
+        pub find_hit : r ≡ true → FoundAt bs names n name (c - 1)
         find_hit t = record {
-          fits = omega (arith, here);
-          alike = λ h. same_eq (name_at names starts ends (c - 1)) name (s.is ∙ t);
-          some = λ j h e. here;
+          fits = here;
+          alike = same_eq (name_at bs names (c - 1)) name (s.is ∙ t);
           last = λ j h e. omega (arith, inv.before j h e);
         }
 
-        pub find_next : r ≡ false → Finding names starts ends n name (get_or links (c - 1) 0)
+        pub find_next : r ≡ false → Finding bs names n name (get_or links (c - 1) 0)
         find_next t = record {
           leads =
-              subst (λ (x : ℕ). Leads names starts ends n x (get_or links (c - 1) 0)) (inv.leads.mark (c - 1) (omega arith))
+              subst (λ (x : ℕ). Leads bs names n x (get_or links (c - 1) 0)) (inv.leads.mark (c - 1) (omega arith))
               (filled.link (c - 1) here);
           before = λ j h e. go j h e (ℕ_discrete j (c - 1));
         }
           where
-            go : (j : ℕ) → j < n → name_at names starts ends j ≡ name → Dec (j ≡ c - 1) → j < get_or links (c - 1) 0
+            go : (j : ℕ) → j < n → name_at bs names j ≡ name → Dec (j ≡ c - 1) → j < get_or links (c - 1) 0
             go j h e (yes f) =
-                absurd (false≢true (sym (s.is ∙ t) ∙ ap (λ (x : List ℕ). same x name) (ap (name_at names starts ends) (sym f) ∙ e) ∙ same_refl name))
+                absurd (false≢true (sym (s.is ∙ t) ∙ ap (λ (x : List ℕ). same x name) (ap (name_at bs names) (sym f) ∙ e) ∙ same_refl name))
             go j h e (no f) =
                 let l : j < c - 1 = omega (arith, inv.before j h e) in
                 filled.before j (c - 1) l here (ap mark_of e ∙ sym (inv.leads.mark (c - 1) (omega arith)))
 
--- ---- each name is found
-
--- those before j
-pub record Ranking (names starts ends : List ℕ) (n : ℕ) (ranks : List ℕ) (j : ℕ) : Type 0 where
-  pub few : n ≤ 500
-  pub long : length ranks ≡ 500
-  pub done : (i : ℕ) → i < j → FoundAt names starts ends n (name_at names starts ends i) (get_or ranks i 0)
-
-module _ (names starts ends : List ℕ) (n : ℕ) where
-  pub ranking_start : Listed names starts ends n → Ranking names starts ends n (replicate 500 0) 0
-  ranking_start list = record { few = list.few; long = length-replicate {A = ℕ} 500 0; done = λ i l. absurd (omega arith) }
-
-  module _ {ranks : List ℕ} {j : ℕ} (inv : Ranking names starts ends n ranks j) where
-    pub ranking_end : n ≤ j → RanksFound names starts ends n ranks
-    ranking_end h = record { each = λ i l. inv.done i (omega arith) }
-
-    pub ranking_again : j < n → {r : ℕ} → FoundAt names starts ends n (part names (get_or starts j 0) (get_or ends j 0)) r
-        → Ranking names starts ends n (set ranks j r) (j + 1)
-    ranking_again h {r} found = record { few = inv.few; long = length-set ranks j r ∙ inv.long; done = λ i k. go i (dec_lt i j) k }
-      where
-        go : (i : ℕ) → Dec (i < j) → i < j + 1 → FoundAt names starts ends n (name_at names starts ends i) (get_or (set ranks j r) i 0)
-        go i (yes k) m =
-            subst (FoundAt names starts ends n (name_at names starts ends i)) (sym (get_or-set_other ranks j i r 0 (λ e. omega arith))) (inv.done i k)
-        go i (no k) m =
-            let e : j ≡ i = omega arith in
-            let g : j < length ranks = omega (arith, inv.long, inv.few) in
-            subst (λ (x : ℕ). FoundAt names starts ends n (name_at names starts ends x) (get_or (set ranks j r) x 0)) e
-            (subst (FoundAt names starts ends n (name_at names starts ends j)) (sym (get_or-set_same ranks j r 0 g)) found)
+-- a name on the list is found
+pub is_there : {bs : List ℕ} {names : List Name} {n : ℕ} (j : ℕ) → j < n → (r : Std.Option ℕ) → FoundOr bs names n (name_at bs names j) r
+    → (i : ℕ) × (r ≡ Some i) × FoundAt bs names n (name_at bs names j) i
+is_there j h None f = absurd (f.none j h refl)
+is_there j h (Some i) f = (i, refl, f)

@@ -5,14 +5,14 @@ use mathlib.Core.Bool.{Bool, true, false, ◌&&◌, ◌||◌, not, cond, false�
 use mathlib.Core.List.{List, [], ◌∷◌}
 use mathlib.Core.Option.{Option, some, none, none-ne-some}
 use native.Mathlib.Omega.{arith}
-use native.Mathlib.Decide.{dec_lt, ℕ_discrete}
-use lib.Dec.{eqb, ltb}
+use native.Mathlib.Decide.{ℕ_discrete}
+use lib.Dec.{eqb}
 use lib.ListN.{length, take, drop, get_or, set, replicate, length-set, length-replicate, get_or-replicate}
 use lib.Seq.{get_or-set_same, get_or-set_other}
-use mir.Syntax.{w64}
-use mir.Val.{Fits}
-use borrow.Author.Rules.{scaled_Fits}
-use borrow.Author.Tests.{ne_eqb, eqb-true, eqb-false, lt-ltb}
+use borrow.Author.Count.{below_more}
+use borrow.Author.Tests.{ne_eqb, eqb-true, eqb-false}
+use Rattle.std.specs.Prelude.{Some, None, IfSome}
+use Rattle.std.specs.Prelude as Std
 use Rattle.rules.specs.Lists.{same, is_some, cons_if}
 use Rattle.rules.specs.Layout.{whole}
 use Rattle.rules.specs.Book.{Record, ArticleRecord, PriceRecord, RoundingRecord, PackagingRecord, SchemeRecord, article_of, rows_of, roundings, sale}
@@ -20,7 +20,8 @@ use Rattle.rules.specs.BookLayout.{kinded, records}
 use Rattle.rules.proofs.ListLaws.{same_eq, same_refl}
 use Rattle.rules.proofs.TestLaws.{or_false, or_assoc, and_false}
 use Rattle.layout.specs.Reads.{part}
-use Rattle.layout.specs.Names.{name_at, Listed}
+use Rattle.questions.specs.declared.Name.{Name}
+use Rattle.questions.specs.Questions.{no_name, name_at, Listed}
 use Rattle.layout.specs.Records.{records_left, Between, RecordHere, StopIs}
 use Rattle.book.proofs.WalkLaws.{pass_start, pass_here, pass_less, pass_next, pass_record, pass_end}
 use Rattle.records.specs.Asks.{Accepted}
@@ -35,9 +36,9 @@ use Rattle.survey.specs.Survey as Survey
 use Rattle.survey.proofs.WindowLaws.{Spanning, span_kept, rows_gather, roundings_gather, roundings_outside, span_start, span_turn, span_end, windows}
 use Rattle.survey.proofs.SpotLaws.{Noting, noting_start, noting_turn, noting_end}
 use Rattle.wanted.specs.declared.entries.Entry.{Entry}
-use Rattle.wanted.specs.Table.{FoundAt, RanksFound}
-use Rattle.wanted.specs.Entries.{of_article, is_article, is_row, EntryAfter, SeenIs, rows_for, sight_in, ToldIs, no_entry, no_sight}
-use Rattle.wanted.specs.Entries.{SeenAll, RanksIn, ToldAll, FoundAll}
+use Rattle.wanted.specs.Table.{FoundAt, FoundOr}
+use Rattle.wanted.specs.Entries.{of_article, is_article, is_row, EntryAfter, EntriesAfter, rows_for, sight_in, ToldIs, no_entry, no_sight}
+use Rattle.wanted.specs.Entries.{SeenAll, ToldAt, ToldAll, FoundAll}
 use Rattle.wanted.specs.declared.last.Last.{Last}
 use Rattle.wanted.specs.Last.{RecordAt, LastIs, LastAfter}
 
@@ -171,44 +172,39 @@ module _ {b : List ℕ} (article : List ℕ) (sort : ℕ) where
 -- ---- the walk
 
 -- an article has one rank
-one_rank : {names starts ends : List ℕ} {n : ℕ} {x : List ℕ} {i r : ℕ} → FoundAt names starts ends n x i → FoundAt names starts ends n x r
-    → r < n → r ≡ i
-one_rank {i = i} {r} f g h =
-    let a = g.alike h in
-    let l : i < _ = f.some r h a in
-    omega (arith, f.last r h a, g.last i l (f.alike l))
+one_rank : {bs : List ℕ} {names : List Name} {n : ℕ} {x : List ℕ} {i r : ℕ} → FoundAt bs names n x i → FoundAt bs names n x r → r ≡ i
+one_rank {i = i} {r} f g = omega (arith, f.last r g.fits g.alike, g.last i f.fits f.alike)
 
-pub record Walking (b names starts ends : List ℕ) (n : ℕ) (entries : List Entry) (rounded : Span) (spots : List ℕ) (count : ℕ) (last : Last) (at : ℕ) : Type 0 where
+pub record Walking (b bs : List ℕ) (names : List Name) (n : ℕ) (entries : List Entry) (rounded : Span) (noted : Noted) (last : Last) (at : ℕ) : Type 0 where
   pub few : n ≤ 500
   pub between : Between b at
-  pub long : length entries ≡ 501
+  pub long : length entries ≡ 500
   pub rounding : Spanning roundings b 5 rounded at
-  pub noting : Noting b 5 spots count at
-  pub name : LastIs b names starts ends n last
-  pub each : (article : List ℕ) (sort : ℕ) (r : ℕ) → FoundAt names starts ends n article r → r < n → Kept b article sort (get_or entries r no_entry) at
+  pub noting : Noting b 5 noted at
+  pub name : LastIs b bs names n last
+  pub each : (article : List ℕ) (sort : ℕ) (r : ℕ) → FoundAt bs names n article r → Kept b article sort (get_or entries r no_entry) at
 
-module _ (b names starts ends : List ℕ) (n : ℕ) where
-  pub walking_start : is_some (records b) ≡ true → Listed names starts ends n → {last : Last} → LastIs b names starts ends n last
-      → Walking b names starts ends n (replicate 501 unseen) start (replicate 16 0) 0 last 5
+module _ (b bs : List ℕ) (names : List Name) (n : ℕ) where
+  pub walking_start : is_some (records b) ≡ true → Listed bs names n → {last : Last} → LastIs b bs names n last
+      → Walking b bs names n (replicate 500 unseen) start Survey.none_noted last 5
   walking_start ok list name = record {
     name = name;
     few = list.few;
     between = pass_start b ok;
-    long = length-replicate 501 unseen;
+    long = length-replicate 500 unseen;
     rounding = span_start roundings_gather (omega arith);
     noting = noting_start;
-    each = λ article sort r f h. rw (get_or-replicate 501 r unseen no_entry (omega (arith, list.few))) (kept_start article sort);
+    each = λ article sort r f. rw (get_or-replicate 500 r unseen no_entry (omega (arith, list.few, f.fits))) (kept_start article sort);
   }
 
-  module _ {entries : List Entry} {rounded : Span} {spots : List ℕ} {count : ℕ} {last : Last} {at : ℕ}
-      (inv : Walking b names starts ends n entries rounded spots count last at) where
-    pub walking_end : length b ≤ at → SeenAll b names starts ends n entries rounded (record { count = count; spots = spots })
+  module _ {entries : List Entry} {rounded : Span} {noted : Noted} {last : Last} {at : ℕ} (inv : Walking b bs names n entries rounded noted last at) where
+    pub walking_end : length b ≤ at → SeenAll b bs names n entries rounded noted
     unfolding article_of
     walking_end h =
         let none_left = pass_end inv.between h in
         record {
-          each = λ article sort r f l.
-              let k = inv.each article sort r f l in
+          each = λ article sort r f.
+              let k = inv.each article sort r f in
               let found = (get_or entries r no_entry).found in
               record {
                 there = sym (or_false found) ∙ ap (λ (rs : List Record). found || is_some (article_of rs article)) (sym none_left) ∙ k.there;
@@ -218,7 +214,7 @@ module _ (b names starts ends : List ℕ) (n : ℕ) where
               };
         }
 
-    pub walking_long : length spots ≡ 16
+    pub walking_long : length noted.spots ≡ 16
     walking_long = inv.noting.long
 
     module _ (h : at < length b) where
@@ -229,109 +225,95 @@ module _ (b names starts ends : List ℕ) (n : ℕ) where
         pub walking_record : RecordAt b (at + 2) end
         walking_record = record { low = omega (arith, stop.low); fits = stop.fits; accepted = record { ok = stop.ok } }
 
-        pub walking_name : LastIs b names starts ends n last
-        walking_name = inv.name
-
         pub walking_accepted : Accepted (take (end - (at + 2)) (drop (at + 2) b))
         walking_accepted = record { ok = stop.ok }
 
         pub walking_less : length b - end < length b - at
         walking_less = pass_less inv.between h stop
 
-        pub walking_turn : {next : Last} {new : Entry} {span : Span}
-            → LastAfter b names starts ends n (whole kinded (part b (at + 2) end)) next
-            → SeenIs (ltb next.rank n) (get_or entries next.rank no_entry) (whole kinded (take (end - (at + 2)) (drop (at + 2) b))) at end new
-            → SpanAfter rounded (Tests.is_rounding (whole kinded (take (end - (at + 2)) (drop (at + 2) b)))) at end span
-            → {marks : List ℕ} {more : ℕ} → SpotNoted spots count (Tests.is_rounding (whole kinded (take (end - (at + 2)) (drop (at + 2) b)))) at marks more
-            → Walking b names starts ends n (set entries next.rank new) span marks more next end
-        walking_turn {next} {new} name after noted spot = record {
-          name = name.is;
-          few = inv.few;
-          between = pass_next inv.between h stop;
-          long = length-set entries next.rank new ∙ inv.long;
-          rounding =
-              span_turn roundings_gather inv.rounding inv.between stop (pass_record inv.between h stop)
-              (roundings_outside (whole kinded (part b (at + 2) end))) noted;
-          noting = noting_turn inv.between stop (pass_record inv.between h stop) inv.noting spot;
-          each = λ article sort r f l. go article sort r f l (ℕ_discrete r next.rank);
-        }
-          where
-            i : ℕ
-            i = next.rank
+        abbrev record_here : Option Record
+        record_here = whole kinded (part b (at + 2) end)
 
-            here : Option Record
-            here = whole kinded (part b (at + 2) end)
+        module _ {next : Last} (name : LastAfter b bs names n (whole kinded (part b (at + 2) end)) next) where
+          pub walking_rank : IfSome next.rank (λ i. i < 500)
+          walking_rank = go next.rank name.is.found
+            where
+              go : (k : Std.Option ℕ) → FoundOr bs names n (part b next.from next.to) k → IfSome k (λ i. i < 500)
+              go None f = tt
+              go (Some i) f = omega (arith, f.fits, inv.few)
 
-            placed : (x : List ℕ) → of_article here ≡ some x → FoundAt names starts ends n x i
-            placed x e = subst (λ (y : List ℕ). FoundAt names starts ends n y i) (name.own x e) name.is.found
+          placed : (x : List ℕ) → of_article record_here ≡ some x → FoundOr bs names n x next.rank
+          placed x e = subst (λ (y : List ℕ). FoundOr bs names n y next.rank) (name.own x e) name.is.found
 
-            -- at its rank: the record is of that article, or of none
-            own : (article : List ℕ) (sort : ℕ) → FoundAt names starts ends n article i → i < n → (x : Option (List ℕ)) → of_article here ≡ x
-                → Tests.article_of article here ≡ is_article here
-            own article sort f l none e = no_article article sort here e
-            own article sort f l (some x) e = its_article article sort here (e ∙ ap some (sym ((placed x e).alike l) ∙ f.alike l))
+          kept : (k : Std.Option ℕ) → ((x : List ℕ) → of_article record_here ≡ some x → FoundOr bs names n x k) → (after : List Entry) → EntriesAfter entries k record_here at end after
+              → (length after ≡ 500) × ((article : List ℕ) (sort : ℕ) (r : ℕ) → FoundAt bs names n article r → Kept b article sort (get_or after r no_entry) end)
+          kept None found after e = (
+            ap length e ∙ inv.long,
+            λ article sort r f. rw e (kept_other article sort (inv.each article sort r f) inv.between h stop (λ i. (found article i).none r f.fits f.alike)),
+          )
+          kept (Some i) found after (e, seen, is) = (ap length is ∙ length-set entries i e ∙ inv.long, λ article sort r f. rw is (go article sort r f (ℕ_discrete r i)))
+            where
+              -- at its rank: the record is of that article, or of none
+              own : (article : List ℕ) (sort : ℕ) → FoundAt bs names n article i → (x : Option (List ℕ)) → of_article record_here ≡ x
+                  → Tests.article_of article record_here ≡ is_article record_here
+              own article sort f none z = no_article article sort record_here z
+              own article sort f (some x) z = its_article article sort record_here (z ∙ ap some (sym (found x z).alike ∙ f.alike))
 
-            go : (article : List ℕ) (sort : ℕ) (r : ℕ) → FoundAt names starts ends n article r → r < n → Dec (r ≡ i)
-                → Kept b article sort (get_or (set entries i new) r no_entry) end
-            go article sort r f l (yes e) =
-                let g : FoundAt names starts ends n article i = subst (FoundAt names starts ends n article) e f in
-                let m : i < n = omega arith in
-                let k : i < length entries = omega (arith, inv.long, inv.few) in
-                subst (λ (j : ℕ). Kept b article sort (get_or (set entries i new) j no_entry) end) (sym e)
-                (rw (get_or-set_same entries i new no_entry k) (kept_its article sort (inv.each article sort i g m) inv.between h stop
-                (own article sort g m (of_article here) refl) (after.after (lt-ltb i n m))))
-            go article sort r f l (no d) =
-                rw (get_or-set_other entries i r new no_entry d)
-                (kept_other article sort (inv.each article sort r f l) inv.between h stop (λ e. d (one_rank (placed article e) f l)))
+              go : (article : List ℕ) (sort : ℕ) (r : ℕ) → FoundAt bs names n article r → Dec (r ≡ i) → Kept b article sort (get_or (set entries i e) r no_entry) end
+              go article sort r f (yes z) =
+                  let g : FoundAt bs names n article i = subst (FoundAt bs names n article) z f in
+                  let k : i < length entries = omega (arith, inv.long, inv.few, g.fits) in
+                  subst (λ (j : ℕ). Kept b article sort (get_or (set entries i e) j no_entry) end) (sym z)
+                  (rw (get_or-set_same entries i e no_entry k) (kept_its article sort (inv.each article sort i g) inv.between h stop
+                  (own article sort g (of_article record_here) refl) seen))
+              go article sort r f (no d) =
+                  rw (get_or-set_other entries i r e no_entry d)
+                  (kept_other article sort (inv.each article sort r f) inv.between h stop (λ z. d (one_rank (found article z) f)))
+
+          pub walking_turn : {after : List Entry} {span : Span}
+              → EntriesAfter entries next.rank (whole kinded (take (end - (at + 2)) (drop (at + 2) b))) at end after
+              → SpanAfter rounded (Tests.is_rounding (whole kinded (take (end - (at + 2)) (drop (at + 2) b)))) at end span
+              → {more : Noted} → SpotNoted noted (Tests.is_rounding (whole kinded (take (end - (at + 2)) (drop (at + 2) b)))) at more
+              → Walking b bs names n after span more next end
+          walking_turn {after} seen rounds spot =
+              let all = kept next.rank placed after seen in
+              record {
+                name = name.is;
+                few = inv.few;
+                between = pass_next inv.between h stop;
+                long = all.0;
+                rounding =
+                    span_turn roundings_gather inv.rounding inv.between stop (pass_record inv.between h stop)
+                    (roundings_outside (whole kinded (part b (at + 2) end))) rounds;
+                noting = noting_turn inv.between stop (pass_record inv.between h stop) inv.noting spot;
+                each = all.1;
+              }
 
 -- ---- what is told of each name
 
-pub ranks_in : {names starts ends : List ℕ} {n : ℕ} {ranks : List ℕ} → Listed names starts ends n → RanksFound names starts ends n ranks
-    → RanksIn n ranks
-ranks_in list found = record { few = list.few; each = λ j h. (found.each j h).fits }
-
 -- of those before j
-pub record Telling (ranks sorts : List ℕ) (n : ℕ) (entries : List Entry) (rounded : Span) (all : List Sighted) (j : ℕ) : Type 0 where
-  pub few : n ≤ 500
+pub record Telling (bs : List ℕ) (names : List Name) (n : ℕ) (entries : List Entry) (rounded : Span) (all : List Sighted) (j : ℕ) : Type 0 where
   pub long : length all ≡ 500
-  pub done : (i : ℕ) → i < j → get_or all i no_sight ≡ sight_in (get_or entries (get_or ranks i 0) no_entry) (get_or sorts i 0) rounded
+  pub done : (i : ℕ) → i < j → ToldAt bs names n entries rounded i (get_or all i no_sight)
 
-module _ (ranks sorts : List ℕ) (n : ℕ) (entries : List Entry) (rounded : Span) where
-  pub telling_rank : {j : ℕ} → RanksIn n ranks → j < n → get_or ranks j 0 < 501
-  telling_rank {j} p h = omega (arith, p.few, p.each j h)
+module _ {bs : List ℕ} {names : List Name} {n : ℕ} {entries : List Entry} {rounded : Span} {all : List Sighted} {j : ℕ}
+    (inv : Telling bs names n entries rounded all j) (list : Listed bs names n) (h : j < n) where
+  pub telling_again : {r : ℕ} → FoundAt bs names n (name_at bs names j) r → {l : Sighted} → ToldIs (get_or entries r no_entry) (get_or names j no_name).sort rounded l
+      → Telling bs names n entries rounded (set all j l) (j + 1)
+  telling_again {r} found {l} told = record { long = length-set all j l ∙ inv.long; done = below_more _ _ before its }
+    where
+      before : (i : ℕ) → i < j → ToldAt bs names n entries rounded i (get_or (set all j l) i no_sight)
+      before i k = subst (ToldAt bs names n entries rounded i) (sym (get_or-set_other all j i l no_sight (λ e. omega arith))) (inv.done i k)
 
-  -- an element's rank in bytes is a number that the machine has
-  pub telling_fits : {j : ℕ} → RanksIn n ranks → j < n → (k : ℕ) → 501 * k < 2 ^ 63 → Fits w64 (get_or ranks j 0 * k)
-  telling_fits {j} p h k l = scaled_Fits (get_or ranks j 0) 501 k (telling_rank p h) l
-
-  pub telling_start : RanksIn n ranks → Telling ranks sorts n entries rounded (replicate 500 Survey.unseen) 0
-  telling_start p = record { few = p.few; long = length-replicate 500 Survey.unseen; done = λ i l. absurd (omega arith) }
-
-  module _ {all : List Sighted} {j : ℕ} (inv : Telling ranks sorts n entries rounded all j) where
-    pub telling_end : n ≤ j → ToldAll ranks sorts n entries rounded all
-    telling_end h = record { each = λ i l. inv.done i (omega arith) }
-
-    pub telling_again : j < n → {l : Sighted} → ToldIs (get_or entries (get_or ranks j 0) no_entry) (get_or sorts j 0) rounded l
-        → Telling ranks sorts n entries rounded (set all j l) (j + 1)
-    telling_again h {l} told = record { few = inv.few; long = length-set all j l ∙ inv.long; done = λ i k. go i (dec_lt i j) k }
-      where
-        go : (i : ℕ) → Dec (i < j) → i < j + 1
-            → get_or (set all j l) i no_sight ≡ sight_in (get_or entries (get_or ranks i 0) no_entry) (get_or sorts i 0) rounded
-        go i (yes k) m = get_or-set_other all j i l no_sight (λ e. omega arith) ∙ inv.done i k
-        go i (no k) m =
-            let e : j ≡ i = omega arith in
-            let g : j < length all = omega (arith, inv.long, inv.few) in
-            subst (λ (x : ℕ). get_or (set all j l) x no_sight ≡ sight_in (get_or entries (get_or ranks x 0) no_entry) (get_or sorts x 0) rounded) e
-            (get_or-set_same all j l no_sight g ∙ told.is)
+      its : ToldAt bs names n entries rounded j (get_or (set all j l) j no_sight)
+      its = subst (ToldAt bs names n entries rounded j) (sym (get_or-set_same all j l no_sight (omega (arith, inv.long, list.few)))) (record { rank = r; found = found; is = told.is })
 
 -- what was seen and told is what is found of each
-pub found_all : {b names starts ends sorts : List ℕ} {n : ℕ} {ranks : List ℕ} → RanksFound names starts ends n ranks
-    → {entries : List Entry} {rounded : Span} {noted : Noted} → SeenAll b names starts ends n entries rounded noted
-    → {all : List Sighted} → ToldAll ranks sorts n entries rounded all → FoundAll b names starts ends sorts n (record { all = all; noted = noted })
-found_all {b} {names} {starts} {ends} {sorts} {n} {ranks} rank {entries} {rounded} {noted} seen {all} told = record {
+pub found_all : {b bs : List ℕ} {names : List Name} {entries : List Entry} {rounded : Span} {noted : Noted} → SeenAll b bs names (length names) entries rounded noted
+    → {all : List Sighted} → ToldAll bs names (length names) entries rounded all → FoundAll b bs names (record { all = all; noted = noted })
+found_all {b} {bs} {names} {entries} {rounded} {noted} seen {all} told = record {
   each = λ j h.
-      let r = get_or ranks j 0 in
-      let m : r < n = (rank.each j h).some j h refl in
-      subst (λ (s : Sighted). FoundIs b (name_at names starts ends j) (get_or sorts j 0) (found_in s noted)) (sym (told.each j h))
-      (seen.each (name_at names starts ends j) (get_or sorts j 0) r (rank.each j h) m);
+      let t = told.each j h in
+      subst (λ (s : Sighted). FoundIs b (name_at bs names j) (get_or names j no_name).sort (found_in s noted)) (sym t.is)
+      (seen.each (name_at bs names j) (get_or names j no_name).sort t.rank t.found);
 }

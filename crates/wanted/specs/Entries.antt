@@ -1,14 +1,15 @@
 -- What is seen of the articles on the list, record by record, and what is told of each in the end.
-use Rattle.std.specs.Prelude.{ℕ, ◌≤◌, ◌<◌, ◌≡◌, Bool, true, false, ◌||◌, not, cond, List, eqb, get_or}
+use Rattle.std.specs.Prelude.{ℕ, ◌<◌, ◌≡◌, Bool, true, false, ◌||◌, not, cond, List, eqb, length, get_or, set, MatchOption}
+use Rattle.std.specs.Prelude as Std
 use Rattle.std.proofs.Math.Option.{Option, some, none, map}
 use Rattle.rules.specs.Lists.{is_some, if_some}
 use Rattle.rules.specs.Book.{Record, Row, as_article, as_row, sale}
-use Rattle.layout.specs.Names.{name_at}
+use Rattle.questions.specs.declared.Name.{Name}
+use Rattle.questions.specs.Questions.{no_name, name_at}
 use Rattle.survey.specs.declared.Found.{Found}
 use Rattle.survey.specs.declared.Sighted.{Sighted}
 use Rattle.survey.specs.declared.window.Noted.{Noted}
 use Rattle.survey.specs.declared.window.Span.{Span}
-use Rattle.survey.specs.declared.window.Spans.{Spans}
 use Rattle.survey.specs.Window.{SpanAfter}
 use Rattle.survey.specs.Survey.{found_in, FoundIs}
 use Rattle.wanted.specs.declared.Sights.{Sights}
@@ -37,9 +38,13 @@ pub record EntryAfter (e : Entry) (o : Option Record) (at end : ℕ) (r : Entry)
   pub sale : SpanAfter e.sale (is_row true o) at end r.sale
   pub purchase : SpanAfter e.purchase (is_row false o) at end r.purchase
 
--- and so if the article is wanted
-pub record SeenIs (wanted : Bool) (e : Entry) (o : Option Record) (at end : ℕ) (r : Entry) : Type 0 where
-  pub after : wanted ≡ true → EntryAfter e o at end r
+-- an entry past the end of them all
+abbrev pub no_entry : Entry
+no_entry = record { found = false; sale = record { first = 0; last = 0 }; purchase = record { first = 0; last = 0 } }
+
+-- and so in the entry at the article's rank, if it has one
+abbrev pub EntriesAfter : List Entry → Std.Option ℕ → Option Record → ℕ → ℕ → List Entry → Type 0
+EntriesAfter old rank o at end new = MatchOption rank (new ≡ old) (λ i. (e : Entry) × EntryAfter (get_or old i no_entry) o at end e × (new ≡ set old i e))
 
 -- ---- what is told
 
@@ -47,40 +52,33 @@ pub record SeenIs (wanted : Bool) (e : Entry) (o : Option Record) (at end : ℕ)
 abbrev pub rows_for : Entry → ℕ → Span
 rows_for e sort = cond (eqb sort sale) e.sale e.purchase
 
-abbrev pub spans_in : Span → Span → Spans
-spans_in rows roundings = record { first = rows.first; last = rows.last; from = roundings.first; to = roundings.last }
-
 abbrev pub sight_in : Entry → ℕ → Span → Sighted
-sight_in e sort roundings = record { article = e.found; spans = spans_in (rows_for e sort) roundings }
+sight_in e sort roundings = record { article = e.found; spans = record { rows = rows_for e sort; roundings = roundings } }
 
 pub record ToldIs (e : Entry) (sort : ℕ) (roundings : Span) (r : Sighted) : Type 0 where
   pub is : r ≡ sight_in e sort roundings
 
--- an entry past the end of them all
-abbrev pub no_entry : Entry
-no_entry = record { found = false; sale = record { first = 0; last = 0 }; purchase = record { first = 0; last = 0 } }
-
 abbrev pub no_sight : Sighted
-no_sight = record { article = false; spans = record { first = 0; last = 0; from = 0; to = 0 } }
+no_sight = record { article = false; spans = record { rows = record { first = 0; last = 0 }; roundings = record { first = 0; last = 0 } } }
 
 -- the entry at the rank of an article, with what is noted of the roundings, has what is found of it, for rows of any sort
-pub record SeenAll (b names starts ends : List ℕ) (n : ℕ) (entries : List Entry) (roundings : Span) (noted : Noted) : Type 0 where
-  pub each : (article : List ℕ) (sort r : ℕ) → FoundAt names starts ends n article r → r < n
+pub record SeenAll (b bs : List ℕ) (names : List Name) (n : ℕ) (entries : List Entry) (roundings : Span) (noted : Noted) : Type 0 where
+  pub each : (article : List ℕ) (sort r : ℕ) → FoundAt bs names n article r
       → FoundIs b article sort (found_in (sight_in (get_or entries r no_entry) sort roundings) noted)
 
--- these are ranks on the list
-pub record RanksIn (n : ℕ) (ranks : List ℕ) : Type 0 where
-  pub few : n ≤ 500
-  pub each : (j : ℕ) → j < n → get_or ranks j 0 ≤ n
+-- what the entry at the rank of name j tells, for the sort beside the name
+pub record ToldAt (bs : List ℕ) (names : List Name) (n : ℕ) (entries : List Entry) (roundings : Span) (j : ℕ) (r : Sighted) : Type 0 where
+  pub rank : ℕ
+  pub found : FoundAt bs names n (name_at bs names j) rank
+  pub is : r ≡ sight_in (get_or entries rank no_entry) (get_or names j no_name).sort roundings
 
--- what the entries there tell, for the sorts beside them
-pub record ToldAll (ranks sorts : List ℕ) (n : ℕ) (entries : List Entry) (roundings : Span) (all : List Sighted) : Type 0 where
-  pub each : (j : ℕ) → j < n → get_or all j no_sight ≡ sight_in (get_or entries (get_or ranks j 0) no_entry) (get_or sorts j 0) roundings
+pub record ToldAll (bs : List ℕ) (names : List Name) (n : ℕ) (entries : List Entry) (roundings : Span) (all : List Sighted) : Type 0 where
+  pub each : (j : ℕ) → j < n → ToldAt bs names n entries roundings j (get_or all j no_sight)
 
 -- what is found of the name at rank j
 abbrev pub found_for : Sights → ℕ → Found
 found_for s j = found_in (get_or s.all j no_sight) s.noted
 
--- of each of the first n names: what a search of the book for this article and sort alone finds
-pub record FoundAll (b names starts ends sorts : List ℕ) (n : ℕ) (r : Sights) : Type 0 where
-  pub each : (j : ℕ) → j < n → FoundIs b (name_at names starts ends j) (get_or sorts j 0) (found_for r j)
+-- of each name: what a search of the book for this article and sort alone finds
+pub record FoundAll (b bs : List ℕ) (names : List Name) (r : Sights) : Type 0 where
+  pub each : (j : ℕ) → j < length names → FoundIs b (name_at bs names j) (get_or names j no_name).sort (found_for r j)

@@ -5,7 +5,8 @@ use Rattle.rules.specs.Book.{Record}
 use Rattle.layout.specs.Reads.{part}
 use Rattle.records.specs.Asks.{Accepted}
 use Rattle.wanted.specs.declared.last.Last.{Last}
-use Rattle.wanted.specs.Table.{FoundAt}
+use Rattle.questions.specs.declared.Name.{Name}
+use Rattle.wanted.specs.Table.{FoundOr}
 use Rattle.wanted.specs.Entries.{of_article}
 
 -- a part of b
@@ -20,18 +21,17 @@ pub record RecordAt (b : List ℕ) (start end : ℕ) : Type 0 where
   pub accepted : Accepted (part b start end)
 
 -- in the book stands a name there, and that is its rank on the list
-pub record LastIs (b names starts ends : List ℕ) (n : ℕ) (r : Last) : Type 0 where
+pub record LastIs (b bs : List ℕ) (names : List Name) (n : ℕ) (r : Last) : Type 0 where
   pub low : r.from ≤ r.to
   pub fits : r.to ≤ length b
-  pub found : FoundAt names starts ends n (part b r.from r.to) r.rank
+  pub found : FoundOr bs names n (part b r.from r.to) r.rank
 
 -- and it is the name from `from` to `to`
-pub record LastNamed (b names starts ends : List ℕ) (n from to : ℕ) (r : Last) : Type 0 where
-  pub is : LastIs b names starts ends n r
+pub record LastNamed (b bs : List ℕ) (names : List Name) (n from to : ℕ) (r : Last) : Type 0 where
+  pub is : LastIs b bs names n r
   pub name : part b r.from r.to ≡ part b from to
 
 -- and if the record that went by is of an article, it is that one's name
-pub record LastAfter (b names starts ends : List ℕ) (n : ℕ) (o : Option Record) (r : Last) : Type 0 where
-  pub rank : r.rank ≤ n
-  pub is : LastIs b names starts ends n r
+pub record LastAfter (b bs : List ℕ) (names : List Name) (n : ℕ) (o : Option Record) (r : Last) : Type 0 where
+  pub is : LastIs b bs names n r
   pub own : (x : List ℕ) → of_article o ≡ some x → part b r.from r.to ≡ x

@@ -1,6 +1,6 @@
 -- The two walks: from each record on, what is left decides; and what is left goes behind what was written.
 use Prim.Native.Nat.{ℕ, ◌+◌, ◌*◌, ◌-◌, ◌≤◌, ◌<◌}
-use mathlib.Core.Path.{◌≡◌, sym, ◌∙◌, ap, subst}
+use mathlib.Core.Path.{◌≡◌, refl, sym, ◌∙◌, ap, subst}
 use mathlib.Core.Bool.{true, false}
 use mathlib.Core.List.{List, [], ◌++◌, map, append_assoc, append-nil}
 use mathlib.Core.Option.{Option, some}
@@ -20,9 +20,11 @@ use Rattle.layout.proofs.StoreLaws.{to_nothing, to_then}
 use Rattle.book.proofs.WalkLaws.{book_records, book_size}
 use Rattle.records.specs.Asks.{Accepted}
 use Rattle.decimals.specs.Texts.{RoomFor}
-use Rattle.price_text.specs.declared.Line.{Line}
-use Rattle.price_text.specs.Line.{line_of, LineIs}
-use Rattle.write_prices.specs.Written.{rows_among, rows_of, lines_among, file_of, JudgedIs}
+use Rattle.price_text.specs.Line.{line_of}
+use Rattle.price_text.specs.Size.{fits, LineHolds, NoLineHolds}
+use Rattle.rules.specs.declared.Refusal.TheVariants.{BadRow}
+use Rattle.write_prices.specs.Written.{rows_among, rows_of, lines_among, file_of}
+use Rattle.write_prices.specs.Ends.{LinesHold, FirstUnfit}
 use Rattle.write_prices.proofs.StepLaws.{Next, none_left, here_stands, next_is, lines_on, fit_on, unfit_here}
 
 -- ---- the start
@@ -77,14 +79,13 @@ module _ (b : List ℕ) where
   }
 
   module _ {size at : ℕ} (p : Judging b size at) where
-    pub judge_end : length b ≤ at → JudgedIs b (record { place = 0; size = size })
+    pub judge_end : length b ≤ at → LinesHold b size
     unfolding lines_among file_text
     judge_end h =
         let e : p.left ≡ [] = none_left p.left p.stand h in
         record {
-          bad = λ z. absurd (omega arith);
-          good = λ z. p.unfit ∙ ap (λ (l : List (Placed Record)). first_unfit (rows_among l)) e;
-          size = λ z. omega (arith, p.sized, ap (λ (l : List (Placed Record)). length (lines_among l)) e);
+          good = p.unfit ∙ ap (λ (l : List (Placed Record)). first_unfit (rows_among l)) e;
+          is = omega (arith, p.sized, ap (λ (l : List (Placed Record)). length (lines_among l)) e);
         }
 
     module _ (h : at < length b) where
@@ -95,27 +96,23 @@ module _ (b : List ℕ) where
         next : Next b at e p.left
         next = next_is p.left p.stand h s
 
-        module _ {l : Line} (i : LineIs (part b (at + 2) e) l) where
-          pub judge_add : size + l.size < 18446744073709551616
+        module _ {n : ℕ} (i : LineHolds (part b (at + 2) e) n) where
+          pub judge_add : size + n < 18446744073709551616
           judge_add = omega (arith, p.few, p.small, i.few)
 
-          pub judge_on : l.fits ≡ true → Judging b (size + l.size) e
-          judge_on f = record {
+          pub judge_on : Judging b (size + n) e
+          judge_on = record {
             left = next.behind;
             stand = next.stand;
-            unfit = p.unfit ∙ fit_on next (sym i.fits ∙ f);
+            unfit = p.unfit ∙ fit_on next i.fit;
             sized = omega
-                (arith, p.sized, ap length (lines_on next), length-append (line_of (part b (at + 2) e)) (lines_among next.behind), i.size);
+                (arith, p.sized, ap length (lines_on next), length-append (line_of (part b (at + 2) e)) (lines_among next.behind), i.is);
             few = omega (arith, p.few, i.few, s.low);
             small = p.small;
           }
 
-          pub judge_bad : l.fits ≡ false → JudgedIs b (record { place = at + 1; size = 0 })
-          judge_bad f = record {
-            bad = λ z. p.unfit ∙ unfit_here next (sym i.fits ∙ f);
-            good = λ z. absurd (omega arith);
-            size = λ z. absurd (omega arith);
-          }
+        pub judge_bad : {n : ℕ} → NoLineHolds (part b (at + 2) e) n → FirstUnfit b (record { reason = BadRow; place = at + 1 })
+        judge_bad f = record { bad = p.unfit ∙ unfit_here next f.unfit; reason = refl }
 
 -- ---- the second walk
 

@@ -6,21 +6,31 @@ ghost use Rattle.rules.specs.Lists.{is_some};
 ghost use Rattle.rules.specs.BookLayout.{records};
 ghost use Rattle.file_rules.specs.Calls.{WriteIs};
 ghost use Rattle.layout.specs.Ensures.{PutsTo};
-ghost use Rattle.write_prices.specs.Written.{file_of, JudgedIs, Refusal};
+ghost use Rattle.write_prices.specs.Written.{file_of, blameless};
+ghost use Rattle.write_prices.specs.Ends.{JudgedIs, WrittenIs};
 
 use book::record_stop;
-use price_text::{line_of, put_line};
-use rules::PlacedAnswer;
+use price_text::{line_size, put_line};
+use rules::{PlacedAnswer, Refusal};
 use survey::is_book;
 
-// The place of the first price record that no line can hold, from 1, or 0 where lines can hold all; and then how many bytes they take.
-#[derive(Clone, Copy)]
-pub struct Judged {
-    pub place: usize,
-    pub size: usize,
+// Why a book has no price file, and the place of the record that no line can hold, from 1; 0 where that is not the reason.
+#[derive(Clone, Copy, PartialEq, Eq)]
+struct Refused {
+    reason: Refusal,
+    place: usize,
 }
 
-fn judge(b: &[u8]) -> Judged
+impl From<Refusal> for Refused {
+    ghost from_gives = { λ r e. e ≡ blameless r };
+
+    fn from(reason: Refusal) -> Refused {
+        Refused { reason, place: 0 }
+    }
+}
+
+// How many bytes the lines of its price records take, if lines can hold them all.
+fn judge(b: &[u8]) -> Result<usize, Refused>
     requires { is_some (records b.now) ≡ true }
     ensures { JudgedIs b.now result }
 {
@@ -28,19 +38,16 @@ fn judge(b: &[u8]) -> Judged
     let mut at = 5;
     while at < b.len() {
         let end = record_stop(b, at);
-        let start = at + 2;
-        let line = line_of(&b[start..end]);
-        if line.fits {
-            size += line.size;
-            at = end;
-        } else {
-            return Judged {
+        let Ok(line) = line_size(&b[at + 2..end]) else {
+            return Err(Refused {
+                reason: Refusal::BadRow,
                 place: at + 1,
-                size: 0,
-            };
-        }
+            });
+        };
+        size += line;
+        at = end;
     }
-    Judged { place: 0, size }
+    Ok(size)
 }
 
 fn write_lines(b: &[u8], out: &mut [u8]) -> usize
@@ -52,40 +59,35 @@ fn write_lines(b: &[u8], out: &mut [u8]) -> usize
     let mut at = 5;
     while at < b.len() {
         let end = record_stop(b, at);
-        let start = at + 2;
-        to = put_line(out, to, &b[start..end]);
+        to = put_line(out, to, &b[at + 2..end]);
         at = end;
     }
     to
 }
 
-fn refusal(number: u8, place: usize) -> PlacedAnswer
-    ensures { Refusal number place result }
+// How many bytes it writes.
+fn write_file(book: &[u8], out: &mut [u8]) -> Result<usize, Refused>
+    ensures { WrittenIs book.now out.old out.new result }
 {
-    PlacedAnswer {
-        length: 0,
-        place: place as u64,
-        number,
+    if !is_book(book) {
+        return Err(Refusal::BrokenBook.into());
     }
+    let size = judge(book)?;
+    if out.len() < size {
+        return Err(Refusal::ShortOutput.into());
+    }
+    Ok(write_lines(book, out))
 }
 
 pub fn write_prices(book: &[u8], out: &mut [u8]) -> PlacedAnswer
     ensures { WriteIs book.now out.old result out.new }
 {
-    if !is_book(book) {
-        return refusal(1, 0);
-    }
-    let judged = judge(book);
-    if 0 < judged.place {
-        return refusal(13, judged.place);
-    }
-    if out.len() < judged.size {
-        return refusal(7, 0);
-    }
-    let length = write_lines(book, out);
-    PlacedAnswer {
-        length: length as u64,
-        place: 0,
-        number: 0,
+    match write_file(book, out) {
+        Ok(length) => PlacedAnswer {
+            length: length as u64,
+            place: 0,
+            number: 0,
+        },
+        Err(refused) => PlacedAnswer::refused(refused.reason, refused.place),
     }
 }

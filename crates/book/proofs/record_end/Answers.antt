@@ -1,20 +1,14 @@
 use borrow.Author.Rules.{rules}
-use Rattle.book.proofs.BookLaws.{record_short, record_cut, record_good, record_bad, record_front}
+use Rattle.book.proofs.BookLaws.{record_short, record_cut, record_good, record_bad}
 use Rattle.book.proofs.record_end.Goals as goal
 
-ruleset laws = (rules, record_short, record_cut, record_good, record_bad, record_front)
+ruleset laws = (rules, record_short, record_cut, record_good, record_bad)
 
 pub returns-then-b-at-lt2 : goal.returns-then-b-at-lt2
 returns-then-b-at-lt2 c = search laws
 
-pub two_at-n-requires : goal.two_at-n-requires
-two_at-n-requires c = search laws
-
 pub returns-then-b-from : goal.returns-then-b-from
 returns-then-b-from c = search laws
-
-pub record_ok-requires : goal.record_ok-requires
-record_ok-requires c = search laws
 
 pub returns-then-record_ok : goal.returns-then-record_ok
 returns-then-record_ok c = search laws

@@ -1,4 +1,4 @@
--- `choice::shared_for` meets its contract: the slots and the list, once they have seen the records that are left, hold what all of them leave, by the laws `block_..`.
+-- `choice::shared_for` meets its contract: what is shared, once the records that are left have gone by, holds what all of them leave, by the laws `block_..`.
 use borrow.Author.Rules.{rules}
 use Rattle.records.proofs.TestLaws.{accepted}
 use Rattle.choice.proofs.SharedLaws.{block_start, block_here, block_turn, block_end}
@@ -11,15 +11,6 @@ loop-at-init c = search laws
 
 pub record_stop-end-requires : goal.record_stop-end-requires
 record_stop-end-requires c = search laws
-
-pub record_through-r-requires : goal.record_through-r-requires
-record_through-r-requires c = search laws
-
-pub note_row-n-requires : goal.note_row-n-requires
-note_row-n-requires c = search laws
-
-pub see-requires : goal.see-requires
-see-requires c = search laws
 
 pub loop-at-preserved : goal.loop-at-preserved
 loop-at-preserved c = search laws

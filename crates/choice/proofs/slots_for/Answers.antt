@@ -12,12 +12,6 @@ loop-at-init c = search laws
 pub record_stop-end-requires : goal.record_stop-end-requires
 record_stop-end-requires c = search laws
 
-pub passing-p-requires : goal.passing-p-requires
-passing-p-requires c = search laws
-
-pub see-requires : goal.see-requires
-see-requires c = search laws
-
 pub loop-at-preserved : goal.loop-at-preserved
 loop-at-preserved c = search laws
 

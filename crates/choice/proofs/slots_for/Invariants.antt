@@ -5,7 +5,7 @@ use Rattle.choice.proofs.WalkLaws.{Walking}
 use Rattle.choice.proofs.slots_for.Given as goal
 
 abbrev pub invariant-loop-at : goal.invariant-loop-at
-invariant-loop-at l = Walking l.w l.from l.article l.table l.terms l.slots l.at
+invariant-loop-at l = Walking l.w l.from l.asking.article.now l.asking.table.now l.asking.terms l.slots l.at
 
 abbrev pub decreases-loop-at : goal.decreases-loop-at
 decreases-loop-at l = length l.w - l.at

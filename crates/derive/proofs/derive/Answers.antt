@@ -1,39 +1,22 @@
 -- `derive::derive` meets its contract: each way out by its law.
-use borrow.Author.Rules.{rules}
-use Rattle.derive.proofs.CallLaws.{not_asked, no_properties, properties_there, not_derived, names_fitting, derived_put}
+use Rattle.std.proofs.Common.{arith}
+use Rattle.derive.proofs.CallLaws.{stop_low, not_asked, no_properties, not_derived, names_fitting, derived_put}
 use Rattle.derive.proofs.derive.Goals as goal
 
-ruleset laws = (rules, not_asked, no_properties, properties_there, not_derived, names_fitting, derived_put)
-
-pub count_position-at-requires : goal.count_position-at-requires
-count_position-at-requires c = search laws
-
-pub refusal-requires : goal.refusal-requires
-refusal-requires c = search laws
-
-pub returns-then-at-lt1 : goal.returns-then-at-lt1
-returns-then-at-lt1 c = search laws
-
-pub properties_ok-requires : goal.properties_ok-requires
-properties_ok-requires c = search laws
-
-pub refusal-requires-then-not-properties_ok : goal.refusal-requires-then-not-properties_ok
-refusal-requires-then-not-properties_ok c = search laws
+pub returns-in_default : goal.returns-in_default
+returns-in_default c = not_asked _ _ _ _ c.in_default.ensures (record { is = c.refused.ensures })
 
 pub returns-then-not-properties_ok : goal.returns-then-not-properties_ok
-returns-then-not-properties_ok c = search laws
-
-pub names_of-derived-requires : goal.names_of-derived-requires
-names_of-derived-requires c = search laws
-
-pub refusal-requires-then-derived-ne0 : goal.refusal-requires-then-derived-ne0
-refusal-requires-then-derived-ne0 c = search laws
-
-pub returns-then-derived-ne0 : goal.returns-then-derived-ne0
-returns-then-derived-ne0 c = search laws
+returns-then-not-properties_ok c = no_properties _ _ _ _ c.in-Some.ensures c.properties_ok.ensures c.if-not-properties_ok.true (record { is = c.refused-then-not-properties_ok.ensures })
 
 pub put_if_room-requires : goal.put_if_room-requires
-put_if_room-requires c = search laws
+put_if_room-requires c = names_fitting _ _ _ c.args.out.now c.in-Some.ensures c.properties_ok.ensures c.if-not-properties_ok.false c.in-Ok.ensures c.parts.ensures
 
-pub returns : goal.returns
-returns c = search laws
+pub overflow_add-stop : goal.overflow_add-stop
+overflow_add-stop c = omega (arith, stop_low c.in-Err.ensures)
+
+pub returns-in-Ok : goal.returns-in-Ok
+returns-in-Ok c = derived_put _ _ _ _ c.in-Some.ensures c.properties_ok.ensures c.if-not-properties_ok.false c.in-Ok.ensures c.parts.ensures c.put_if_room.ensures
+
+pub returns-in-Err : goal.returns-in-Err
+returns-in-Err c = not_derived _ _ _ _ c.in-Some.ensures c.properties_ok.ensures c.if-not-properties_ok.false c.in-Err.ensures (record { is = c.refused-in-Err.ensures })

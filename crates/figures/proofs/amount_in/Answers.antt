@@ -1,33 +1,11 @@
 -- `figures::amount_in` meets its contract.
-use borrow.Author.Rules.{rules}
-use Rattle.figures.proofs.AmountLaws.{amount_empty, amount_plus, amount_minus}
+use Rattle.fields.proofs.GivenLaws.{none_with}
+use Rattle.figures.proofs.AmountLaws.{amount_is, amount_none}
 use Rattle.figures.proofs.amount_in.Goals as goal
 
-ruleset laws = (rules, amount_empty, amount_plus, amount_minus)
-
-pub cents_in-requires : goal.cents_in-requires
-cents_in-requires c = search laws
-
-pub amount_of-requires : goal.amount_of-requires
-amount_of-requires c = search laws
-
-pub returns-then-s-lt1 : goal.returns-then-s-lt1
-returns-then-s-lt1 c = search laws
-
-pub cents_in-requires-then-s-eq45 : goal.cents_in-requires-then-s-eq45
-cents_in-requires-then-s-eq45 c = search laws
-
-pub amount_of-requires-then-s-eq45 : goal.amount_of-requires-then-s-eq45
-amount_of-requires-then-s-eq45 c = search laws
-
-pub returns-then-s-eq45 : goal.returns-then-s-eq45
-returns-then-s-eq45 c = search laws
-
-pub cents_in-requires-2 : goal.cents_in-requires-2
-cents_in-requires-2 c = search laws
-
-pub amount_of-requires-2 : goal.amount_of-requires-2
-amount_of-requires-2 c = search laws
+pub returns-in_err-hundredths : goal.returns-in_err-hundredths
+returns-in_err-hundredths c =
+    none_with _ _ c.from_residual.ensures (amount_none c.args.s.now c.is_negative-minus.ensures c.from.ensures c.in_err-hundredths.ensures)
 
 pub returns : goal.returns
-returns c = search laws
+returns c = amount_is c.args.s.now c.is_negative-minus.ensures c.from.ensures c.in_ok-hundredths.ensures

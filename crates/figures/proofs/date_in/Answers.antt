@@ -1,21 +1,14 @@
--- `figures::date_in` meets its contract.
-use borrow.Author.Rules.{rules}
-use Rattle.figures.proofs.DigitLaws.{date_blank, date_size, date_bad, date_is}
+-- `figures::date_in` meets its contract: eight digits, or none at all.
+use native.Mathlib.Omega.{arith}
+use Rattle.fields.proofs.GivenLaws.{agrees_as}
+use Rattle.figures.proofs.DigitLaws.{date_blank, date_size, date_is}
 use Rattle.figures.proofs.date_in.Goals as goal
 
-ruleset laws = (rules, date_blank, date_size, date_bad, date_is)
+pub returns-in-0 : goal.returns-in-0
+returns-in-0 c = date_blank c.args.s.now (omega arith)
 
-pub returns-then-s-lt1 : goal.returns-then-s-lt1
-returns-then-s-lt1 c = search laws
+pub returns-in-8 : goal.returns-in-8
+returns-in-8 c = agrees_as (date_is c.args.s.now (omega arith)) _ c.digits_to.ensures
 
-pub digits_to-n-requires : goal.digits_to-n-requires
-digits_to-n-requires c = search laws
-
-pub returns-then-s-ne8 : goal.returns-then-s-ne8
-returns-then-s-ne8 c = search laws
-
-pub returns-then-n-gt99999999 : goal.returns-then-n-gt99999999
-returns-then-n-gt99999999 c = search laws
-
-pub returns : goal.returns
-returns c = search laws
+pub returns-in_default : goal.returns-in_default
+returns-in_default c = date_size c.args.s.now (λ e. omega arith) (λ e. omega arith)

@@ -1,18 +1,8 @@
--- `figures::digits_to` meets its contract: the digits that are left, behind those of n, make the number.
+-- `figures::digits_to` meets its contract.
 use borrow.Author.Rules.{rules}
-use Rattle.figures.proofs.DigitLaws.{digits_start, digits_on, digits_end}
+use Rattle.fields.proofs.GivenLaws.{missing}
+use Rattle.figures.proofs.DigitLaws.{digits_none}
 use Rattle.figures.proofs.digits_to.Goals as goal
 
-ruleset laws = (rules, digits_start, digits_on, digits_end)
-
-pub loop-i-init : goal.loop-i-init
-loop-i-init c = search laws
-
-pub add_digit-n-requires : goal.add_digit-n-requires
-add_digit-n-requires c = search laws
-
-pub loop-i-preserved : goal.loop-i-preserved
-loop-i-preserved c = search laws
-
-pub returns : goal.returns
-returns c = search laws
+pub returns-in_err-n : goal.returns-in_err-n
+returns-in_err-n c = missing _ c.from_residual.ensures (search (rules, digits_none))

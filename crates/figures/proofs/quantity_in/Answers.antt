@@ -1,18 +1,11 @@
--- `figures::quantity_in` meets its contract.
-use borrow.Author.Rules.{rules}
-use Rattle.figures.proofs.DigitLaws.{quantity_none, quantity_over, quantity_is}
+-- `figures::quantity_in` meets its contract: one digit at least.
+use Rattle.std.proofs.Common.{rules}
+use Rattle.fields.proofs.GivenLaws.{agrees_as}
+use Rattle.figures.proofs.DigitLaws.{quantity_none, quantity_is}
 use Rattle.figures.proofs.quantity_in.Goals as goal
 
-ruleset laws = (rules, quantity_none, quantity_over, quantity_is)
-
-pub digits_to-n-requires : goal.digits_to-n-requires
-digits_to-n-requires c = search laws
-
-pub returns-then-s-lt1 : goal.returns-then-s-lt1
-returns-then-s-lt1 c = search laws
-
-pub returns-then-n-gt4294967295 : goal.returns-then-n-gt4294967295
-returns-then-n-gt4294967295 c = search laws
+pub returns-then-is_empty : goal.returns-then-is_empty
+returns-then-is_empty c = quantity_none c.args.s.now (search rules)
 
 pub returns : goal.returns
-returns c = search laws
+returns c = agrees_as (quantity_is c.args.s.now (search rules)) _ c.digits_to.ensures

@@ -1,18 +1,12 @@
--- `figures::zeros_behind` meets its contract: what is left decides.
-use borrow.Author.Rules.{rules}
-use Rattle.figures.proofs.AmountLaws.{zeros_start, zeros_on, zeros_not, zeros_end}
+-- `figures::zeros_behind` meets its contract: each byte behind the second decimal is a 0.
+use Rattle.std.proofs.Common.{◌==◌, rules, tests}
+use Rattle.std.proofs.lemmas.Iterator.{YieldsList-from_slice}
+use Rattle.std.proofs.lemmas.Iterator.Adapters.{YieldsList-from_skip}
+use Rattle.std.proofs.lemmas.Iterator.Search.{all_from_yields_List}
+use Rattle.figures.proofs.AmountLaws.{zeros_are}
 use Rattle.figures.proofs.zeros_behind.Goals as goal
 
-ruleset laws = (rules, zeros_start, zeros_on, zeros_not, zeros_end)
-
-pub loop-i-init : goal.loop-i-init
-loop-i-init c = search laws
-
-pub returns-then-s-i-ne48 : goal.returns-then-s-i-ne48
-returns-then-s-i-ne48 c = search laws
-
-pub loop-i-preserved : goal.loop-i-preserved
-loop-i-preserved c = search laws
-
 pub returns : goal.returns
-returns c = search laws
+returns c =
+    zeros_are c.args.s.now (all_from_yields_List (λ b. b == 48) _ _ c.all.result c.all.ensures.ran
+    (YieldsList-from_skip 2 (YieldsList-from_slice c.args.s.now cc) c.skip.ensures.count) (λ x b q k. search (rules, tests)))

@@ -1,21 +1,11 @@
--- `final_number::put_number` meets its contract: by the laws `number_..`.
-use borrow.Author.Rules.{rules}
-use Rattle.final_number.proofs.NumberLaws.{number_base, number_kind, number_room, number_by_lem}
+-- `final_number::put_number` meets its contract: by the laws `number_base` and `number_by_lem`.
+use Rattle.final_number.proofs.NumberLaws.{number_base, number_by_lem}
 use Rattle.final_number.proofs.put_number.Goals as goal
 
-ruleset laws = (rules, number_base, number_kind, number_room, number_by_lem)
-
-pub put_part-base-requires : goal.put_part-base-requires
-put_part-base-requires c = search laws
-
-pub returns-then-t-eq0 : goal.returns-then-t-eq0
-returns-then-t-eq0 c = search laws
-
-pub scheme_of-scheme-requires : goal.scheme_of-scheme-requires
-scheme_of-scheme-requires c = search laws
-
-pub put_values-requires : goal.put_values-requires
-put_values-requires c = search laws
+pub returns-in_default : goal.returns-in_default
+returns-in_default c = rw c.in_default.is (number_base c.args.q.now c.args.ask c.args.b.now c.put_part-base.ensures)
 
 pub returns : goal.returns
-returns c = search laws
+returns c =
+    rw c.in-Some.is (number_by_lem c.args.q.now c.args.ask c.args.b.now (rw c.in-Some.is at c.requires.scheme_stands) c.bytes_of-t.ensures
+    c.scheme_of-scheme.result c.scheme_of-scheme.ensures c.put_part-base.ensures c.put_values.ensures)

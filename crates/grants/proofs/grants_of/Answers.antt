@@ -14,12 +14,6 @@ name_stop-stop-requires c = search laws
 pub factor_of-factor-requires : goal.factor_of-factor-requires
 factor_of-factor-requires c = search laws
 
-pub slice_bounds-enter-end : goal.slice_bounds-enter-end
-slice_bounds-enter-end c = search laws
-
-pub enter-requires : goal.enter-requires
-enter-requires c = search laws
-
 pub next_name-here-requires : goal.next_name-here-requires
 next_name-here-requires c = search laws
 

@@ -1,21 +1,13 @@
 -- `judging::brought_by` meets its contract.
-use borrow.Author.Rules.{rules}
-use Rattle.judging.proofs.JudgeLaws.{brings_none, brings_row}
+use Rattle.fields.proofs.GivenLaws.{none_with}
+use Rattle.judging.proofs.JudgeLaws.{brings_none, brings_bad, brings_row}
 use Rattle.judging.proofs.brought_by.Goals as goal
 
-ruleset laws = (rules, brings_none, brings_row)
-
-pub brings_nothing-requires : goal.brings_nothing-requires
-brings_nothing-requires c = search laws
-
 pub returns-then-brings_nothing : goal.returns-then-brings_nothing
-returns-then-brings_nothing c = search laws
+returns-then-brings_nothing c = brings_none c.args.line.now c.brings_nothing.ensures c.if-brings_nothing.true
 
-pub price_line-row-requires : goal.price_line-row-requires
-price_line-row-requires c = search laws
-
-pub record_size-size-requires : goal.record_size-size-requires
-record_size-size-requires c = search laws
+pub returns-in_err-row : goal.returns-in_err-row
+returns-in_err-row c = none_with _ _ c.from_residual.ensures (brings_bad c.args.line.now c.brings_nothing.ensures c.if-brings_nothing.false c.in_err-row.ensures)
 
 pub returns : goal.returns
-returns c = search laws
+returns c = brings_row c.args.line.now c.brings_nothing.ensures c.if-brings_nothing.false c.in_ok-row.ensures c.record_size.ensures

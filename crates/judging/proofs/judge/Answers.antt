@@ -1,33 +1,15 @@
 -- `judging::judge` meets its contract: from each line on, what is left of the room decides.
-use borrow.Author.Rules.{rules}
-use Rattle.judging.proofs.JudgeLaws.{judge_start, judge_on, judge_bad, judge_end}
+use Rattle.judging.proofs.JudgeLaws.{judge_on, judge_bad, judge_fits, judge_short}
 use Rattle.judging.proofs.judge.Goals as goal
 
-ruleset laws = (rules, judge_start, judge_on, judge_bad, judge_end)
-
-pub loop-at-init : goal.loop-at-init
-loop-at-init c = search laws
-
-pub cut_at-end-requires : goal.cut_at-end-requires
-cut_at-end-requires c = search laws
-
-pub brought_by-brought-requires : goal.brought_by-brought-requires
-brought_by-brought-requires c = search laws
-
-pub less-left-requires : goal.less-left-requires
-less-left-requires c = search laws
-
 pub loop-at-preserved : goal.loop-at-preserved
-loop-at-preserved c = search laws
+loop-at-preserved c = judge_on c.loop-at.invariant c.loop-at-test.true c.cut_at-end.ensures c.in-Some.ensures c.less-left.ensures
 
-pub bad_line-requires : goal.bad_line-requires
-bad_line-requires c = search laws
+pub returns-in_default : goal.returns-in_default
+returns-in_default c = judge_bad c.loop-at.invariant c.loop-at-test.true c.cut_at-end.ensures c.in_default.ensures c.refused.ensures
 
-pub returns-else-brought : goal.returns-else-brought
-returns-else-brought c = search laws
+pub returns-in-Some-left : goal.returns-in-Some-left
+returns-in-Some-left c = judge_fits c.loop-at.invariant c.in-Some-left.is c.loop-at-test.false
 
-pub all_good-requires : goal.all_good-requires
-all_good-requires c = search laws
-
-pub returns : goal.returns
-returns c = search laws
+pub returns-in-None : goal.returns-in-None
+returns-in-None c = judge_short c.loop-at.invariant c.in-None.is c.loop-at-test.false c.refused-in-None.ensures

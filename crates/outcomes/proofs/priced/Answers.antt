@@ -1,12 +1,9 @@
 -- `outcomes::priced` meets its contract: the same is asked on that day, within the same window.
-use borrow.Author.Rules.{rules}
-use Rattle.outcomes.proofs.OutcomeLaws.{asked_then, window_then, shared_then, priced_for}
+use Rattle.outcomes.proofs.OutcomeLaws.{asked_then, priced_for}
 use Rattle.outcomes.proofs.priced.Goals as goal
 
-ruleset laws = (rules, asked_then, window_then, shared_then, priced_for)
-
-pub outcome_on-requires : goal.outcome_on-requires
-outcome_on-requires c = search laws
+pub outcome_on-requires-clause-asked : goal.outcome_on-requires-clause-asked
+outcome_on-requires-clause-asked c = asked_then c.on.ensures c.requires.asked
 
 pub returns : goal.returns
-returns c = search laws
+returns c = priced_for c.on.ensures c.outcome_on.ensures

@@ -1,4 +1,4 @@
--- `pairs::window_ok` meets its contract: what was passed is tested, by the laws `window_..`, and the two counters go with the place.
+-- `pairs::window_ok` meets its contract: what was passed is tested, by the laws `window_..`.
 use borrow.Author.Rules.{rules}
 use Rattle.pairs.proofs.PairLaws.{window_start, window_again, window_end}
 use Rattle.pairs.proofs.window_ok.Goals as goal
@@ -7,9 +7,6 @@ ruleset laws = (rules, window_start, window_again, window_end)
 
 pub loop-i-init : goal.loop-i-init
 loop-i-init c = search laws
-
-pub is_name_byte-requires : goal.is_name_byte-requires
-is_name_byte-requires c = search laws
 
 pub loop-i-preserved : goal.loop-i-preserved
 loop-i-preserved c = search laws

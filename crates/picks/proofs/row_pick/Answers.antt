@@ -8,8 +8,8 @@ ruleset laws = (rules, found_held, row_picked)
 pub row_at-row-requires : goal.row_at-row-requires
 row_at-row-requires c = search laws
 
-pub rounding_at-rounding-requires : goal.rounding_at-rounding-requires
-rounding_at-rounding-requires c = search laws
+pub rounding_at-requires : goal.rounding_at-requires
+rounding_at-requires c = search laws
 
 pub returns : goal.returns
 returns c = search laws

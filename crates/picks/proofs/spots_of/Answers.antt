@@ -1,9 +1,10 @@
 -- `picks::spots_of` meets its contract: few spots were noted, many are walked for, by `few_noted` and `many_walked`.
 use borrow.Author.Rules.{rules}
+use Rattle.lookup.proofs.LookupLaws.{noted_front}
 use Rattle.picks.proofs.PickLaws.{window_long, roundings_between, few_noted, many_walked}
 use Rattle.picks.proofs.spots_of.Goals as goal
 
-ruleset laws = (rules, window_long, roundings_between, few_noted, many_walked)
+ruleset laws = (rules, window_long, roundings_between, few_noted, noted_front, many_walked)
 
 pub spots_among-requires : goal.spots_among-requires
 spots_among-requires c = search laws

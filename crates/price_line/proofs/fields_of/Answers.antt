@@ -1,21 +1,14 @@
--- `price_line::fields_of` meets its contract: up to each place the fields before it were read.
+-- `price_line::fields_of` meets its contract: one field after the other.
+use Rattle.fields.proofs.GivenLaws.{none_with}
 use borrow.Author.Rules.{rules}
-use Rattle.price_line.proofs.FieldsLaws.{fields_start, fields_on, fields_end}
+use Rattle.price_line.proofs.FieldsLaws.{fields_none, fields_on, fields_stop}
 use Rattle.price_line.proofs.fields_of.Goals as goal
 
-ruleset laws = (rules, fields_start, fields_on, fields_end)
-
-pub field_at-first-requires : goal.field_at-first-requires
-field_at-first-requires c = search laws
-
-pub loop-k-init : goal.loop-k-init
-loop-k-init c = search laws
-
-pub next_field-f-requires : goal.next_field-f-requires
-next_field-f-requires c = search laws
+pub returns-in_err-first : goal.returns-in_err-first
+returns-in_err-first c = none_with _ _ c.from_residual.ensures (fields_none c.args.line.now c.in_err-first.ensures)
 
 pub loop-k-preserved : goal.loop-k-preserved
-loop-k-preserved c = search laws
+loop-k-preserved c = fields_on c.loop-k.invariant (search rules) c.in_ok-fields.ensures
 
-pub returns : goal.returns
-returns c = search laws
+pub returns-in_err-fields : goal.returns-in_err-fields
+returns-in_err-fields c = none_with _ _ c.from_residual-in_err-fields.ensures (fields_stop c.loop-k.invariant (search rules) c.in_err-fields.ensures)

@@ -1,19 +1,16 @@
 -- `price_line::priced_of` meets its contract.
-use borrow.Author.Rules.{rules}
-use Rattle.price_line.proofs.FieldsLaws.{field_text}
-use Rattle.price_line.proofs.GroupLaws.{priced_is}
+use Rattle.fields.proofs.GivenLaws.{none_with}
+use Rattle.price_line.proofs.GroupLaws.{no_amount, no_flag, no_bounds, worth_is, priced_is}
 use Rattle.price_line.proofs.priced_of.Goals as goal
 
-ruleset laws = (rules, field_text, priced_is)
+pub returns-in_err-amount : goal.returns-in_err-amount
+returns-in_err-amount c = none_with _ _ c.from_residual.ensures (no_amount _ _ c.in_err-amount.ensures)
 
-pub value_in-amount-requires : goal.value_in-amount-requires
-value_in-amount-requires c = search laws
+pub returns-in_err-letter : goal.returns-in_err-letter
+returns-in_err-letter c = none_with _ _ c.from_residual-in_err-letter.ensures (no_flag _ _ c.in_ok-amount.ensures c.in_err-letter.ensures)
 
-pub flag_in-flag-requires : goal.flag_in-flag-requires
-flag_in-flag-requires c = search laws
-
-pub in_range-range-requires : goal.in_range-range-requires
-in_range-range-requires c = search laws
+pub returns-then-in_range : goal.returns-then-in_range
+returns-then-in_range c = priced_is (worth_is _ _ c.in_ok-amount.ensures c.in_ok-letter.ensures c.in_range.ensures c.if-in_range.true)
 
 pub returns : goal.returns
-returns c = search laws
+returns c = no_bounds _ _ c.in_ok-amount.ensures c.in_ok-letter.ensures c.in_range.ensures c.if-in_range.false

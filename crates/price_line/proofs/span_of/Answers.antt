@@ -1,19 +1,16 @@
 -- `price_line::span_of` meets its contract.
-use borrow.Author.Rules.{rules}
-use Rattle.price_line.proofs.FieldsLaws.{field_text}
-use Rattle.price_line.proofs.GroupLaws.{span_is}
+use Rattle.fields.proofs.GivenLaws.{none_with}
+use Rattle.price_line.proofs.GroupLaws.{no_from, no_to, no_upto, span_is}
 use Rattle.price_line.proofs.span_of.Goals as goal
 
-ruleset laws = (rules, field_text, span_is)
+pub returns-in_err-day_in : goal.returns-in_err-day_in
+returns-in_err-day_in c = none_with _ _ c.from_residual.ensures (no_from _ _ _ c.in_err-day_in.ensures)
 
-pub day_in-from-requires : goal.day_in-from-requires
-day_in-from-requires c = search laws
+pub returns-in_err-day_in-2 : goal.returns-in_err-day_in-2
+returns-in_err-day_in-2 c = none_with _ _ c.from_residual-in_err-day_in-2.ensures (no_to _ _ _ c.in_err-day_in-2.ensures)
 
-pub day_in-to-requires : goal.day_in-to-requires
-day_in-to-requires c = search laws
-
-pub number_in-upto-requires : goal.number_in-upto-requires
-number_in-upto-requires c = search laws
+pub returns-in_err-number_in : goal.returns-in_err-number_in
+returns-in_err-number_in c = none_with _ _ c.from_residual-in_err-number_in.ensures (no_upto _ _ _ c.in_err-number_in.ensures)
 
 pub returns : goal.returns
-returns c = search laws
+returns c = span_is c.args.from c.args.to c.args.upto c.in_ok-day_in.ensures c.in_ok-day_in-2.ensures c.in_ok-number_in.ensures

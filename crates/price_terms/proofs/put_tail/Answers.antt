@@ -5,9 +5,6 @@ use Rattle.price_terms.proofs.put_tail.Goals as goal
 
 ruleset laws = (rules, worth_room, span_room, tail_put)
 
-pub flag_digit-flag-requires : goal.flag_digit-flag-requires
-flag_digit-flag-requires c = search laws
-
 pub put_worth-span-requires : goal.put_worth-span-requires
 put_worth-span-requires c = search laws
 

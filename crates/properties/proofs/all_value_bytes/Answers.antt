@@ -1,18 +1,16 @@
--- `properties::all_value_bytes` meets its contract: the flag and what is left are the whole answer, by the laws `flag_..`.
+-- `properties::all_value_bytes` meets its contract: the flag at the end is the whole answer, by `flag_all`.
+use Prim.Native.Nat.{ℕ}
+use mathlib.Core.Bool.{true, ◌&&◌}
 use borrow.Author.Rules.{rules}
-use Rattle.layout.proofs.ReadingLaws.{flag_start, flag_again, flag_end}
+use Rattle.std.proofs.lemmas.Iterator.{YieldsList-from_slice}
+use Rattle.std.proofs.lemmas.Iterator.Consumers.{fold_from_yields_List}
+use Rattle.rules.specs.Bytes.{name_byte}
+use Rattle.rules.specs.Question.{value_byte}
+use Rattle.layout.proofs.ReadingLaws.{flag_all}
 use Rattle.properties.proofs.all_value_bytes.Goals as goal
 
-ruleset laws = (rules, flag_start, flag_again, flag_end)
-
-pub loop-i-init : goal.loop-i-init
-loop-i-init c = search laws
-
-pub is_value_byte-ok-requires : goal.is_value_byte-ok-requires
-is_value_byte-ok-requires c = search laws
-
-pub loop-i-preserved : goal.loop-i-preserved
-loop-i-preserved c = search laws
-
 pub returns : goal.returns
-returns c = search laws
+returns c =
+    let good = λ (b : ℕ). name_byte b && value_byte b in
+    flag_all good c.args.s.now
+    (fold_from_yields_List {v = λ b. b.now} {all = c.args.s.now} _ (λ ok b. ok && good b) true c.fold.result c.fold.ensures.ran (YieldsList-from_slice c.args.s.now (cc)) (λ ok b r f k. (search rules, search rules)))

@@ -1,21 +1,12 @@
 -- `properties::valued_end` meets its contract: each way out by its law: nothing there, cut off, good, bad.
 use borrow.Author.Rules.{rules}
-use Rattle.properties.proofs.PropertyLaws.{value_empty, value_cut, value_good, value_bad}
+use Rattle.properties.proofs.PropertyLaws.{value_cut, value_good, value_bad}
 use Rattle.properties.proofs.valued_end.Goals as goal
 
-ruleset laws = (rules, value_empty, value_cut, value_good, value_bad)
-
-pub returns-then-s-at : goal.returns-then-s-at
-returns-then-s-at c = search laws
-
-pub wide-n-requires : goal.wide-n-requires
-wide-n-requires c = search laws
+ruleset laws = (rules, value_cut, value_good, value_bad)
 
 pub returns-then-s-from : goal.returns-then-s-from
 returns-then-s-from c = search laws
-
-pub all_value_bytes-requires : goal.all_value_bytes-requires
-all_value_bytes-requires c = search laws
 
 pub returns-then-n-width : goal.returns-then-n-width
 returns-then-n-width c = search laws

@@ -1,24 +1,14 @@
--- `property_list::held_end` meets its contract: no name, no kind byte, a kind that is none, or what the value says; a law for each.
-use borrow.Author.Rules.{rules}
-use Rattle.property_list.proofs.HeldLaws.{held_unnamed, held_cut, held_odd, held_ends}
+-- `property_list::held_end` meets its contract: behind a name and a kind byte it ends with its value, by `held_ends`.
+use Prim.Native.Nat.{◌+◌}
+use native.Mathlib.Omega.{arith}
+use Rattle.layout.proofs.EndLaws.{end_as}
+use lib.ListN.{get_or}
+use Rattle.property_list.specs.Listed.{ValueEnds, HeldEnds}
+use Rattle.property_list.proofs.HeldLaws.{held_ends}
 use Rattle.property_list.proofs.held_end.Goals as goal
 
-ruleset laws = (rules, held_unnamed, held_cut, held_odd, held_ends)
-
-pub name_end-stop-requires : goal.name_end-stop-requires
-name_end-stop-requires c = search laws
-
-pub returns-then-stop-lt1 : goal.returns-then-stop-lt1
-returns-then-stop-lt1 c = search laws
-
-pub returns-then-s-stop : goal.returns-then-s-stop
-returns-then-s-stop c = search laws
-
-pub returns-then-kind-gt2 : goal.returns-then-kind-gt2
-returns-then-kind-gt2 c = search laws
-
-pub value_end-requires : goal.value_end-requires
-value_end-requires c = search laws
-
 pub returns : goal.returns
-returns c = search laws
+returns c =
+    let s = c.args.s.now in
+    let stop = c.in_ok-stop in
+    end_as (ValueEnds (get_or s stop.stop 0) s (stop.stop + 1)) (HeldEnds s c.args.at) _ c.value_end.ensures (λ r q. held_ends stop.ensures.0 stop.ensures.1 (omega arith) (omega arith) q)

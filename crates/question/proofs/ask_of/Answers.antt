@@ -8,14 +8,8 @@ ruleset laws = (rules, ask_long, ask_version, ask_count, ask_names, ask_at)
 pub bounds-s-5 : goal.bounds-s-5
 bounds-s-5 c = search laws
 
-pub wide-a-requires : goal.wide-a-requires
-wide-a-requires c = search laws
-
 pub bounds-s-count : goal.bounds-s-count
 bounds-s-count c = search laws
-
-pub wide-requires : goal.wide-requires
-wide-requires c = search laws
 
 pub bounds-s-4 : goal.bounds-s-4
 bounds-s-4 c = search laws
@@ -26,6 +20,3 @@ names_stop-g-requires c = search laws
 pub ask_from-requires : goal.ask_from-requires
 ask_from-requires c = ask_at _ c.requires c.wide-a.ensures
     c.wide.ensures c.names_stop-g.ensures
-
-pub returns : goal.returns
-returns c = search laws

@@ -1,28 +1,15 @@
 -- `questions::questions_of` meets its contract: question after question, by the laws `reading_..`.
-use borrow.Author.Rules.{rules}
-use Rattle.questions.proofs.ReadLaws.{reading_start, reading_here, reading_many, reading_broken, reading_less}
-use Rattle.questions.proofs.ReadLaws.{reading_again, reading_end}
+use Rattle.questions.proofs.ReadLaws.{reading_many, reading_broken, reading_again, reading_end}
 use Rattle.questions.proofs.questions_of.Goals as goal
 
-ruleset laws = (rules, reading_start, reading_here, reading_many, reading_broken, reading_less, reading_again, reading_end)
-
-pub loop-at-init : goal.loop-at-init
-loop-at-init c = search laws
-
 pub returns-then-most-count : goal.returns-then-most-count
-returns-then-most-count c = search laws
+returns-then-most-count c = reading_many _ _ c.loop-at.invariant c.loop-at-test.true c.if-most-count.true
 
-pub question_end-end-requires : goal.question_end-end-requires
-question_end-end-requires c = search laws
-
-pub returns-then-end-lt1 : goal.returns-then-end-lt1
-returns-then-end-lt1 c = search laws
-
-pub loop-at-smaller : goal.loop-at-smaller
-loop-at-smaller c = search laws
+pub returns-in_err-end : goal.returns-in_err-end
+returns-in_err-end c = rw c.from_residual.ensures (reading_broken _ _ c.loop-at.invariant c.loop-at-test.true c.in_err-end.ensures)
 
 pub loop-at-preserved : goal.loop-at-preserved
-loop-at-preserved c = search laws
+loop-at-preserved c = reading_again _ _ c.loop-at.invariant c.loop-at-test.true c.in_ok-end.ensures c.if-most-count.false
 
 pub returns : goal.returns
-returns c = search laws
+returns c = reading_end _ _ c.loop-at.invariant c.loop-at-test.false

@@ -5,7 +5,7 @@ use Rattle.questions.proofs.ReadLaws.{Reading}
 use Rattle.questions.proofs.questions_of.Given as goal
 
 abbrev pub invariant-loop-at : goal.invariant-loop-at
-invariant-loop-at l = Reading l.s l.most l.starts l.ends l.count l.at
+invariant-loop-at l = Reading l.s l.most l.stretches l.count l.at
 
 abbrev pub decreases-loop-at : goal.decreases-loop-at
 decreases-loop-at l = length l.s - l.at

@@ -1,11 +1,9 @@
--- `quote::outcome_on` meets its contract: the rows can be judged (`asked_judge`), and what is said of them is the day's outcome (`outcome_for`).
-use Rattle.picks.proofs.PickLaws.{asked_judge}
-use Rattle.quote.proofs.OutcomeLaws.{outcome_for}
+-- `quote::outcome_on` meets its contract: the rows can be judged (`slice_judge`), and what is said of them is the day's outcome (`outcome_for`).
+use Rattle.quote.proofs.OutcomeLaws.{slice_judge, outcome_for}
 use Rattle.quote.proofs.outcome_on.Goals as goal
 
 pub judge-verdict-requires : goal.judge-verdict-requires
-judge-verdict-requires c = asked_judge c.requires.asked c.picks_on-picks.ensures
+judge-verdict-requires c = slice_judge c.picks_on-picks.ensures c.requires.asked c.as_slice.ensures
 
 pub returns : goal.returns
-returns c =
-    outcome_for c.picks_on-picks.ensures c.judge-verdict.ensures
+returns c = outcome_for c.picks_on-picks.ensures c.requires.asked c.as_slice.ensures c.judge-verdict.ensures

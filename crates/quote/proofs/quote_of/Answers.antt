@@ -1,20 +1,14 @@
--- `quote::quote_of` meets its contract: the rows can be judged (`asked_judge`), and what is said of them and of the granted names is so (`quote_is`).
+-- `quote::quote_of` meets its contract: the rows can be judged (`slice_judge`), and what is said of them and of the granted names is so (`quote_is`).
 use borrow.Author.Rules.{rules}
-use Rattle.picks.proofs.PickLaws.{asked_judge, asked_few}
-use Rattle.quote.proofs.OutcomeLaws.{quote_is}
+use Rattle.quote.proofs.OutcomeLaws.{slice_judge, quote_is}
 use Rattle.quote.proofs.quote_of.Goals as goal
 
-ruleset laws = (rules, asked_judge, asked_few)
+pub judge-verdict-requires : goal.judge-verdict-requires
+judge-verdict-requires c = slice_judge c.picks_within-picks.ensures c.requires.asked c.as_slice.ensures
+
+pub unused-unused-requires : goal.unused-unused-requires
+unused-unused-requires c = search rules
 
 pub returns : goal.returns
 returns c =
-    quote_is c.picks_within-picks.ensures c.judge-verdict.ensures c.unused-unused.ensures
-
-pub picks_within-picks-requires : goal.picks_within-picks-requires
-picks_within-picks-requires c = search laws
-
-pub judge-verdict-requires : goal.judge-verdict-requires
-judge-verdict-requires c = search laws
-
-pub unused-unused-requires : goal.unused-unused-requires
-unused-unused-requires c = search laws
+    quote_is c.picks_within-picks.ensures c.requires.asked c.as_slice.ensures c.judge-verdict.ensures c.as_slice-2.ensures c.unused-unused.ensures

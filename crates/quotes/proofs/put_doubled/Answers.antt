@@ -5,14 +5,14 @@ use Rattle.quotes.proofs.put_doubled.Goals as goal
 
 ruleset laws = (rules, fold_start, fold_room, fold_on, fold_end)
 
-pub loop-i-init : goal.loop-i-init
-loop-i-init c = search laws
+pub loop-byte-init : goal.loop-byte-init
+loop-byte-init c = search laws
 
 pub put_times-to-requires : goal.put_times-to-requires
 put_times-to-requires c = search laws
 
-pub loop-i-preserved : goal.loop-i-preserved
-loop-i-preserved c = search laws
+pub loop-byte-preserved : goal.loop-byte-preserved
+loop-byte-preserved c = search laws
 
 pub returns : goal.returns
 returns c = search laws

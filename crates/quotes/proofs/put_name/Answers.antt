@@ -5,9 +5,6 @@ use Rattle.quotes.proofs.put_name.Goals as goal
 
 ruleset laws = (rules, quoted_room, bare_room, bare_end, quoted_put, bare_put)
 
-pub needs_quotes-requires : goal.needs_quotes-requires
-needs_quotes-requires c = search laws
-
 pub put_quoted-requires : goal.put_quoted-requires
 put_quoted-requires c = search laws
 

@@ -12,11 +12,11 @@ loop-at-init c = search laws
 pub record_stop-end-requires : goal.record_stop-end-requires
 record_stop-end-requires c = search laws
 
-pub sighted_after-seen-requires : goal.sighted_after-seen-requires
-sighted_after-seen-requires c = search laws
+pub after-seen-requires : goal.after-seen-requires
+after-seen-requires c = search laws
 
-pub note_spot-count-requires : goal.note_spot-count-requires
-note_spot-count-requires c = search laws
+pub note_spot-requires : goal.note_spot-requires
+note_spot-requires c = search laws
 
 pub loop-at-preserved : goal.loop-at-preserved
 loop-at-preserved c = search laws

@@ -5,7 +5,7 @@ use Rattle.survey.proofs.SurveyLaws.{Passed}
 use Rattle.survey.proofs.find.Given as goal
 
 abbrev pub invariant-loop-at : goal.invariant-loop-at
-invariant-loop-at l = Passed l.b l.article l.sort l.seen l.spots l.count l.at
+invariant-loop-at l = Passed l.b l.article l.sort l.seen l.noted l.at
 
 abbrev pub decreases-loop-at : goal.decreases-loop-at
 decreases-loop-at l = length l.b - l.at

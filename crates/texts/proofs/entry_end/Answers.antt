@@ -8,9 +8,6 @@ ruleset laws = (rules, entry_short, entry_cut, entry_good)
 pub returns-then-s-at-lt6 : goal.returns-then-s-at-lt6
 returns-then-s-at-lt6 c = search laws
 
-pub two_at-requires : goal.two_at-requires
-two_at-requires c = search laws
-
 pub returns-then-end-s : goal.returns-then-end-s
 returns-then-end-s c = search laws
 

@@ -6,4 +6,4 @@ use Rattle.texts.proofs.refusal.Goals as goal
 ruleset laws = (rules, refusal_is)
 
 pub returns : goal.returns
-returns c = search laws
+returns c = rw c.into.ensures (refusal_is _)

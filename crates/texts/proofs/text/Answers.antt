@@ -5,9 +5,6 @@ use Rattle.texts.proofs.text.Goals as goal
 
 ruleset laws = (rules, fallback_fits, asked_fits, handed_fallback, handed_asked)
 
-pub text_answer-answer-requires : goal.text_answer-answer-requires
-text_answer-answer-requires c = search laws
-
 pub piece-requires : goal.piece-requires
 piece-requires c = search laws
 

@@ -5,14 +5,8 @@ use Rattle.values.proofs.put_next.Goals as goal
 
 ruleset laws = (rules, next_none, next_room, next_some)
 
-pub left_out-requires : goal.left_out-requires
-left_out-requires c = search laws
-
 pub returns-then-left_out : goal.returns-then-left_out
 returns-then-left_out c = search laws
-
-pub put_separator-from-requires : goal.put_separator-from-requires
-put_separator-from-requires c = search laws
 
 pub put_value-requires : goal.put_value-requires
 put_value-requires c = search laws

@@ -1,24 +1,12 @@
 -- `values::put_value` meets its contract: a law for each state.
 use borrow.Author.Rules.{rules}
-use Rattle.values.proofs.ValueLaws.{shown_room, value_long, valued, hidden, unselected}
+use Rattle.values.proofs.ValueLaws.{value_long, valued, hidden, unselected}
 use Rattle.values.proofs.put_value.Goals as goal
 
-ruleset laws = (rules, shown_room, value_long, valued, hidden, unselected)
+ruleset laws = (rules, value_long, valued, hidden, unselected)
 
 pub put_padded-requires : goal.put_padded-requires
 put_padded-requires c = search laws
-
-pub given_or-requires : goal.given_or-requires
-given_or-requires c = search laws
-
-pub put_run-requires : goal.put_run-requires
-put_run-requires c = search laws
-
-pub given_or-requires-in-Unselected : goal.given_or-requires-in-Unselected
-given_or-requires-in-Unselected c = search laws
-
-pub put_run-requires-in-Unselected : goal.put_run-requires-in-Unselected
-put_run-requires-in-Unselected c = search laws
 
 pub returns-in-Valued : goal.returns-in-Valued
 returns-in-Valued c = search laws

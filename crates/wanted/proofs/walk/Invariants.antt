@@ -5,8 +5,7 @@ use Rattle.wanted.proofs.WalkLaws.{Walking}
 use Rattle.wanted.proofs.walk.Given as goal
 
 abbrev pub invariant-loop-at : goal.invariant-loop-at
-invariant-loop-at l =
-    Walking l.b l.names l.starts l.ends l.n l.entries l.roundings l.spots l.count l.last l.at
+invariant-loop-at l = Walking l.b l.table.bytes.now l.table.names.now (length l.table.names.now) l.entries l.roundings l.noted l.last l.at
 
 abbrev pub decreases-loop-at : goal.decreases-loop-at
 decreases-loop-at l = length l.b - l.at

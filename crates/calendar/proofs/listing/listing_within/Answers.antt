@@ -1,30 +1,16 @@
 -- `calendar::listing::listing_within` meets its contract: refusals 9 and 3, or the stretches, by the laws `within_..`.
-use borrow.Author.Rules.{rules}
-use Rattle.calendar.proofs.ListingLaws.{within_9, within_3, within_done, found_window, days_size, days_there, days_dates}
+use Rattle.calendar.proofs.ListingLaws.{within_9, within_3, within_done, days_dates}
 use Rattle.calendar.proofs.listing.listing_within.Goals as goal
 
-ruleset laws = (rules, within_9, within_3, within_done, found_window, days_size, days_there, days_dates)
+pub returns-in_default : goal.returns-in_default
+returns-in_default c = within_9 c.args.book.now c.args.question.now c.args.ask c.args.end c.in_default.ensures c.from.ensures
 
-pub period_to-period-requires : goal.period_to-period-requires
-period_to-period-requires c = search laws
+pub stretches_in-requires-clause-dates : goal.stretches_in-requires-clause-dates
+stretches_in-requires-clause-dates c = days_dates c.in-Some.ensures c.as_slice.ensures c.requires.ask_is.day
 
-pub refused-requires : goal.refused-requires
-refused-requires c = search laws
+pub returns-in-Ok : goal.returns-in-Ok
+returns-in-Ok c =
+    within_done c.args.book.now c.args.question.now c.args.ask c.args.end c.in-Some.ensures c.requires.found_is c.in-Ok.ensures c.as_slice.ensures c.stretches_in.ensures
 
-pub returns-then-n-eq0 : goal.returns-then-n-eq0
-returns-then-n-eq0 c = search laws
-
-pub slice_bounds-stretches_in-end : goal.slice_bounds-stretches_in-end
-slice_bounds-stretches_in-end c = search laws
-
-pub stretches_in-stretches-requires : goal.stretches_in-stretches-requires
-stretches_in-stretches-requires c = record { ask_is = search rules; windows = search laws; dates = search laws; dates_nonzero = search laws }
-
-pub returns-then-found : goal.returns-then-found
-returns-then-found c = search laws
-
-pub refused-requires-2 : goal.refused-requires-2
-refused-requires-2 c = search laws
-
-pub returns : goal.returns
-returns c = search laws
+pub returns-in-Err : goal.returns-in-Err
+returns-in-Err c = within_3 c.args.book.now c.args.question.now c.args.ask c.args.end c.in-Some.ensures c.requires.found_is c.in-Err.ensures c.from-in-Err.ensures

@@ -6,14 +6,8 @@ use Rattle.choice.proofs.block.record_through.Goals as goal
 
 ruleset laws = (rules, row_kind, through_row, through_other)
 
-pub is_row-requires : goal.is_row-requires
-is_row-requires c = search laws
-
-pub row_of-row-requires : goal.row_of-row-requires
-row_of-row-requires c = search laws
-
-pub row_through-requires : goal.row_through-requires
-row_through-requires c = search laws
+pub row_of-requires : goal.row_of-requires
+row_of-requires c = search laws
 
 pub returns-then-is_row : goal.returns-then-is_row
 returns-then-is_row c = search laws

@@ -5,11 +5,5 @@ use Rattle.choice.proofs.hands.better.Goals as goal
 
 ruleset laws = (rules, better_is)
 
-pub limit-a-requires : goal.limit-a-requires
-limit-a-requires c = search laws
-
-pub limit-b-requires : goal.limit-b-requires
-limit-b-requires c = search laws
-
 pub returns : goal.returns
 returns c = search laws

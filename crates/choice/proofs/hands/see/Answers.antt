@@ -5,11 +5,5 @@ use Rattle.choice.proofs.hands.see.Goals as goal
 
 ruleset laws = (rules, seen_is)
 
-pub in_hand-asked-requires : goal.in_hand-asked-requires
-in_hand-asked-requires c = search laws
-
-pub in_hand-other-requires : goal.in_hand-other-requires
-in_hand-other-requires c = search laws
-
 pub returns : goal.returns
 returns c = search laws

@@ -6,14 +6,8 @@ use Rattle.choice.proofs.passing.passing.Goals as goal
 
 ruleset laws = (rules, row_kind, passes_row, passes_other)
 
-pub is_row-requires : goal.is_row-requires
-is_row-requires c = search laws
-
-pub row_of-row-requires : goal.row_of-row-requires
-row_of-row-requires c = search laws
-
-pub row_passing-requires : goal.row_passing-requires
-row_passing-requires c = search laws
+pub row_of-requires : goal.row_of-requires
+row_of-requires c = search laws
 
 pub returns-then-is_row : goal.returns-then-is_row
 returns-then-is_row c = search laws

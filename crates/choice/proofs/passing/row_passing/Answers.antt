@@ -1,24 +1,12 @@
--- `choice::passing::row_passing` meets its contract: by the laws `row_past` and `row_passes`.
-use borrow.Author.Rules.{rules}
-use Rattle.choice.proofs.PassingLaws.{row_past, row_passes}
+-- `choice::passing::row_passing` meets its contract: by the laws `row_past`, `row_nowhere` and `row_passes`.
+use Rattle.choice.proofs.PassingLaws.{row_past, row_nowhere, row_passes}
 use Rattle.choice.proofs.passing.row_passing.Goals as goal
 
-ruleset laws = (rules, row_past, row_passes)
-
-pub is_percent_base-requires : goal.is_percent_base-requires
-is_percent_base-requires c = search laws
-
-pub holds-requires : goal.holds-requires
-holds-requires c = search laws
-
 pub returns-then-not-stands : goal.returns-then-not-stands
-returns-then-not-stands c = search laws
+returns-then-not-stands c = row_past _ _ _ _ _ c.is_percent_base.ensures c.holds.ensures c.if-not-stands.true
 
-pub slot_of-slot-requires : goal.slot_of-slot-requires
-slot_of-slot-requires c = search laws
-
-pub is_asked-asked-requires : goal.is_asked-asked-requires
-is_asked-asked-requires c = search laws
+pub returns-in_err-slot : goal.returns-in_err-slot
+returns-in_err-slot c = rw c.from_residual.ensures (row_nowhere _ _ c.in_err-slot.ensures)
 
 pub returns : goal.returns
-returns c = search laws
+returns c = row_passes _ _ _ _ _ c.is_percent_base.ensures c.holds.ensures c.if-not-stands.false c.in_ok-slot.ensures c.is_asked.ensures

@@ -1,15 +1,12 @@
--- `choice::passing::slot_at` meets its contract: by the laws `slot_far` and `slot_near`.
+-- `choice::passing::slot_at` meets its contract: by the laws `slot_near` and `slot_far`.
 use borrow.Author.Rules.{rules}
-use Rattle.choice.proofs.PassingLaws.{slot_far, slot_near}
+use Rattle.choice.proofs.PassingLaws.{slot_near, slot_far}
 use Rattle.choice.proofs.passing.slot_at.Goals as goal
 
-ruleset laws = (rules, slot_far, slot_near)
+ruleset laws = (rules, slot_near, slot_far)
 
-pub returns-then-place-ge-NOWHERE : goal.returns-then-place-ge-NOWHERE
-returns-then-place-ge-NOWHERE c = search laws
+pub returns-then-place-lt-NOWHERE : goal.returns-then-place-lt-NOWHERE
+returns-then-place-lt-NOWHERE c = search laws
 
-pub level_number-requires : goal.level_number-requires
-level_number-requires c = search laws
-
-pub returns : goal.returns
-returns c = search laws
+pub returns-else-place-lt-NOWHERE : goal.returns-else-place-lt-NOWHERE
+returns-else-place-lt-NOWHERE c = search laws

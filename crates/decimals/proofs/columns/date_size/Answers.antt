@@ -1,12 +1,9 @@
 -- `decimals::columns::date_size` meets its contract.
 use borrow.Author.Rules.{rules}
-use Rattle.decimals.proofs.ColumnLaws.{date_none, date_some}
+use Rattle.file_rules.specs.Decimals.{date_text}
+use Rattle.decimals.specs.Texts.{shown}
 use Rattle.decimals.proofs.columns.date_size.Goals as goal
 
-ruleset laws = (rules, date_none, date_some)
-
-pub returns-then-n-lt1 : goal.returns-then-n-lt1
-returns-then-n-lt1 c = search laws
-
-pub returns-else-n-lt1 : goal.returns-else-n-lt1
-returns-else-n-lt1 c = search laws
+pub returns : goal.returns
+unfolding date_text shown
+returns c = search rules

@@ -5,8 +5,5 @@ use Rattle.decimals.proofs.columns.quantity_size.Goals as goal
 
 ruleset laws = (rules, size_ended)
 
-pub digit_count-requires : goal.digit_count-requires
-digit_count-requires c = search laws
-
 pub returns : goal.returns
 returns c = search laws

@@ -5,9 +5,6 @@ use Rattle.decimals.proofs.digits.put_decimal.Goals as goal
 
 ruleset laws = (rules, decimal_put)
 
-pub digit_count-k-requires : goal.digit_count-k-requires
-digit_count-k-requires c = search laws
-
 pub put_digits-requires : goal.put_digits-requires
 put_digits-requires c = search laws
 

@@ -1,18 +1,10 @@
--- `fields::lines::is_blank` meets its contract: what is left decides.
-use borrow.Author.Rules.{rules}
-use Rattle.fields.proofs.LineLaws.{blank_start, blank_on, blank_not, blank_end}
+-- `fields::lines::is_blank` meets its contract: each byte passes the test.
+use Rattle.std.proofs.Common.{rules, tests}
+use Rattle.std.proofs.lemmas.Iterator.{YieldsList-from_slice}
+use Rattle.std.proofs.lemmas.Iterator.Search.{all_from_yields_List}
+use Rattle.fields.proofs.LineLaws.{blank, blank_is}
 use Rattle.fields.proofs.lines.is_blank.Goals as goal
 
-ruleset laws = (rules, blank_start, blank_on, blank_not, blank_end)
-
-pub loop-i-init : goal.loop-i-init
-loop-i-init c = search laws
-
-pub loop-i-preserved : goal.loop-i-preserved
-loop-i-preserved c = search laws
-
-pub returns-else-line-i : goal.returns-else-line-i
-returns-else-line-i c = search laws
-
 pub returns : goal.returns
-returns c = search laws
+returns c =
+    blank_is c.args.line.now (all_from_yields_List blank _ _ c.all.result c.all.ensures.ran (YieldsList-from_slice c.args.line.now cc) (λ x b q k. search (rules, tests)))

@@ -8,5 +8,5 @@ ruleset laws = (rules, after_in, after_out)
 pub returns-then-comes : goal.returns-then-comes
 returns-then-comes c = search laws
 
-pub returns : goal.returns
-returns c = search laws
+pub returns-else-comes : goal.returns-else-comes
+returns-else-comes c = search laws

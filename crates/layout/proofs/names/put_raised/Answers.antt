@@ -1,16 +1,9 @@
--- `layout::names::put_raised` meets its contract: what is stored and what is left make up the whole, by the laws `store_..` and `raise_..`.
+-- `layout::names::put_raised` meets its contract: what is stored and what is left make up the whole, by the laws `raise_..`.
 use borrow.Author.Rules.{rules}
-use Rattle.layout.proofs.StoreLaws.{store_start}
 use Rattle.layout.proofs.NameLaws.{raise_again, raise_end}
 use Rattle.layout.proofs.names.put_raised.Goals as goal
 
-ruleset laws = (rules, store_start, raise_again, raise_end)
-
-pub loop-i-init : goal.loop-i-init
-loop-i-init c = search laws
-
-pub raise_byte-requires : goal.raise_byte-requires
-raise_byte-requires c = search laws
+ruleset laws = (rules, raise_again, raise_end)
 
 pub loop-i-preserved : goal.loop-i-preserved
 loop-i-preserved c = search laws

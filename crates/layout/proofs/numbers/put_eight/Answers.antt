@@ -5,11 +5,5 @@ use Rattle.layout.proofs.numbers.put_eight.Goals as goal
 
 ruleset laws = (rules, puts_eight)
 
-pub put_four-requires : goal.put_four-requires
-put_four-requires c = search laws
-
-pub put_four-requires-2 : goal.put_four-requires-2
-put_four-requires-2 c = search laws
-
 pub returns : goal.returns
 returns c = search laws

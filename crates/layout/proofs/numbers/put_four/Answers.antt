@@ -5,11 +5,5 @@ use Rattle.layout.proofs.numbers.put_four.Goals as goal
 
 ruleset laws = (rules, puts_four)
 
-pub put_two-requires : goal.put_two-requires
-put_two-requires c = search laws
-
-pub put_two-requires-2 : goal.put_two-requires-2
-put_two-requires-2 c = search laws
-
 pub returns : goal.returns
 returns c = search laws

@@ -5,7 +5,7 @@ use Rattle.lookup.specs.Roundings.{Placing}
 use Rattle.lookup.proofs.roundings.rounding_spots.Given as goal
 
 abbrev pub invariant-loop-at : goal.invariant-loop-at
-invariant-loop-at l = Placing l.b l.from l.numbers l.n l.spots l.low l.at
+invariant-loop-at l = Placing l.b l.from l.numbers (length l.numbers) l.spots l.low l.at
 
 abbrev pub decreases-loop-at : goal.decreases-loop-at
 decreases-loop-at l = length l.b - l.at

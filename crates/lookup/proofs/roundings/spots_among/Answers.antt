@@ -5,8 +5,8 @@ use Rattle.lookup.proofs.roundings.spots_among.Goals as goal
 
 ruleset laws = (rules, among_start, among_held, among_again, among_end)
 
-pub loop-j-init : goal.loop-j-init
-loop-j-init c = search laws
+pub loop-spot-init : goal.loop-spot-init
+loop-spot-init c = search laws
 
 pub rounding_at-rounding-requires : goal.rounding_at-rounding-requires
 rounding_at-rounding-requires c = search laws
@@ -14,8 +14,8 @@ rounding_at-rounding-requires c = search laws
 pub put_spots-requires : goal.put_spots-requires
 put_spots-requires c = search laws
 
-pub loop-j-preserved : goal.loop-j-preserved
-loop-j-preserved c = search laws
+pub loop-spot-preserved : goal.loop-spot-preserved
+loop-spot-preserved c = search laws
 
 pub returns : goal.returns
 returns c = search laws

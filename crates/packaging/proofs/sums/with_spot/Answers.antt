@@ -1,15 +1,16 @@
--- `packaging::sums::with_spot` meets its contract: an empty spot by `spot_empty`, any other by `spot_added`.
-use borrow.Author.Rules.{rules}
-use Rattle.packaging.proofs.SumLaws.{marks_held, spot_empty, spot_added}
+-- `packaging::sums::with_spot` meets its contract: by the laws `held_kind`, `spot_added` and `spot_empty`.
+use Rattle.packed.proofs.SumLaws.{room_left}
+use Rattle.packaging.proofs.SumLaws.{held_kind, spot_added, spot_empty}
 use Rattle.packaging.proofs.sums.with_spot.Goals as goal
 
-ruleset laws = (rules, marks_held, spot_empty, spot_added)
+pub packaging_of-requires : goal.packaging_of-requires
+packaging_of-requires c = held_kind c.bytes_of.ensures (rw c.in-Some.is at c.requires.held)
 
-pub returns-then-is_empty : goal.returns-then-is_empty
-returns-then-is_empty c = search laws
+pub add_pack-requires : goal.add_pack-requires
+add_pack-requires c = room_left c.requires.within c.packaging_of.ensures
 
-pub with_record-requires : goal.with_record-requires
-with_record-requires c = search laws
+pub returns-in-Some : goal.returns-in-Some
+returns-in-Some c = rw c.in-Some.is (spot_added c.bytes_of.ensures c.packaging_of.ensures c.add_pack.ensures)
 
-pub returns : goal.returns
-returns c = search laws
+pub returns-in-None : goal.returns-in-None
+returns-in-None c = rw c.in-None.is (spot_empty c.args.b.now c.args.s)

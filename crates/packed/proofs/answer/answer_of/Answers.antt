@@ -5,17 +5,8 @@ use Rattle.packed.proofs.answer.answer_of.Goals as goal
 
 ruleset laws = (rules, answer_given, answer_refused)
 
-pub none_below_zero-requires : goal.none_below_zero-requires
-none_below_zero-requires c = search laws
-
-pub gross_of-requires : goal.gross_of-requires
-gross_of-requires c = search laws
-
-pub returns-then-s-none_below_zero : goal.returns-then-s-none_below_zero
-returns-then-s-none_below_zero c = search laws
-
-pub refusal-requires : goal.refusal-requires
-refusal-requires c = search laws
+pub returns-then-not-none_below_zero : goal.returns-then-not-none_below_zero
+returns-then-not-none_below_zero c = search laws
 
 pub returns : goal.returns
 returns c = search laws

@@ -8,8 +8,8 @@ ruleset laws = (rules, sum_start, sum_fits, sum_again, sum_end)
 pub loop-i-init : goal.loop-i-init
 loop-i-init c = search laws
 
-pub overflow_add-sums : goal.overflow_add-sums
-overflow_add-sums c = search laws
+pub overflow_add-sum : goal.overflow_add-sum
+overflow_add-sum c = search laws
 
 pub loop-i-preserved : goal.loop-i-preserved
 loop-i-preserved c = search laws

@@ -1,10 +1,6 @@
 -- `packed::sums::values_after` meets its contract: each sum fits, and the sums below i are there, by the laws `sum_..`.
-use Prim.Native.Nat.{◌-◌}
 use Rattle.packed.proofs.ValueLaws.{Summing}
 use Rattle.packed.proofs.sums.values_after.Given as goal
 
 abbrev pub invariant-loop-i : goal.invariant-loop-i
-invariant-loop-i l = Summing l.held l.new l.sums l.i
-
-abbrev pub decreases-loop-i : goal.decreases-loop-i
-decreases-loop-i l = 8 - l.i
+invariant-loop-i l = Summing l.held l.new l.sum-items l.i

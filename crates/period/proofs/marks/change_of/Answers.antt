@@ -6,14 +6,8 @@ use Rattle.period.proofs.marks.change_of.Goals as goal
 
 ruleset laws = (rules, row_kind, row_change, no_change)
 
-pub is_row-requires : goal.is_row-requires
-is_row-requires c = search laws
-
 pub row_of-row-requires : goal.row_of-row-requires
 row_of-row-requires c = search laws
-
-pub change_by-requires : goal.change_by-requires
-change_by-requires c = search laws
 
 pub returns-then-is_row : goal.returns-then-is_row
 returns-then-is_row c = search laws

@@ -1,27 +1,12 @@
--- `price::answered::answer_to` meets its contract: each way out by its law, from what the functions before it ensure.
-use borrow.Author.Rules.{rules}
-use Rattle.price.proofs.AnsweredLaws.{unit_in}
-use Rattle.price.proofs.ReadyLaws.{ready_window, unknown, no_price, lines_listed, priced_put}
+-- `price::answered::answer_to` meets its contract: a price by `ready_priced`, a refusal by `ready_refused`.
+use Rattle.price.proofs.ReadyLaws.{ready_found, ready_priced, ready_refused}
 use Rattle.price.proofs.answered.answer_to.Goals as goal
 
-ruleset laws = (rules, unit_in, ready_window, unknown, no_price, lines_listed, priced_put)
+pub answer_at-requires-clause-found_is : goal.answer_at-requires-clause-found_is
+answer_at-requires-clause-found_is c = ready_found c.requires c.ask_of-ask.ensures
 
-pub put_if_room-end-requires : goal.put_if_room-end-requires
-put_if_room-end-requires c =
-    lines_listed c.requires c.ask_of-ask.ensures c.if-not-found.false c.quoted-quote.ensures c.if-outcome-ne0.false
+pub returns-in-Ok : goal.returns-in-Ok
+returns-in-Ok c = ready_priced c.requires c.ask_of-ask.ensures c.in-Ok.ensures
 
-pub returns : goal.returns
-returns c =
-    priced_put c.requires c.ask_of-ask.ensures c.if-not-found.false c.quoted-quote.ensures c.if-outcome-ne0.false c.answer-priced.ensures c.put_if_room-end.ensures
-
-pub returns-then-not-found : goal.returns-then-not-found
-returns-then-not-found c = search laws
-
-pub quoted-quote-requires : goal.quoted-quote-requires
-quoted-quote-requires c = search laws
-
-pub returns-then-outcome-ne0 : goal.returns-then-outcome-ne0
-returns-then-outcome-ne0 c = search laws
-
-pub answer-priced-requires : goal.answer-priced-requires
-answer-priced-requires c = search laws
+pub returns-in-Err : goal.returns-in-Err
+returns-in-Err c = ready_refused c.requires c.ask_of-ask.ensures c.in-Err.ensures c.from.ensures c.room_for.ensures

@@ -9,4 +9,4 @@ put_digits-requires c =
 
 pub returns : goal.returns
 returns c =
-    signed_prints c.args.z c.requires (simp (to_z-of_z, c.ranges.z) at c.put_sign-start.ensures) (simp (to_z-of_z, c.ranges.z) at c.distance.ensures) c.put_digits.ensures
+    signed_prints c.args.z c.requires (simp (to_z-of_z, c.ranges.z) at c.put_sign-start.ensures) (simp (to_z-of_z, c.ranges.z) at c.unsigned_abs.ensures.value) c.put_digits.ensures

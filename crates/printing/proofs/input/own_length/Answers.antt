@@ -6,23 +6,17 @@ use Rattle.printing.proofs.input.own_length.Goals as goal
 
 ruleset laws = (rules, read_start, read_on, read_end)
 
-pub least-m-requires : goal.least-m-requires
-least-m-requires c = search laws
-
-pub loop-i-init : goal.loop-i-init
-loop-i-init c = search laws
+pub loop-b-init : goal.loop-b-init
+loop-b-init c = search laws
 
 pub overflow_mul-n : goal.overflow_mul-n
-overflow_mul-n c = let small = read_fits c.least-m.ensures c.loop-i.invariant (search rules) in record { fits = omega (arith, small) }
-
-pub wide-requires : goal.wide-requires
-wide-requires c = search laws
+overflow_mul-n c = let small = read_fits c.loop-b.invariant (search rules) in record { fits = omega (arith, small) }
 
 pub overflow_add-n : goal.overflow_add-n
-overflow_add-n c = let small = read_fits c.least-m.ensures c.loop-i.invariant (search rules) in record { fits = omega (arith, small, c.wide.ensures.below) }
+overflow_add-n c = let small = read_fits c.loop-b.invariant (search rules) in record { fits = omega (arith, small, c.wide.ensures.below) }
 
-pub loop-i-preserved : goal.loop-i-preserved
-loop-i-preserved c = search laws
+pub loop-b-preserved : goal.loop-b-preserved
+loop-b-preserved c = search laws
 
 pub returns : goal.returns
 returns c = search laws

@@ -9,9 +9,6 @@ pub returns : goal.returns
 returns c =
     asks_listing _ (search rules) c.front-b.ensures c.front-q.ensures c.end_of-end.ensures c.listing_of.ensures
 
-pub refused-requires : goal.refused-requires
-refused-requires c = search laws
-
 pub returns-then-input-gt65536 : goal.returns-then-input-gt65536
 returns-then-input-gt65536 c = search laws
 

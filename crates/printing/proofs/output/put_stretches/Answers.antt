@@ -5,14 +5,14 @@ use Rattle.printing.proofs.output.put_stretches.Goals as goal
 
 ruleset laws = (rules, print_start, print_room, print_again, print_end)
 
-pub loop-i-init : goal.loop-i-init
-loop-i-init c = search laws
+pub loop-stretch-init : goal.loop-stretch-init
+loop-stretch-init c = search laws
 
 pub put_stretch-at-requires : goal.put_stretch-at-requires
 put_stretch-at-requires c = search laws
 
-pub loop-i-preserved : goal.loop-i-preserved
-loop-i-preserved c = search laws
+pub loop-stretch-preserved : goal.loop-stretch-preserved
+loop-stretch-preserved c = search laws
 
 pub returns : goal.returns
 returns c = search laws

@@ -27,17 +27,20 @@ put_signed-e-requires c =
           c.word_of-word.ensures c.put_word-d.ensures,
     )
 
-pub put_byte-requires : goal.put_byte-requires
-put_byte-requires c =
+pub put_bytes-requires : goal.put_bytes-requires
+put_bytes-requires c =
     let unit_fits : SFits w64 c.args.stretch.outcome.unit.0 = search rules in
-    room₅ c.args.stretch c.requires c.put_number-a.ensures c.put_number-b.ensures c.put_number-c.ensures
-    c.word_of-word.ensures c.put_word-d.ensures (simp (to_z-of_z, unit_fits) at c.put_signed-e.ensures)
+    omega (
+      arith,
+      room₅ c.args.stretch c.requires c.put_number-a.ensures c.put_number-b.ensures c.put_number-c.ensures
+          c.word_of-word.ensures c.put_word-d.ensures (simp (to_z-of_z, unit_fits) at c.put_signed-e.ensures),
+    )
 
 pub shape_of-out : goal.shape_of-out
 shape_of-out c =
     omega (
       arith,
-      c.put_byte.ensures.puts.long,
+      c.put_bytes.ensures.puts.long,
       c.put_signed-e.ensures.puts.long,
       c.put_word-d.ensures.puts.long,
       c.put_number-c.ensures.puts.long,
@@ -49,4 +52,4 @@ pub returns : goal.returns
 returns c =
     let unit_fits : SFits w64 c.args.stretch.outcome.unit.0 = search rules in
     line_prints c.args.stretch c.requires c.put_number-a.ensures c.put_number-b.ensures c.put_number-c.ensures
-    c.word_of-word.ensures c.put_word-d.ensures (simp (to_z-of_z, unit_fits) at c.put_signed-e.ensures) c.put_byte.ensures
+    c.word_of-word.ensures c.put_word-d.ensures (simp (to_z-of_z, unit_fits) at c.put_signed-e.ensures) c.put_bytes.ensures

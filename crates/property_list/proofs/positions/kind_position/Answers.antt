@@ -5,8 +5,5 @@ use Rattle.property_list.proofs.positions.kind_position.Goals as goal
 
 ruleset laws = (rules, kind_is)
 
-pub wide-requires : goal.wide-requires
-wide-requires c = search laws
-
 pub returns : goal.returns
 returns c = search laws

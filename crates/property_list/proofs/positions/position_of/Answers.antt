@@ -6,17 +6,11 @@ use Rattle.property_list.proofs.positions.position_of.Goals as goal
 
 ruleset laws = (rules, stop_less, look_slot, look_here, look_found, look_again, look_end)
 
-pub loop-at-init : goal.loop-at-init
-loop-at-init c = search laws
-
 pub kind_position-kind-requires : goal.kind_position-kind-requires
 kind_position-kind-requires c = search laws
 
 pub returns-then-same_raised : goal.returns-then-same_raised
 returns-then-same_raised c = search laws
-
-pub loop-at-smaller : goal.loop-at-smaller
-loop-at-smaller c = search laws
 
 pub loop-at-preserved : goal.loop-at-preserved
 loop-at-preserved c = search laws

@@ -5,8 +5,5 @@ use Rattle.question.proofs.names.name_stop.Goals as goal
 
 ruleset laws = (rules, granted_stop_lem)
 
-pub wide-requires : goal.wide-requires
-wide-requires c = search laws
-
 pub returns : goal.returns
 returns c = search laws

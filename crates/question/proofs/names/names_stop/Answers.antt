@@ -1,18 +1,13 @@
 -- `question::names::names_stop` meets its contract: what is left to pass ends where the whole ends, by the laws `pass_..`.
-use borrow.Author.Rules.{rules}
-use Rattle.layout.proofs.CountedLaws.{pass_start, pass_here, pass_again, pass_end}
+use native.Mathlib.Omega.{arith}
+use Rattle.layout.proofs.CountedLaws.{pass_here, pass_next, pass_end}
 use Rattle.question.proofs.names.names_stop.Goals as goal
 
-ruleset laws = (rules, pass_start, pass_here, pass_again, pass_end)
-
-pub loop-left-init : goal.loop-left-init
-loop-left-init c = search laws
-
 pub next_name-end-requires : goal.next_name-end-requires
-next_name-end-requires c = search laws
+next_name-end-requires c = pass_here c.loop.invariant (omega arith)
 
-pub loop-left-preserved : goal.loop-left-preserved
-loop-left-preserved c = search laws
+pub loop-preserved : goal.loop-preserved
+loop-preserved c = pass_next c.loop.invariant c.loop-test.true c.next_name-end.ensures.is
 
 pub returns : goal.returns
-returns c = record { is = search laws }
+returns c = record { is = pass_end c.loop.invariant (omega arith) }

@@ -1,12 +1,9 @@
 -- `question::names::next_name` meets its contract: the name ends there, or its factor.
 use borrow.Author.Rules.{rules}
-use Rattle.question.proofs.PartLaws.{factor_room, next_far, next_near}
+use Rattle.question.proofs.PartLaws.{next_far, next_near}
 use Rattle.question.proofs.names.next_name.Goals as goal
 
-ruleset laws = (rules, factor_room, next_far, next_near)
-
-pub name_stop-end-requires : goal.name_stop-end-requires
-name_stop-end-requires c = search laws
+ruleset laws = (rules, next_far, next_near)
 
 pub returns-then-version-eq-WITH_FACTORS : goal.returns-then-version-eq-WITH_FACTORS
 returns-then-version-eq-WITH_FACTORS c = search laws

@@ -5,11 +5,11 @@ use Rattle.quote.proofs.unused.brought.Goals as goal
 
 ruleset laws = (rules, flag_start, flag_again, flag_end)
 
-pub loop-i-init : goal.loop-i-init
-loop-i-init c = search laws
+pub loop-pick-init : goal.loop-pick-init
+loop-pick-init c = search laws
 
-pub loop-i-preserved : goal.loop-i-preserved
-loop-i-preserved c = search laws
+pub loop-pick-preserved : goal.loop-pick-preserved
+loop-pick-preserved c = search laws
 
 pub returns : goal.returns
 returns c = search laws

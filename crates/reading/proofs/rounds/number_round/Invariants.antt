@@ -8,8 +8,7 @@ use Rattle.reading.specs.Rounds.{Round}
 use Rattle.reading.proofs.rounds.number_round.Given as goal
 
 abbrev pub invariant-loop-at : goal.invariant-loop-at
-invariant-loop-at l =
-    Round l.file (over (records_at (l.c + 65535) [] (rows_in l.file)) l.initial.out) l.c l.out l.starts l.before l.last l.k l.at l.to l.more
+invariant-loop-at l = Round l.file (over (records_at (l.c + 65535) [] (rows_in l.file)) l.initial.out) l.c l.out l.at l.walk
 
 abbrev pub decreases-loop-at : goal.decreases-loop-at
 decreases-loop-at l = length l.file + 1 - l.at

@@ -1,27 +1,19 @@
--- `relation_truth::orders::text_order` meets its contract: the bytes before the position reached are alike, by the laws `text_..`.
-use borrow.Author.Rules.{rules}
-use Rattle.relation_truth.proofs.OrderLaws.{text_start, text_longer, text_shorter, text_level, text_decided, text_again}
+-- `relation_truth::orders::text_order` meets its contract: each way out by its law.
+use Rattle.std.proofs.Common.{arith, sym, ◌∙◌}
+use Rattle.relation_truth.proofs.OrderLaws.{text_start, text_longer, text_ends, text_decided, text_again}
 use Rattle.relation_truth.proofs.orders.text_order.Goals as goal
 
-ruleset laws = (rules, text_start, text_longer, text_shorter, text_level, text_decided, text_again)
-
 pub loop-i-init : goal.loop-i-init
-loop-i-init c = search laws
+loop-i-init c = text_start _ _ _
 
 pub returns-then-b-i : goal.returns-then-b-i
-returns-then-b-i c = search laws
+returns-then-b-i c = text_longer c.loop-i.invariant (omega arith) c.if-b-i.true
 
-pub byte_order-order-requires : goal.byte_order-order-requires
-byte_order-order-requires c = search laws
-
-pub returns-then-order-ne1 : goal.returns-then-order-ne1
-returns-then-order-ne1 c = search laws
+pub returns-then-is_ne : goal.returns-then-is_ne
+returns-then-is_ne c = text_decided c.loop-i.invariant (omega arith) c.if-b-i.false c.spoken_byte.ensures c.spoken_byte-in-loop-i.ensures c.cmp-order.ensures (sym c.is_ne.ensures ∙ c.if-is_ne.true)
 
 pub loop-i-preserved : goal.loop-i-preserved
-loop-i-preserved c = search laws
+loop-i-preserved c = text_again c.loop-i.invariant (omega arith) c.if-b-i.false c.spoken_byte.ensures c.spoken_byte-in-loop-i.ensures c.cmp-order.ensures (sym c.is_ne.ensures ∙ c.if-is_ne.false)
 
-pub returns-then-i-b : goal.returns-then-i-b
-returns-then-i-b c = search laws
-
-pub returns-else-i-b : goal.returns-else-i-b
-returns-else-i-b c = search laws
+pub returns : goal.returns
+returns c = text_ends c.loop-i.invariant (omega arith) c.cmp.ensures

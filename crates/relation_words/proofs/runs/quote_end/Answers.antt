@@ -1,18 +1,10 @@
--- `relation_words::runs::quote_end` meets its contract: no quote so far, by the laws `quote_..`.
-use borrow.Author.Rules.{rules}
-use Rattle.relation_words.proofs.RunLaws.{quote_start, quote_on, quote_stop, quote_over}
+-- `relation_words::runs::quote_end` meets its contract: no quote up to the one that it finds.
+use Rattle.std.proofs.Common.{rules, tests}
+use Rattle.relation_words.proofs.StretchLaws.{stretched_on}
+use Rattle.relation_words.proofs.RunLaws.{quote_run}
 use Rattle.relation_words.proofs.runs.quote_end.Goals as goal
 
-ruleset laws = (rules, quote_start, quote_on, quote_stop, quote_over)
-
-pub loop-i-init : goal.loop-i-init
-loop-i-init c = search laws
-
-pub returns-then-text-i-eq39 : goal.returns-then-text-i-eq39
-returns-then-text-i-eq39 c = search laws
-
-pub loop-i-preserved : goal.loop-i-preserved
-loop-i-preserved c = search laws
-
 pub returns : goal.returns
-returns c = search laws
+returns c =
+    let s = c.stretch_end.ensures in
+    quote_run (stretched_on s.on s.most (λ i h. let e = s.each i h in record { is = search (rules, tests) })) (λ h. let e = s.next h in record { is = search (rules, tests) })

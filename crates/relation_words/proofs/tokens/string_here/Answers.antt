@@ -1,13 +1,9 @@
 -- `relation_words::tokens::string_here` meets its contract: cut off, or to the closing quote.
-use borrow.Author.Rules.{rules}
+use Rattle.std.proofs.Common.{rules}
 use Rattle.relation_words.proofs.TokenLaws.{string_cut, string_whole}
-use Rattle.relation_words.proofs.NothingLaws.{no_string}
 use Rattle.relation_words.proofs.tokens.string_here.Goals as goal
 
-ruleset laws = (rules, no_string, string_cut, string_whole)
-
-pub quote_end-quote-requires : goal.quote_end-quote-requires
-quote_end-quote-requires c = search laws
+ruleset laws = (rules, string_cut, string_whole)
 
 pub returns-then-text-quote : goal.returns-then-text-quote
 returns-then-text-quote c = search laws

@@ -1,29 +1,18 @@
--- `relation_words::tokens::word_here` meets its contract: a word as a whole by `word_soon`, else what is heard byte by byte.
-use borrow.Author.Rules.{rules}
-use Rattle.relation_words.proofs.HeardLaws.{word_odd}
-use Rattle.relation_words.proofs.EndLaws.{token_stretch, word_soon}
-use Rattle.relation_words.proofs.NothingLaws.{no_word}
+-- `relation_words::tokens::word_here` meets its contract: a string or a number may not come, nor a token that is no word of the list.
+use Rattle.std.proofs.Common.{sym, ◌∙◌}
+use Rattle.relation_words.proofs.HeardLaws.{word_odd, word_none, word_found, no_word}
+use Rattle.relation_words.proofs.WordLaws.{placed_none, placed_some}
 use Rattle.relation_words.proofs.tokens.word_here.Goals as goal
 
-ruleset laws = (rules, no_word, word_odd, token_stretch, word_soon)
-
-pub is_figure-requires : goal.is_figure-requires
-is_figure-requires c = search laws
-
 pub returns-then-is_figure-b : goal.returns-then-is_figure-b
-returns-then-is_figure-b c = search laws
-
-pub token_end-to-requires : goal.token_end-to-requires
-token_end-to-requires c = search laws
-
-pub which_word-which-requires : goal.which_word-which-requires
-which_word-which-requires c = search laws
+returns-then-is_figure-b c = word_odd c.requires c.is_figure.ensures c.if-is_figure-b.true
 
 pub word_by_bytes-requires : goal.word_by_bytes-requires
-word_by_bytes-requires c = search laws
+word_by_bytes-requires c = no_word c.args.words.now c.token_end-to.ensures (placed_none _ c.args.words.now (sym c.which_word.ensures ∙ c.in_default.is))
 
-pub returns-then-which-eq0 : goal.returns-then-which-eq0
-returns-then-which-eq0 c = search laws
+pub returns-in_default : goal.returns-in_default
+returns-in_default c = word_none c.requires c.is_figure.ensures c.if-is_figure-b.false c.word_by_bytes.ensures
 
 pub returns : goal.returns
-returns c = search laws
+returns c =
+    word_found c.requires c.is_figure.ensures c.if-is_figure-b.false c.token_end-to.ensures (placed_some _ c.args.words.now (sym c.which_word.ensures ∙ c.in-Some.is))

@@ -1,21 +1,17 @@
--- `relations::conditions::joiner` meets its contract: the end, nothing that may come, or a word.
+-- `relations::conditions::joiner` meets its contract: the end, or a word.
 use borrow.Author.Rules.{rules}
-use Rattle.relations.proofs.JoinLaws.{join_end, join_none, join_word, byte_behind}
+use Rattle.std.proofs.Common.{arith}
+use Rattle.relations.proofs.JoinLaws.{join_none, join_and, join_or, join_closed}
 use Rattle.relations.proofs.conditions.joiner.Goals as goal
 
-ruleset laws = (rules, join_end, join_none, join_word, byte_behind)
+pub returns-in_err-word : goal.returns-in_err-word
+returns-in_err-word c = search (rules, join_none)
 
-pub blanks-from-requires : goal.blanks-from-requires
-blanks-from-requires c = search laws
+pub returns-in-1 : goal.returns-in-1
+returns-in-1 c = join_and _ c.blanks-from.ensures c.in_ok-word.ensures c.word_of.ensures (omega arith)
 
-pub returns-then-text-from : goal.returns-then-text-from
-returns-then-text-from c = search laws
+pub returns-in-2 : goal.returns-in-2
+returns-in-2 c = join_or _ c.blanks-from.ensures c.in_ok-word.ensures c.word_of.ensures (omega arith)
 
-pub closers-word-requires : goal.closers-word-requires
-closers-word-requires c = search laws
-
-pub returns-then-word-eq0 : goal.returns-then-word-eq0
-returns-then-word-eq0 c = search laws
-
-pub returns : goal.returns
-returns c = search laws
+pub returns-in_default : goal.returns-in_default
+returns-in_default c = join_closed _ c.blanks-from.ensures c.in_ok-word.ensures c.word_of.ensures (λ e. omega arith) (λ e. omega arith)

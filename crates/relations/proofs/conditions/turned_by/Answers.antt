@@ -1,4 +1,4 @@
--- `relations::conditions::turned_by` meets its contract: an even number of NOTs by `turned_not`, an odd one by `turned_so`.
+-- `relations::conditions::turned_by` meets its contract: an even number of NOTs, or an odd one.
 use borrow.Author.Rules.{rules}
 use Rattle.relations.proofs.StartLaws.{turned_not, turned_so}
 use Rattle.relations.proofs.conditions.turned_by.Goals as goal

@@ -5,8 +5,8 @@ use Rattle.relation_truth.specs.Values.{held_in}
 use Rattle.relations.proofs.TextLaws.{NamesSo}
 use Rattle.relations.proofs.names.names_of.Given as goal
 
-abbrev pub invariant-loop-slots : goal.invariant-loop-slots
-invariant-loop-slots l = NamesSo (held_in l.properties) l.text l.at l.names
+abbrev pub invariant-loop-one : goal.invariant-loop-one
+invariant-loop-one l = NamesSo (held_in l.properties) l.text l.at l.names
 
-abbrev pub decreases-loop-slots : goal.decreases-loop-slots
-decreases-loop-slots l = length l.text - l.at
+abbrev pub decreases-loop-one : goal.decreases-loop-one
+decreases-loop-one l = length l.text - l.at

@@ -1,4 +1,4 @@
--- `relations::starts::start_of` meets its contract: up to where it stands there are NOTs, and each way out is a law.
+-- `relations::starts::start_of` meets its contract: up to where it stands there are NOTs.
 use Prim.Native.Nat.{◌-◌}
 use lib.ListN.{length}
 use Rattle.relations.specs.Starts.{NotsOver}

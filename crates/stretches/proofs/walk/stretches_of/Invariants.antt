@@ -1,12 +1,7 @@
 -- `stretches::walk::stretches_of` meets its contract: the stretches closed, the one in hand and the days to come make up the whole, by
 -- the laws `by_..`.
-use Prim.Native.Nat.{◌-◌}
-use lib.ListN.{length}
 use Rattle.stretches.specs.Stretches.{GoingBy}
 use Rattle.stretches.proofs.walk.stretches_of.Given as goal
 
 abbrev pub invariant-loop-i : goal.invariant-loop-i
 invariant-loop-i l = GoingBy l.dates l.marks l.outcomes l.list l.n l.i
-
-abbrev pub decreases-loop-i : goal.decreases-loop-i
-decreases-loop-i l = length l.dates - l.i

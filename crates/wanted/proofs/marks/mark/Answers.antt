@@ -5,14 +5,11 @@ use Rattle.wanted.proofs.marks.mark.Goals as goal
 
 ruleset laws = (rules, marking_start, marking_again, marking_end)
 
-pub loop-i-init : goal.loop-i-init
-loop-i-init c = search laws
+pub loop-b-init : goal.loop-b-init
+loop-b-init c = search laws
 
-pub wide-requires : goal.wide-requires
-wide-requires c = search laws
-
-pub loop-i-preserved : goal.loop-i-preserved
-loop-i-preserved c = search laws
+pub loop-b-preserved : goal.loop-b-preserved
+loop-b-preserved c = search laws
 
 pub returns : goal.returns
 returns c = search laws

@@ -1,0 +1,77 @@
+// What a call answered, in a line: numbers in decimal, bytes in hexadecimal, each after a blank.
+use relation_rules::DerivedAnswer;
+use rules::{CalendarAnswer, PackagingAnswer, PlacedAnswer, PriceAnswer, TextAnswer, Written};
+use std::io;
+use std::io::Write;
+
+// An answer of one of the calls.
+pub trait Told {
+    fn tell(&self, to: &mut impl Write) -> io::Result<()>;
+}
+
+// Bytes in hexadecimal.
+pub fn hex(to: &mut impl Write, bytes: &[u8]) -> io::Result<()> {
+    to.write_all(b" ")?;
+    for b in bytes {
+        write!(to, "{b:02x}")?;
+    }
+    Ok(())
+}
+
+impl Told for PriceAnswer {
+    fn tell(&self, to: &mut impl Write) -> io::Result<()> {
+        write!(to, " {} {} {}", self.number, self.unit, self.total)?;
+        write!(to, " {} {} {}", self.lines, self.unused, self.unused_count)?;
+        hex(to, &self.currency)
+    }
+}
+
+impl Told for DerivedAnswer {
+    fn tell(&self, to: &mut impl Write) -> io::Result<()> {
+        write!(to, " {} {} {}", self.number, self.unit, self.total)?;
+        write!(to, " {} {}", self.lines, self.place)?;
+        write!(to, " {} {}", self.unused, self.unused_count)?;
+        hex(to, &self.currency)
+    }
+}
+
+impl Told for Written {
+    fn tell(&self, to: &mut impl Write) -> io::Result<()> {
+        write!(to, " {} {}", self.number, self.length)
+    }
+}
+
+impl Told for CalendarAnswer {
+    fn tell(&self, to: &mut impl Write) -> io::Result<()> {
+        write!(to, " {} {}", self.number, self.length)
+    }
+}
+
+impl Told for PlacedAnswer {
+    fn tell(&self, to: &mut impl Write) -> io::Result<()> {
+        write!(to, " {} {} {}", self.number, self.length, self.place)
+    }
+}
+
+impl Told for PackagingAnswer {
+    fn tell(&self, to: &mut impl Write) -> io::Result<()> {
+        write!(to, " {} {} {}", self.number, self.gross, self.present)?;
+        for value in &self.values {
+            write!(to, " {value}")?;
+        }
+        for unit in self.units.chunks(3) {
+            hex(to, unit)?;
+        }
+        Ok(())
+    }
+}
+
+impl Told for TextAnswer {
+    fn tell(&self, to: &mut impl Write) -> io::Result<()> {
+        write!(
+            to,
+            " {} {} {} {}",
+            self.number, self.book, self.place, self.length
+        )
+    }
+}
