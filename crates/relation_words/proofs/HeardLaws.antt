@@ -1,5 +1,5 @@
 -- What is heard at a position, kind by kind.
-use Prim.Native.Nat.{ℕ, suc, ◌+◌, ◌-◌, ◌≤◌, ◌<◌}
+use Prim.Native.Nat.{ℕ, zero, suc, ◌+◌, ◌-◌, ◌≤◌, ◌<◌}
 use mathlib.Core.Path.{◌≡◌, refl, sym, ◌∙◌, ap, subst}
 use mathlib.Core.Bool.{Bool, true, false, not, ◌&&◌, ◌||◌, cond, false≢true}
 use mathlib.Core.List.{List, [], ◌∷◌, map}
@@ -35,6 +35,16 @@ or_left_false false y e = refl
 or_right_false : (x y : Bool) → (x || y) ≡ false → y ≡ false
 or_right_false true y e = absurd (false≢true (sym e))
 or_right_false false y e = e
+
+-- a word of a list is in it
+pub same_any : (ws : List (List ℕ)) (l : List ℕ) (i : ℕ) → same l (word_of ws (suc i)) ≡ true → i < length ws → any (same l) ws ≡ true
+same_any [] l i h g = absurd (omega arith)
+same_any (v ∷ ws) l zero h g = ap (λ z. z || any (same l) ws) h
+same_any (v ∷ ws) l (suc i) h g = later (same l v) (any (same l) ws) (same_any ws l i h (omega arith))
+  where
+    later : (a b : Bool) → b ≡ true → (a || b) ≡ true
+    later true b q = refl
+    later false b q = q
 
 some_word_lem : (ws : List (List ℕ)) (k : ℕ) → 1 ≤ k → k ≤ length ws → some_word ws ≡ true
 some_word_lem [] k l h = absurd (omega arith)

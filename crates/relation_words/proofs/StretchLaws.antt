@@ -36,7 +36,7 @@ pub record StretchTo (p : ℕ → Bool) (s : List ℕ) (at r : ℕ) : Type 0 whe
   pub most : r ≤ length s
   pub passes : (i : ℕ) → at ≤ i → i < r → p (get_or s i 0) ≡ true
 
-all_more : (p : ℕ → Bool) (s : List ℕ) (at i : ℕ) → at ≤ i → i < length s → all p (part s at i) ≡ true → p (get_or s i 0) ≡ true → all p (part s at (suc i)) ≡ true
+pub all_more : (p : ℕ → Bool) (s : List ℕ) (at i : ℕ) → at ≤ i → i < length s → all p (part s at i) ≡ true → p (get_or s i 0) ≡ true → all p (part s at (suc i)) ≡ true
 all_more p s at i h l e f =
     ap (all p) (part_more s at i h l)
     ∙ all_append p (part s at i) (get_or s i 0 ∷ [])
