@@ -8,7 +8,7 @@ use Rattle.relation_rules.specs.Truth.{Below, Level, Above, unless_level, text_o
 use Rattle.relation_truth.specs.declared.Truth.{Truth}
 use Rattle.relation_truth.specs.Told.{TruthIs}
 
-level_same : (x y : List ℕ) → holds Equal (text_order x y) ≡ same x y
+pub level_same : (x y : List ℕ) → holds Equal (text_order x y) ≡ same x y
 unfolding text_order holds
 level_same [] [] = refl
 level_same [] (c ∷ t) = refl

@@ -21,9 +21,9 @@ use Rattle.relation_truth.specs.declared.values.Constant.TheVariants.{Text, Numb
 abbrev pub held_in : List ℕ → List Held
 held_in s = if_some (properties_of s) [] (λ ps. ps)
 
--- by its kind; a word is no operand
+-- by its kind; a word counts as the number 0
 abbrev pub operand_by : List ℕ → Kind → ℕ → ℕ → Operand
-operand_by s (Word k) from to = Given (Grammar.Text [])
+operand_by s (Word k) from to = Given (Grammar.Number (whole_of false 0))
 operand_by s AName from to = Property (map capital (part s from to))
 operand_by s AString from to = Given (Grammar.Text (part s (suc from) (to - 1)))
 operand_by s (Figure below size) from to = Given (Grammar.Number (whole_of below size))
@@ -38,7 +38,6 @@ pub record OperandIn (s : List ℕ) (t : Token) : Type 0 where
   pub most : t.to ≤ length s
   pub closed : t.kind ≡ AString → t.from + 2 ≤ t.to
   pub small : (below : Bool) (size : ℕ) → t.kind ≡ Figure below size → size < 1000000000000000000
-  pub asked : (k : ℕ) → t.kind ≡ Word k → ⊥
 
 -- the sign with a number, counted from 1
 abbrev pub sign_in : List Sign → ℕ → Sign

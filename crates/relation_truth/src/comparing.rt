@@ -3,7 +3,7 @@ ghost use Rattle.std.specs.Prelude.{MatchOption};
 ghost use Rattle.layout.specs.Ensures.{Says};
 ghost use Rattle.relation_rules.specs.Truth.{compared, holds};
 ghost use Rattle.relation_truth.specs.Told.{TruthIs, order_in, sign_told};
-ghost use Rattle.relation_truth.specs.Values.{NoSign, SignIs, value_in};
+ghost use Rattle.relation_truth.specs.Values.{NoSign, SignIs, sign_no, value_in};
 
 use crate::Truth;
 use crate::orders::text_order;
@@ -53,7 +53,7 @@ impl Sign {
 }
 
 // The truth of a comparison: undefined where a value is missing, and between a string and a number.
-pub fn compared_as(raised: bool, sign: Sign, a: Option<Constant>, b: Option<Constant>) -> Truth
+pub fn compared_by(raised: bool, sign: Sign, a: Option<Constant>, b: Option<Constant>) -> Truth
     ensures { TruthIs (compared raised (sign_told sign) (value_in a.entry) (value_in b.entry)) result }
 {
     let (Some(a), Some(b)) = (a, b) else {
@@ -66,4 +66,12 @@ pub fn compared_as(raised: bool, sign: Sign, a: Option<Constant>, b: Option<Cons
         (Constant::Number(a), Constant::Number(b)) => Truth::from(sign.holds(a.cmp(&b))),
         _ => Truth::Undefined,
     }
+}
+
+// By the sign's number; one that is no sign counts as the first.
+pub fn compared_as(raised: bool, sign: usize, a: Option<Constant>, b: Option<Constant>) -> Truth
+    ensures { TruthIs (compared raised (sign_no sign) (value_in a.entry) (value_in b.entry)) result }
+{
+    let said = Sign::numbered(sign).unwrap_or(Sign::Below);
+    compared_by(raised, said, a, b)
 }

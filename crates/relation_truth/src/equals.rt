@@ -21,7 +21,7 @@ pub fn is_string(value: Option<Constant>, string: &[u8]) -> Truth
     }
 }
 
-pub fn is_number(value: Option<Constant>, number: i64) -> Truth
+pub fn is_number(value: Option<Constant>, number: i128) -> Truth
     ensures { TruthIs (compared true Equal (value_in value.entry) (some (Number number))) result }
 {
     match value {

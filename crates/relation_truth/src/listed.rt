@@ -37,6 +37,6 @@ pub fn listed_value<'a>(p: &'a [u8], at: usize) -> Option<Constant<'a>>
     match p[at] {
         0 => None,
         1 => Some(Constant::Text(&p[at + 2..value_stop(p, at)])),
-        _ => Some(Constant::Number(number_at(p, at + 1))),
+        _ => Some(Constant::Number(i128::from(number_at(p, at + 1)))),
     }
 }

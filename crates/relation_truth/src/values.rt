@@ -1,5 +1,5 @@
 // The value of an operand: what stands in the text, or what the list of properties has of a name.
-ghost use Rattle.std.specs.Prelude.{◌≡◌, ◌<◌};
+ghost use Rattle.std.specs.Prelude.{◌≡◌};
 ghost use Rattle.property_list.specs.Slots.{SlotsOf};
 ghost use Rattle.relation_words.specs.Heard.{whole_of};
 ghost use Rattle.relation_truth.specs.Values.{OperandIn, ValueIs, operand_of};
@@ -13,19 +13,19 @@ use relation_words::tokens::{Kind, Token};
 #[derive(Clone, Copy)]
 pub enum Constant<'a> {
     Text(&'a [u8]),
-    Number(i64),
+    Number(i128),
 }
 
 // A number by its sign and its size.
-pub fn whole(below: bool, size: usize) -> i64
-    requires { size < 1000000000000000000 }
+pub fn whole(below: bool, size: usize) -> i128
     ensures { result ≡ whole_of below size }
 {
-    let n = size as i64;
+    let n = size as i128;
     if below { -n } else { n }
 }
 
-// The value of the operand that was heard: a name's is that of the first property of this name; a string's lies between its quotes.
+// The value of the operand that was heard: a name's is that of the first property of this name; a string's lies between its quotes. A word counts as
+// the number 0.
 pub fn value_of<'a>(
     text: &'a [u8],
     p: &'a [u8],
@@ -43,6 +43,6 @@ pub fn value_of<'a>(
         }
         Kind::Quoted => Some(Constant::Text(&text[x.from + 1..x.to - 1])),
         Kind::Figure { below, size } => Some(Constant::Number(whole(below, size))),
-        Kind::Word(_) => unreachable!(),
+        Kind::Word(_) => Some(Constant::Number(0)),
     }
 }

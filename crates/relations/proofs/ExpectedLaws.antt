@@ -1,7 +1,7 @@
 -- What comes at a position is one of the things that may, and where nothing does the reader stops.
 use Prim.Native.Nat.{ℕ, zero, suc, ◌-◌, ◌≤◌, ◌<◌}
 use mathlib.Core.Path.{◌≡◌, refl, sym, ◌∙◌, ap, subst}
-use mathlib.Core.Bool.{true, false, false≢true}
+use mathlib.Core.Bool.{true, false≢true}
 use mathlib.Core.List.{List, [], ◌∷◌, ◌++◌, map}
 use mathlib.Core.Option.{some}
 use native.Mathlib.Omega.{arith}
@@ -18,7 +18,7 @@ use Rattle.relation_words.specs.declared.tokens.Token.{Token as Found}
 use Rattle.relation_words.specs.declared.tokens.Stop.{Stop}
 use Rattle.relation_words.specs.Words.{word_of}
 use Rattle.relation_words.specs.Wanted.{Wanted, wanted_by, TokenHere}
-use Rattle.relation_words.specs.Heard.{whole_of, some_word, may_hear, TokenHeard, TokenHeardOn, NothingHeardOn}
+use Rattle.relation_words.specs.Heard.{whole_of, may_hear, TokenHeard, TokenHeardOn, NothingHeardOn}
 use Rattle.relation_truth.specs.Values.{operand_of, operand_by, OperandIn, sign_in}
 use Rattle.relations.specs.Expected.{wants_name, wants_operand, wants_constant, wants_open, wants_mark, wants_sign, only_words, word_in, is_named}
 use Rattle.relations.specs.Reading.{OperandAt}
@@ -100,9 +100,8 @@ module _ {ws : List (List ℕ)} {s : List ℕ} {at : ℕ} {t : Found} (h : Token
   here_token k e u f = h.word (word_in t.kind) (is_word ws t.kind h.asked) u (ap (λ j. token_of (suc at) (word_of ws j)) e ∙ f)
 
 -- it stands inside the text
-pub heard_inside : {w : Wanted} {s : List ℕ} {at : ℕ} {t : Found} → some_word w.words ≡ false → TokenHeardOn w s at t → OperandIn s t
-heard_inside {w} f h =
-    record { on = h.further; most = h.most; closed = h.closed; small = h.small; asked = λ k e. false≢true (sym f ∙ (ap (may_hear w) (sym e) ∙ h.asked)) }
+pub heard_inside : {w : Wanted} {s : List ℕ} {at : ℕ} {t : Found} → TokenHeardOn w s at t → OperandIn s t
+heard_inside h = record { on = h.further; most = h.most; closed = h.closed; small = h.small }
 
 pub record ConstantAt (s : List ℕ) (at : ℕ) (t : Found) : Type 0 where
   pub constant : Constant
@@ -132,7 +131,7 @@ module _ {s : List ℕ} {at : ℕ} {t : Found} where
       go (Figure below size) e = record { constant = Number (whole_of below size); is = by_kind s t e; token = h.whole below size e }
 
   pub is_operand : TokenHeardOn wants_operand s at t → OperandAt s at t
-  is_operand h = record { token = go t.kind refl; begins = h.begins; inside = heard_inside refl h }
+  is_operand h = record { token = go t.kind refl; begins = h.begins; inside = heard_inside h }
     where
       go : (k : Kind) → t.kind ≡ k → TokenAt (suc at) (drop at s) (operand_token (operand_of s t)) (suc t.to) (drop t.to s)
       go (Word j) e = absurd (false≢true (ap (may_hear wants_operand) (sym e) ∙ h.asked))

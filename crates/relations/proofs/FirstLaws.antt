@@ -82,7 +82,7 @@ module _ {s : List ℕ} {at : ℕ} {t : Found} (f : FirstAt s at t) where
       record {
         token = token t.kind refl;
         begins = f.gap.on;
-        inside = record { on = f.heard.further; most = f.heard.most; closed = f.heard.closed; small = f.heard.small; asked = n };
+        inside = record { on = f.heard.further; most = f.heard.most; closed = f.heard.closed; small = f.heard.small };
       }
     where
       token : (k : Kind) → t.kind ≡ k → TokenAt (suc at) (drop at s) (operand_token (operand_of s t)) (suc t.to) (drop t.to s)

@@ -9,7 +9,7 @@ use crate::expected::{CONSTANT, NAME, OPEN, OPERAND, is_name, mark_at, sign_at, 
 use crate::reader::Reader;
 use crate::told::{Read, Refused};
 use relation_truth::Truth;
-use relation_truth::comparing::{Sign, compared_as};
+use relation_truth::comparing::{Sign, compared_by};
 use relation_truth::equals::{is_number, is_string};
 use relation_truth::values::{Constant, value_of, whole};
 use relation_words::tokens::{Kind, Token, token_at};
@@ -31,7 +31,7 @@ impl<'a> Reader<'a> {
         ensures { ComparedAs (held_in self.now.properties.now) (operand_of self.now.text.now x) sign (operand_of self.now.text.now y) result }
     {
         let raised = is_name(x.kind) | is_name(y.kind);
-        compared_as(raised, sign, self.value(x), self.value(y))
+        compared_by(raised, sign, self.value(x), self.value(y))
     }
 
     // Whether a property's value is the constant that was heard.
@@ -43,7 +43,8 @@ impl<'a> Reader<'a> {
         match x.kind {
             Kind::Quoted => is_string(value, &self.text[x.from + 1..x.to - 1]),
             Kind::Figure { below, size } => is_number(value, whole(below, size)),
-            Kind::Word(_) | Kind::Name => unreachable!(),
+            Kind::Word(_) => is_number(value, 0),
+            Kind::Name => unreachable!(),
         }
     }
 
