@@ -129,6 +129,7 @@ module _ {s : List ℕ} {at i : ℕ} (g : Gap s at i) where
   unfolding wanted_by next
   if_none h =
       record {
+        reason = refl;
         on = through g.on h.on;
         most = h.most;
         wrong = λ d p v. gap_moves g deepest (AtValue d p v) ∙ (h.wrong refl).stops deepest (AtValue d p v) refl (and_false (eqb (get_or s i 0) (letter "(")));

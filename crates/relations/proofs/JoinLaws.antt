@@ -65,6 +65,7 @@ module _ (d : ℕ) {s : List ℕ} {at i : ℕ} (g : Gap s at i) where
   unfolding next
   join_none h =
       record {
+        reason = refl;
         on = through g.on h.on;
         most = h.most;
         wrong =

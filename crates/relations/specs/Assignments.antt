@@ -3,6 +3,7 @@ use Rattle.std.specs.Prelude.{ℕ, suc, ◌+◌, ◌≤◌, ◌≡◌, List, len
 use Rattle.std.proofs.Math.Option.{Option}
 use Rattle.rules.specs.Letters.{text}
 use Rattle.rules.specs.declared.Part.{Part}
+use Rattle.rules.specs.declared.Refusal.TheVariants.{BadRelation}
 use Rattle.layout.specs.Reads.{part}
 use Rattle.relation_rules.specs.Grammar.{Fixed, Chain, OrChain, Assignment, deepest}
 use Rattle.relation_rules.specs.Reader.{Start, AtValue, Between, run}
@@ -63,6 +64,7 @@ pub record BehindOver (s : List ℕ) (at : ℕ) (r : Behind) : Type 0 where
   pub is : BehindIs s at r
 
 pub record IfStop (s : List ℕ) (at : ℕ) (e : Refused) : Type 0 where
+  pub reason : e.refusal ≡ BadRelation
   pub on : at ≤ e.at
   pub most : e.at ≤ length s
   pub wrong : (d : Option (Chain Assignment)) (p : ℕ) (v : List ℕ) → run deepest (suc at) (Between (AtValue d p v)) (drop at s) ≡ refused_as e

@@ -2,6 +2,7 @@
 use Rattle.std.specs.Prelude.{ℕ, suc, ◌≤◌, ◌<◌, ◌≡◌, Bool, true, false, List, length, drop, get_or, Result, Ok, Err}
 use Rattle.std.proofs.Math.Option.{Option, some}
 use Rattle.rules.specs.Letters.{text}
+use Rattle.rules.specs.declared.Refusal.TheVariants.{BadRelation}
 use Rattle.relation_rules.specs.Grammar.{Fixed, Name, Constant, Equal, operand_token, Operand, OrChain, AndChain, deepest}
 use Rattle.relation_rules.specs.Grammar as Grammar
 use Rattle.relation_rules.specs.Reader.{Part, Around, AtSpecified, AtOpen, AtIn, AtSingle, Between, run}
@@ -147,6 +148,7 @@ pub record Joined (d : ℕ) (s : List ℕ) (at : ℕ) (next : Next) (after : ℕ
   pub further : (next ≡ End → ⊥) → at < after
 
 pub record JoinStop (d : ℕ) (s : List ℕ) (at : ℕ) (e : Refused) : Type 0 where
+  pub reason : e.refusal ≡ BadRelation
   pub on : at ≤ e.at
   pub most : e.at ≤ length s
   pub wrong : (w : Around) (os : Option OrChain) (a : AndChain) → length w.outer ≡ d → run deepest (suc at) (Between (AtSingle w os a)) (drop at s) ≡ refused_as e
