@@ -50,7 +50,7 @@ module _ (b : List ℕ) (f : Found) where
     spots_add {s} {r} from a = record { is = go from.is ∙ goes_on }
       where
         go : Come (used_in b f.own f.any) (Ok s) → written r ≡ shown (summed (used_in b f.own f.any))
-        go (Agree are) = a.is (used_in b f.own f.any) are
+        go (Agree fit) = a.is (used_in b f.own f.any) fit.are
 
     pub spots_clash : {e : Refusal} → SumsFrom (used_in b f.own f.any) (Err e) → AnswersFrom b f.own f.any (Err e)
     spots_clash {e} from = record { is = go e from.is ∙ goes_on }

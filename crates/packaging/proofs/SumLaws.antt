@@ -33,8 +33,8 @@ use Rattle.records.specs.Asks.{OfKind}
 use Rattle.records.specs.Ensures.{bytes_in, pack_in, PackIs}
 use Rattle.records.proofs.FieldLaws.{kind_byte}
 use Rattle.packed.specs.declared.sums.Sums.{Sums}
-use Rattle.packed.specs.Sums.{most_before, Added, Fits, Clashes, SumsAre, Within, nothing}
-use Rattle.packed.proofs.SumLaws.{sums_more, clash_more, clash_stays}
+use Rattle.packed.specs.Sums.{most_before, AddedFitting, Fits, Clashes, SumsFit, Within, nothing}
+use Rattle.packed.proofs.SumLaws.{clash_more, clash_stays, fitting_more}
 use Rattle.packaging.specs.Spots.{pack_held, Held, SpotIs, NoPack, OnePack, pack_there, AllHeld, used_from, used_in}
 use Rattle.packaging.specs.Sums.{Come, Agree, Clash, WithSpot, SumsFrom}
 
@@ -61,20 +61,20 @@ module _ {b : List ℕ} {p : Part} {t : List ℕ} (e : t ≡ bytes_in b p) where
   held_kind h = rw e (record { kind = kind_byte (bytes_in b p) (PackagingRecord h.pack) h.there.is; ok = ap is_some h.there.is })
 
   module _ {x : Packing} (h : PackIs t x) {s : Sums} where
-    pub spot_added : {r : Std.Result Sums Refusal} → Added s x r → WithSpot b s (Some p) r
+    pub spot_added : {r : Std.Result Sums Refusal} → AddedFitting s x r → WithSpot b s (Some p) r
     spot_added (Fits {r = r} a) = record {
-      is = λ us are. subst (λ (o : Option Pack). Come (us ++ cons_some o []) (Ok r)) (sym (there b p e h)) (Agree (sums_more t x are a));
+      is = λ us are. subst (λ (o : Option Pack). Come (us ++ cons_some o []) (Ok r)) (sym (there b p e h)) (Agree (fitting_more t x are a));
       near = a.values.near;
     }
     spot_added (Clashes c) = record {
-      is = λ us are. subst (λ (o : Option Pack). Come (us ++ cons_some o []) (Err UnfitPackaging)) (sym (there b p e h)) (Clash (clash_more t x are c));
+      is = λ us are. subst (λ (o : Option Pack). Come (us ++ cons_some o []) (Err UnfitPackaging)) (sym (there b p e h)) (Clash (clash_more t x are.are c));
       near = tt;
     }
 
 pub spot_empty : (b : List ℕ) (s : Sums) → WithSpot b s None (Ok s)
 unfolding pack_there
 spot_empty b s = record {
-  is = λ us are. Agree (subst (λ (ps : List Pack). SumsAre ps s) (sym (append-nil us)) are);
+  is = λ us are. Agree (subst (λ (ps : List Pack). SumsFit ps s) (sym (append-nil us)) are);
   near = λ i. omega arith;
 }
 
@@ -115,7 +115,7 @@ module _ (own any : List (Maybe Part)) (xs : List (Bor (Maybe Part) × Bor (Mayb
 pub record Adding (b : List ℕ) (own any : List (Maybe Part)) (s : Sums) (i : ℕ) : Type 0 where
   pub most : i ≤ 33
   pub before : List Pack
-  pub sums : SumsAre before s
+  pub sums : SumsFit before s
   pub rest : before ++ used_from b own any i (33 - i) ≡ used_in b own any
   pub near : (k : ℕ) → nat_abs (get_or s.values k (pos 0)) ≤ i * 10_000_000
 
@@ -124,7 +124,7 @@ module _ (b : List ℕ) (own any : List (Maybe Part)) where
   add_start = record {
     most = omega arith;
     before = [];
-    sums = record { present = refl; values = refl; units = refl; agree = refl };
+    sums = record { are = record { present = refl; values = refl; units = refl; agree = refl }; agree = refl };
     rest = refl;
     near = zero_near;
   }
@@ -175,7 +175,7 @@ module _ (b : List ℕ) (own any : List (Maybe Part)) where
           near = λ k. omega (arith, inv.near k, w.near k);
         }
           where
-            agreed : {us : List Pack} {r : Sums} → Come us (Ok r) → SumsAre us r
+            agreed : {us : List Pack} {r : Sums} → Come us (Ok r) → SumsFit us r
             agreed (Agree a) = a
 
         pub add_clash : {e : Refusal} → WithSpot b s spot (Err e) → SumsFrom (used_in b own any) (Err e)
@@ -191,6 +191,6 @@ module _ (b : List ℕ) (own any : List (Maybe Part)) where
     add_end h =
         let e : i ≡ 33 = omega (arith, inv.most) in
         record {
-          is = Agree (subst (λ (ps : List Pack). SumsAre ps s) (sym (append-nil inv.before) ∙ ap (λ (ps : List Pack). inv.before ++ ps) (sym (ap (λ (k : ℕ). used_from b own any k (33 - k)) e)) ∙ inv.rest) inv.sums);
+          is = Agree (subst (λ (ps : List Pack). SumsFit ps s) (sym (append-nil inv.before) ∙ ap (λ (ps : List Pack). inv.before ++ ps) (sym (ap (λ (k : ℕ). used_from b own any k (33 - k)) e)) ∙ inv.rest) inv.sums);
           within = record { each = λ k. omega (arith, inv.near k) };
         }

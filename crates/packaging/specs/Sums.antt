@@ -10,7 +10,7 @@ use Rattle.rules.specs.declared.Refusal.{Refusal}
 use Rattle.rules.specs.declared.Refusal.TheVariants.{UnfitPackaging}
 use Rattle.rules.specs.declared.PackagingAnswer.{PackagingAnswer}
 use Rattle.packed.specs.declared.sums.Sums.{Sums}
-use Rattle.packed.specs.Sums.{SumsAre, Within, most_sum}
+use Rattle.packed.specs.Sums.{SumsFit, Within, most_sum}
 use Rattle.packed.specs.Answer.{summed, written}
 use Rattle.packaging.specs.Spots.{pack_there, used_in}
 
@@ -18,12 +18,12 @@ use Rattle.packaging.specs.Spots.{pack_there, used_in}
 
 -- `r` is what these come to, or their units clash
 pub data Come (us : List Pack) : Std.Result Sums Refusal → Type 0 where
-  Agree : {s : Sums} → SumsAre us s → Come us (Ok s)
+  Agree : {s : Sums} → SumsFit us s → Come us (Ok s)
   Clash : all (units_agree us) three ≡ false → Come us (Err UnfitPackaging)
 
 -- with the record at a spot, if there is one
 pub record WithSpot (b : List ℕ) (s : Sums) (p : Maybe Part) (r : Std.Result Sums Refusal) : Type 0 where
-  pub is : (us : List Pack) → SumsAre us s → Come (us ++ cons_some (pack_there b p) []) r
+  pub is : (us : List Pack) → SumsFit us s → Come (us ++ cons_some (pack_there b p) []) r
   pub near : IfOk r (λ t. (i : ℕ) → nat_abs (get_or t.values i (pos 0)) ≤ nat_abs (get_or s.values i (pos 0)) + 10_000_000)
 
 pub record SumsFrom (us : List Pack) (r : Std.Result Sums Refusal) : Type 0 where

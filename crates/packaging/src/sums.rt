@@ -6,7 +6,7 @@ ghost use Rattle.packaging.specs.Sums.{WithSpot, SumsFrom};
 
 use crate::spots::Found;
 use grants::NOWHERE;
-use packed::sums::{NOTHING, Sums, add_pack};
+use packed::sums::{NOTHING, Sums, add_fitting};
 use records::{bytes_of, packaging_of};
 use rules::{Part, Refusal};
 
@@ -17,7 +17,7 @@ fn with_spot(b: &[u8], s: Sums, spot: Option<Part>) -> Result<Sums, Refusal>
     ensures { WithSpot b.now s spot result }
 {
     match spot {
-        Some(part) => add_pack(s, packaging_of(bytes_of(b, part))),
+        Some(part) => add_fitting(s, packaging_of(bytes_of(b, part))),
         None => Ok(s),
     }
 }

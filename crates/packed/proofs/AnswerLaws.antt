@@ -20,12 +20,22 @@ use Rattle.rules.specs.Refusals.{◌>>=◌, done, refused, refuse_unless}
 use Rattle.rules.specs.Packaging.{present_in, value_in, units_agree, gross_in, three, tare, net, items, packed_of, shown}
 use Rattle.rules.specs.declared.PackagingAnswer.{PackagingAnswer}
 use Rattle.rules.specs.declared.Refusal.TheVariants.{UnfitPackaging}
+use Rattle.rules.proofs.Promises.{refused_packaging}
 use Rattle.rules.proofs.PackagingLaws.{set_has}
 use Rattle.layout.specs.Ensures.{Says}
 use Rattle.packed.specs.declared.sums.Sums.{Sums}
 use Rattle.packed.specs.Sums.{letters_in, SumsAre, most_sum, Within}
 use Rattle.packed.specs.Answer.{GrossIs, none_below, summed, written, Answers}
 use Rattle.packed.proofs.ValueLaws.{kept, kept_is}
+
+pub refusal_is : (n : ℕ) → ◌≡◌ {A = PackagingAnswer} (record {
+  gross = pos 0;
+  values = replicate 8 (pos 0);
+  number = n;
+  present = 0;
+  units = replicate 9 0;
+}) (shown (refused n))
+refusal_is n = sym (refused_packaging n)
 
 module _ (s : Sums) where
   abbrev value : ℕ → ℤ
@@ -84,7 +94,7 @@ module _ {us : List Pack} {s : Sums} (are : SumsAre us s) where
       has_is : (k : ℕ) → k < 8 → has k (bit_set (keep (present_in us) eight)) ≡ present_in us k
       has_is = set_has (present_in us)
 
-  given : {g : ℤ} → GrossIs s g → none_below s.values ≡ true
+  given : {g : ℤ} → GrossIs s g → (s.agree && none_below s.values) ≡ true
       → ◌≡◌ {A = PackagingAnswer} (record {
         gross = g;
         values = s.values;
@@ -94,6 +104,7 @@ module _ {us : List Pack} {s : Sums} (are : SumsAre us s) where
       }) (shown (summed us))
   unfolding summed shown packed_of
   given {g} h e =
+      let t : (all (units_agree us) three && all (λ i. non_neg (value_in us i)) eight) ≡ true = sym (λ i. are.agree i && below_is i) ∙ e in
       (λ i. record {
         gross = gross_is h i;
         values = are.values i;
@@ -101,14 +112,14 @@ module _ {us : List Pack} {s : Sums} (are : SumsAre us s) where
         present = are.present i;
         units = join (are.units i);
       })
-      ∙ sym (λ i. shown (refuse_unless 11 (are.agree i && (sym below_is ∙ e) i) >>= λ _. done (packed_of us)))
+      ∙ sym (ap (λ (b : Bool). shown (refuse_unless 11 b >>= λ _. done (packed_of us))) t)
 
-  refused_11 : none_below s.values ≡ false → refused 11 ≡ summed us
+  refused_11 : (s.agree && none_below s.values) ≡ false → refused 11 ≡ summed us
   unfolding summed
-  refused_11 e = sym (λ i. refuse_unless 11 (are.agree i && (sym below_is ∙ e) i) >>= λ _. done (packed_of us))
+  refused_11 e = sym (ap (λ (b : Bool). refuse_unless 11 b >>= λ _. done (packed_of us)) (sym (λ i. are.agree i && below_is i) ∙ e))
 
 module _ (s : Sums) {b : Bool} (t : Says (none_below s.values) b) where
-  pub answer_given : {g : ℤ} → GrossIs s g → b ≡ true
+  pub answer_given : {g : ℤ} → GrossIs s g → (s.agree && b) ≡ true
       → Answers s (Ok (record {
         gross = g;
         values = s.values;
@@ -116,10 +127,10 @@ module _ (s : Sums) {b : Bool} (t : Says (none_below s.values) b) where
         present = s.present;
         units = join (letters_in s.units);
       }))
-  answer_given h e = record { is = λ us are. given are h (t.is ∙ e) }
+  answer_given h e = record { is = λ us are. given are h (ap (λ (x : Bool). s.agree && x) t.is ∙ e) }
 
-  pub answer_refused : b ≡ false → Answers s (Err UnfitPackaging)
-  answer_refused e = record { is = λ us are. ap shown (refused_11 are (t.is ∙ e)) }
+  pub answer_refused : (s.agree && b) ≡ false → Answers s (Err UnfitPackaging)
+  answer_refused e = record { is = λ us are. ap shown (refused_11 are (ap (λ (x : Bool). s.agree && x) t.is ∙ e)) }
 
 -- records whose units clash come to the same
 pub clash_refused : (us : List Pack) → all (units_agree us) three ≡ false → written (Err UnfitPackaging) ≡ shown (summed us)

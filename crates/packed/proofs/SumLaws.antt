@@ -12,30 +12,44 @@ use Rattle.rules.specs.Book.{Pack}
 use Rattle.rules.specs.BookLayout.{eight, no_unit}
 use Rattle.rules.specs.Packaging.{unit_in, units_agree, three}
 use Rattle.rules.specs.declared.Refusal.TheVariants.{UnfitPackaging}
+use Rattle.rules.proofs.TestLaws.{and_true, and_false}
 use Rattle.rules.proofs.PackagingLaws.{unit_after, goes_with, present_more, value_more, unit_more, agree_more}
 use Rattle.layout.specs.Ensures.{Says}
 use Rattle.records.specs.declared.packagings.Packing.{Packing}
 use Rattle.records.specs.Ensures.{units_in, pack_in, PackIs}
 use Rattle.packed.specs.declared.sums.Units.{Units}
 use Rattle.packed.specs.declared.sums.Sums.{Sums}
-use Rattle.packed.specs.Sums.{letters_in, UnitsOf, UnitsAfter, units_go, units_fit, most_before, AddableValues, ValuesAfter, AddedTo, Added, Fits, Clashes, SumsAre, Within}
+use Rattle.packed.specs.Sums.{letters_in, UnitsOf, UnitsAfter, units_go, units_fit, most_before, AddableValues, ValuesAfter, Added, AddedTo, AddedFitting, Fits, Clashes, SumsAre, SumsFit, Within}
 
 module _ (s : Sums) (p : Packing) {new : Units} {goes : Bool} (of : UnitsOf p.units new) (go : Says (units_go s.units new) goes) where
   fit_is : units_fit s p ≡ goes
   fit_is = sym (ap (λ (ls : List (List ℕ)). all (λ i. goes_with (get_or (letters_in s.units) i no_unit) (get_or ls i no_unit)) three) of.is) ∙ go.is
 
-  pub added : goes ≡ true → p.present < 256 → {values : List ℤ} {units : Units} → ValuesAfter s.values p.values values → UnitsAfter s.units new units
-      → Added s p (Ok (record { present = bit_or s.present p.present; values = values; units = units }))
-  added e l v after =
-      Fits (record {
-        small = l;
-        present = refl;
-        values = v;
-        units = after.is ∙ ap (λ (ls : List (List ℕ)). map (λ i. unit_after (get_or (letters_in s.units) i no_unit) (get_or ls i no_unit)) three) of.is;
-        goes = fit_is ∙ e;
-      })
+  module _ (l : p.present < 256) {values : List ℤ} {units : Units} (v : ValuesAfter s.values p.values values) (after : UnitsAfter s.units new units) where
+    units_are : letters_in units ≡ map (λ i. unit_after (get_or (letters_in s.units) i no_unit) (get_or (units_in p.units) i no_unit)) three
+    units_are = after.is ∙ ap (λ (ls : List (List ℕ)). map (λ i. unit_after (get_or (letters_in s.units) i no_unit) (get_or ls i no_unit)) three) of.is
 
-  pub not_added : goes ≡ false → Added s p (Err UnfitPackaging)
+    pub added : {agree : Bool} → agree ≡ (s.agree && goes) → Added s p (record { present = bit_or s.present p.present; values = values; units = units; agree = agree })
+    added h = record {
+      small = l;
+      present = refl;
+      values = v;
+      units = units_are;
+      agree = h ∙ ap (λ (b : Bool). s.agree && b) (sym fit_is);
+    }
+
+    pub fitting_added : goes ≡ true → AddedFitting s p (Ok (record { present = bit_or s.present p.present; values = values; units = units; agree = s.agree }))
+    fitting_added e =
+        Fits (record {
+          small = l;
+          present = refl;
+          values = v;
+          units = units_are;
+          goes = fit_is ∙ e;
+          agree = refl;
+        })
+
+  pub not_added : goes ≡ false → AddedFitting s p (Err UnfitPackaging)
   not_added e = Clashes (fit_is ∙ e)
 
 -- two tests of each are one
@@ -63,16 +77,16 @@ clash_stays us (x ∷ more) e =
     ∙ clash_stays (us ++ (x ∷ [])) more (agree_step us x ∙ ap (λ (b : Bool). b && all (λ i. goes_with (unit_in us i) (get_or x.units i no_unit)) three) e)
 
 module _ (t : List ℕ) {us : List Pack} {s : Sums} (p : Packing) (h : SumsAre us s) where
-  fit_step : all (units_agree (us ++ (pack_in t p ∷ []))) three ≡ units_fit s p
+  fit_step : all (units_agree (us ++ (pack_in t p ∷ []))) three ≡ (all (units_agree us) three && units_fit s p)
   unfolding pack_in
   fit_step =
       agree_step us (pack_in t p)
-      ∙ (λ k. h.agree k && all (λ i. goes_with (get_or (sym h.units k) i no_unit) (get_or (units_in p.units) i no_unit)) three)
+      ∙ (λ k. all (units_agree us) three && all (λ i. goes_with (get_or (sym h.units k) i no_unit) (get_or (units_in p.units) i no_unit)) three)
 
   pub clash_more : units_fit s p ≡ false → all (units_agree (us ++ (pack_in t p ∷ []))) three ≡ false
-  clash_more e = fit_step ∙ e
+  clash_more e = fit_step ∙ ap (λ (b : Bool). all (units_agree us) three && b) e ∙ and_false (all (units_agree us) three)
 
-  pub sums_more : {r : Sums} → AddedTo s p r → SumsAre (us ++ (pack_in t p ∷ [])) r
+  pub sums_more : {r : Sums} → Added s p r → SumsAre (us ++ (pack_in t p ∷ [])) r
   unfolding pack_in
   sums_more {r} a =
       let x : Pack = pack_in t p in
@@ -86,8 +100,24 @@ module _ (t : List ℕ) {us : List Pack} {s : Sums} (p : Packing) (h : SumsAre u
             a.units
             ∙ ap (λ (ls : List (List ℕ)). map (λ i. unit_after (get_or ls i no_unit) (get_or (units_in p.units) i no_unit)) three) h.units
             ∙ sym (λ k. unit_more us x 0 k ∷ unit_more us x 1 k ∷ unit_more us x 2 k ∷ []);
-        agree = fit_step ∙ a.goes;
+        agree = a.agree ∙ ap (λ (b : Bool). b && units_fit s p) h.agree ∙ sym fit_step;
       }
+
+-- a record that is added because it fits is added
+fitting_is : {s r : Sums} {p : Packing} → AddedTo s p r → Added s p r
+fitting_is {s} a = record {
+  small = a.small;
+  present = a.present;
+  values = a.values;
+  units = a.units;
+  agree = a.agree ∙ sym (ap (λ (b : Bool). s.agree && b) a.goes ∙ and_true s.agree);
+}
+
+pub fitting_more : (t : List ℕ) {us : List Pack} {s r : Sums} (p : Packing) → SumsFit us s → AddedTo s p r → SumsFit (us ++ (pack_in t p ∷ [])) r
+fitting_more t p h a = record {
+  are = sums_more t p h.are (fitting_is a);
+  agree = fit_step t p h.are ∙ (λ k. h.agree k && a.goes k);
+}
 
 pub room_left : {t : List ℕ} {s : Sums} {p : Packing} → Within most_before s → PackIs t p → AddableValues s.values p.values
 room_left w h = record { held_in = w.each; new_in = h.values_in }

@@ -1,5 +1,5 @@
 -- What packaging records come to: units, and one record more.
-use Rattle.std.specs.Prelude.{ℕ, ◌+◌, ◌≤◌, ◌<◌, ◌≡◌, Bool, true, false, Result, Ok, Err, List, [], ◌∷◌, map, ℤ, pos, nat_abs, ◌+ℤ◌, get_or, replicate}
+use Rattle.std.specs.Prelude.{ℕ, ◌+◌, ◌≤◌, ◌<◌, ◌≡◌, Bool, true, false, ◌&&◌, Result, Ok, Err, List, [], ◌∷◌, map, ℤ, pos, nat_abs, ◌+ℤ◌, get_or, replicate}
 use Rattle.std.specs.Int.Bits.{bit_or}
 use Rattle.rules.specs.Lists.{all, keep, bit_set}
 use Rattle.rules.specs.Book.{Pack}
@@ -57,17 +57,26 @@ pub record ValuesAfter (held new r : List ℤ) : Type 0 where
   pub is : r ≡ map (λ i. get_or held i (pos 0) +ℤ get_or new i (pos 0)) eight
   pub near : (i : ℕ) → nat_abs (get_or r i (pos 0)) ≤ nat_abs (get_or held i (pos 0)) + 10_000_000
 
+pub record Added (s : Sums) (p : Packing) (r : Sums) : Type 0 where
+  pub small : p.present < 256
+  pub present : r.present ≡ bit_or s.present p.present
+  pub values : ValuesAfter s.values p.values r.values
+  pub units : letters_in r.units ≡ map (λ i. unit_after (get_or (letters_in s.units) i no_unit) (get_or (units_in p.units) i no_unit)) three
+  pub agree : r.agree ≡ (s.agree && all (λ i. goes_with (get_or (letters_in s.units) i no_unit) (get_or (units_in p.units) i no_unit)) three)
+
+-- and its units are those held
 pub record AddedTo (s : Sums) (p : Packing) (r : Sums) : Type 0 where
   pub small : p.present < 256
   pub present : r.present ≡ bit_or s.present p.present
   pub values : ValuesAfter s.values p.values r.values
   pub units : letters_in r.units ≡ map (λ i. unit_after (get_or (letters_in s.units) i no_unit) (get_or (units_in p.units) i no_unit)) three
   pub goes : units_fit s p ≡ true
+  pub agree : r.agree ≡ s.agree
 
 -- the record's units are those held, or it gives another one
-pub data Added (s : Sums) (p : Packing) : Result Sums Refusal → Type 0 where
-  Fits : {r : Sums} → AddedTo s p r → Added s p (Ok r)
-  Clashes : units_fit s p ≡ false → Added s p (Err UnfitPackaging)
+pub data AddedFitting (s : Sums) (p : Packing) : Result Sums Refusal → Type 0 where
+  Fits : {r : Sums} → AddedTo s p r → AddedFitting s p (Ok r)
+  Clashes : units_fit s p ≡ false → AddedFitting s p (Err UnfitPackaging)
 
 -- ---- what records come to
 
@@ -81,6 +90,7 @@ nothing = record {
     volume = record { 0 = 0; 1 = 0; 2 = 0 };
     weight = record { 0 = 0; 1 = 0; 2 = 0 };
   };
+  agree = true;
 }
 
 -- `s` is what some records come to
@@ -88,6 +98,11 @@ pub record SumsAre (us : List Pack) (s : Sums) : Type 0 where
   pub present : s.present ≡ bit_set (keep (present_in us) eight)
   pub values : s.values ≡ map (value_in us) eight
   pub units : letters_in s.units ≡ map (unit_in us) three
+  pub agree : s.agree ≡ all (units_agree us) three
+
+-- and their units agree
+pub record SumsFit (us : List Pack) (s : Sums) : Type 0 where
+  pub are : SumsAre us s
   pub agree : all (units_agree us) three ≡ true
 
 pub record Within (most : ℕ) (s : Sums) : Type 0 where

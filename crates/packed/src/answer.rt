@@ -1,5 +1,7 @@
 // What a caller reads of packaging data: the gross weight, the signs, the units; or the number of a refusal.
 ghost use Rattle.std.specs.Prelude.{◌≡◌, ◌<◌};
+ghost use Rattle.rules.specs.Refusals.{refused};
+ghost use Rattle.rules.specs.Packaging.{shown};
 ghost use Rattle.rules.specs.BookLayout.{has};
 ghost use Rattle.layout.specs.Ensures.{Says};
 ghost use Rattle.packed.specs.Sums.{most_sum, Within};
@@ -7,6 +9,20 @@ ghost use Rattle.packed.specs.Answer.{GrossIs, none_below, Answers};
 
 use crate::sums::Sums;
 use rules::{PackagingAnswer, Refusal};
+
+// Zeros beside the number of a refusal.
+#[tactic(auto, using(crate::proofs::AnswerLaws::refusal_is))]
+pub fn refusal(number: u8) -> PackagingAnswer
+    ensures { result ≡ shown (refused number) }
+{
+    PackagingAnswer {
+        gross: 0,
+        values: [0; 8],
+        number,
+        present: 0,
+        units: [0; 9],
+    }
+}
 
 // Which of the values they are, and which of the presence bits say that they are present.
 const TARE: usize = 4;
@@ -46,7 +62,7 @@ pub fn answer_of(s: Sums) -> Result<PackagingAnswer, Refusal>
     requires { Within most_sum s }
     ensures { Answers s result }
 {
-    if !none_below_zero(s) {
+    if !(s.agree & none_below_zero(s)) {
         return Err(Refusal::UnfitPackaging);
     }
     let values = s.values;

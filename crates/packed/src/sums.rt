@@ -2,7 +2,7 @@
 ghost use Rattle.rules.specs.Packaging.{is_given};
 ghost use Rattle.rules.proofs.PackagingLaws.{goes_with};
 ghost use Rattle.layout.specs.Ensures.{Says};
-ghost use Rattle.packed.specs.Sums.{letters, AddableValues, ValuesAfter, UnitAfter, UnitsOf, UnitsAfter, units_go, Added};
+ghost use Rattle.packed.specs.Sums.{letters, AddableValues, ValuesAfter, UnitAfter, UnitsOf, UnitsAfter, units_go, Added, AddedFitting};
 
 use records::Packing;
 use rules::Refusal;
@@ -22,11 +22,13 @@ pub struct Units {
     pub weight: UnitCode,
 }
 
+// `agree`: no record gave another unit than one before it.
 #[derive(Clone, Copy)]
 pub struct Sums {
     pub present: u8,
     pub values: [i64; 8],
     pub units: Units,
+    pub agree: bool,
 }
 
 pub const NOTHING: Sums = Sums {
@@ -37,6 +39,7 @@ pub const NOTHING: Sums = Sums {
         volume: UnitCode::NONE,
         weight: UnitCode::NONE,
     },
+    agree: true,
 };
 
 // ---- units
@@ -108,10 +111,26 @@ fn values_after(held: [i64; 8], new: [i64; 8]) -> [i64; 8]
     sums
 }
 
-// A record that gives another unit than one before it is refused.
-pub fn add_pack(s: Sums, p: Packing) -> Result<Sums, Refusal>
+// Whatever its units: `agree` says whether they went with those held.
+#[tactic(auto, using(crate::proofs::SumLaws::added))]
+pub fn add_pack(s: Sums, p: Packing) -> Sums
     requires { AddableValues s.values p.values }
     ensures { Added s p result }
+{
+    let new = units_of(p.units);
+    let goes = units_go(s.units, new);
+    Sums {
+        present: s.present | p.present,
+        values: values_after(s.values, p.values),
+        units: units_after(s.units, new),
+        agree: s.agree & goes,
+    }
+}
+
+// A record that gives another unit than one before it is refused.
+pub fn add_fitting(s: Sums, p: Packing) -> Result<Sums, Refusal>
+    requires { AddableValues s.values p.values }
+    ensures { AddedFitting s p result }
 {
     let new = units_of(p.units);
     if !units_go(s.units, new) {
@@ -121,5 +140,6 @@ pub fn add_pack(s: Sums, p: Packing) -> Result<Sums, Refusal>
         present: s.present | p.present,
         values: values_after(s.values, p.values),
         units: units_after(s.units, new),
+        agree: s.agree,
     })
 }

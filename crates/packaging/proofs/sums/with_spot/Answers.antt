@@ -6,11 +6,11 @@ use Rattle.packaging.proofs.sums.with_spot.Goals as goal
 pub packaging_of-requires : goal.packaging_of-requires
 packaging_of-requires c = held_kind c.bytes_of.ensures (rw c.in-Some.is at c.requires.held)
 
-pub add_pack-requires : goal.add_pack-requires
-add_pack-requires c = room_left c.requires.within c.packaging_of.ensures
+pub add_fitting-requires : goal.add_fitting-requires
+add_fitting-requires c = room_left c.requires.within c.packaging_of.ensures
 
 pub returns-in-Some : goal.returns-in-Some
-returns-in-Some c = rw c.in-Some.is (spot_added c.bytes_of.ensures c.packaging_of.ensures c.add_pack.ensures)
+returns-in-Some c = rw c.in-Some.is (spot_added c.bytes_of.ensures c.packaging_of.ensures c.add_fitting.ensures)
 
 pub returns-in-None : goal.returns-in-None
 returns-in-None c = rw c.in-None.is (spot_empty c.args.b.now c.args.s)
