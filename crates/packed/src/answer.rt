@@ -62,7 +62,8 @@ pub fn answer_of(s: Sums) -> Result<PackagingAnswer, Refusal>
     requires { Within most_sum s }
     ensures { Answers s result }
 {
-    if !(s.agree & none_below_zero(s)) {
+    let fits = s.agree & none_below_zero(s);
+    if !fits {
         return Err(Refusal::UnfitPackaging);
     }
     let values = s.values;

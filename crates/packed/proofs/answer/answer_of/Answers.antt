@@ -5,8 +5,8 @@ use Rattle.packed.proofs.answer.answer_of.Goals as goal
 
 ruleset laws = (rules, answer_given, answer_refused)
 
-pub returns-then-not-s-none_below_zero : goal.returns-then-not-s-none_below_zero
-returns-then-not-s-none_below_zero c = search laws
+pub returns-then-not-fits : goal.returns-then-not-fits
+returns-then-not-fits c = search laws
 
 pub returns : goal.returns
 returns c = search laws
