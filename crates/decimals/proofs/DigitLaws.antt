@@ -149,6 +149,48 @@ module _ {old : List ℕ} {at k n : ℕ} where
           ends = omega (arith, ap length d, p.few);
         }
 
+-- where the next pair starts that has b pairs before it, and perhaps a digit alone
+abbrev start : ℕ → ℕ → ℕ → ℕ
+start at k b = at + (k % 2 + 2 * b)
+
+module _ {old : List ℕ} {at k n : ℕ} where
+  pub pairs_start : Filling old at k n old n (start at k (k / 2))
+  pairs_start = let e : at + k ≡ start at k (k / 2) = omega arith in subst (λ (i : ℕ). Filling old at k n old n i) e fill_start
+
+  module _ {out : List ℕ} {left b : ℕ} (p : Filling old at k n out left (start at k b)) where
+    -- two at a time
+    pub fill_two : 0 < b
+        → Filling old at k n
+        (set (set out (start at k (b - 1) + 1) (48 + left % 100 % 10)) (start at k (b - 1)) (48 + left % 100 / 10))
+        (left / 100)
+        (start at k (b - 1))
+    fill_two h =
+        let Two : ℕ → ℕ → ℕ → ℕ → ℕ → Type 0 =
+        λ place last first rest j. Filling old at k n (set (set out place (48 + last)) j (48 + first)) rest j in
+        let i : ℕ = start at k (b - 1) in
+        let j : ℕ = start at k b - 1 in
+        let two : Two j (left % 10) (left / 10 % 10) (left / 10 / 10) (j - 1) = fill_on (fill_on p (omega arith)) (omega arith) in
+        let a : j ≡ i + 1 = omega arith in
+        let c : left % 10 ≡ left % 100 % 10 = omega arith in
+        let d : left / 10 % 10 ≡ left % 100 / 10 = omega arith in
+        let e : left / 10 / 10 ≡ left / 100 = omega arith in
+        let f : j - 1 ≡ i = omega arith in
+        subst (λ (y : ℕ). Two (i + 1) (left % 100 % 10) (left % 100 / 10) (left / 100) y) f
+        (subst (λ (y : ℕ). Two (i + 1) (left % 100 % 10) (left % 100 / 10) y (j - 1)) e
+        (subst (λ (y : ℕ). Two (i + 1) (left % 100 % 10) y (left / 10 / 10) (j - 1)) d
+        (subst (λ (y : ℕ). Two (i + 1) y (left / 10 % 10) (left / 10 / 10) (j - 1)) c
+        (subst (λ (y : ℕ). Two y (left % 10) (left / 10 % 10) (left / 10 / 10) (j - 1)) a two))))
+
+    pub fill_done : at + k ≤ length old → b ≤ 0 → k % 2 ≡ 0 → PutsTo old at (digits_of k n) out (at + k)
+    fill_done g h e = fill_end p g (omega arith)
+
+    pub fill_last : at + k ≤ length old → b ≤ 0 → (k % 2 ≡ 0 → ⊥) → PutsTo old at (digits_of k n) (set out at (48 + left % 10)) (at + k)
+    fill_last g h m =
+        let one : k % 2 ≡ 1 = omega (arith, m) in
+        let e : start at k b - 1 ≡ at = omega (arith, one) in
+        subst (λ (y : ℕ). PutsTo old at (digits_of k n) (set out y (48 + left % 10)) (at + k)) e
+        (fill_end (fill_on p (omega (arith, one))) g (omega (arith, one)))
+
 -- ---- all of them
 
 pub decimal_put : {old new : List ℕ} {at r : ℕ} (n : ℕ) {k : ℕ} → Number (length (decimal n)) 21 k → PutsTo old at (digits_of k n) new r

@@ -19,16 +19,23 @@ pub fn digit_count(n: u32) -> usize
     k
 }
 
-// The last k digits, from the last to the first.
+// The last k digits, from the last to the first, two at a time: a division for each two.
 pub fn put_digits(out: &mut [u8], at: usize, k: usize, n: u32) -> usize
     requires { at + k ≤ length out.old }
     ensures { PutsTo out.old at (digits_of k n) out.new result }
 {
     let mut left = n;
-    for i in (at..at + k).rev() {
-        out[i] = b'0' + (left % 10) as u8;
-        left /= 10;
+    for before in (0..k / 2).rev() {
+        let pair = left % 100;
+        let i = k % 2 + 2 * before;
+        out[at + i + 1] = b'0' + (pair % 10) as u8;
+        out[at + i] = b'0' + (pair / 10) as u8;
+        left /= 100;
     }
+    if k % 2 == 0 {
+        return at + k;
+    }
+    out[at] = b'0' + (left % 10) as u8;
     at + k
 }
 
