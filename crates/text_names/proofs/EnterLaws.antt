@@ -8,17 +8,27 @@ use lib.ListN.{length, get_or, set, length-set, length-replicate}
 use lib.Seq.{get_or-set_same, get_or-set_other}
 use Rattle.layout.proofs.StoreLaws.{all_same}
 use Rattle.text_names.specs.declared.Names.{Names}
-use Rattle.text_names.specs.Hashes.{name_from, StartsName, hash_of}
-use Rattle.text_names.specs.Names.{hash_at, Chained, Candidate, Latest, Table, Empty, EnteredIs}
+use Rattle.text_names.specs.Hashes.{name_from, StartsName, hash_of, Hashed}
+use Rattle.text_names.specs.Names.{hash_at, Chained, Candidate, Latest, Chains, Table, Empty, EnteredIn, EnteredIs}
 
 -- what `find` starts from
 latest_candidate : {file starts last : List ℕ} {k : ℕ} → Latest file starts last k → (x : List ℕ) (h : ℕ) → h ≡ hash_of x → h < 65536
     → Candidate file starts k x (get_or last h 0)
 latest_candidate t x h e l = record { low = t.low h l; alike = λ g. t.alike h l g ∙ e; above = λ m g n f. t.above h m l g n (ap hash_of f ∙ sym e) }
 
-pub find_start : {file : List ℕ} {names : Names} → Table file names → (x : List ℕ) {h : ℕ} → h ≡ hash_of x → h < 65536
-    → Candidate file names.starts names.count x (get_or names.last h 0)
-find_start t x {h} e l = latest_candidate t.latest x h e l
+module _ {file starts before last : List ℕ} {k : ℕ} (t : Chains file starts before last k) {x : List ℕ} {h : ℕ} (n : Hashed x h) where
+  pub find_hash : h < length last
+  find_hash = omega (arith, n.below, t.latest.long)
+
+  pub find_start : Candidate file starts k x (get_or last h 0)
+  find_start = latest_candidate t.latest x h n.is n.below
+
+-- a table of its own, as it is lent
+pub chains_of : {file : List ℕ} {names : Names} → Table file names → Chains file names.starts names.before names.last names.count
+chains_of t = record { chained = t.chained; latest = t.latest }
+
+pub hashed : {x : List ℕ} {h : ℕ} → h ≡ hash_of x → h < 65536 → Hashed x h
+hashed e l = record { is = e; below = l }
 
 module _ {file starts before last : List ℕ} {k : ℕ} (c : Chained file starts before k) (t : Latest file starts last k) {start h : ℕ}
     (s : StartsName file start)
@@ -115,29 +125,33 @@ module _ {file starts before last : List ℕ} {k : ℕ} (c : Chained file starts
       last_name g n d m a f (no x) b = let w : k ≡ m = omega arith in d (sym f ∙ (sym (ap (hash_at file starts') w) ∙ new_hash))
 
 -- The table with a name more.
+pub entered_in : {file starts before last : List ℕ} {k : ℕ} → Chains file starts before last k → {start h : ℕ} → StartsName file start
+    → Hashed (name_from file start) h → k < length starts → k < length before
+    → {starts' before' last' : List ℕ} → EnteredIn starts before last k start h starts' before' last' → Chains file starts' before' last' (k + 1)
+entered_in {file} {starts} {before} {last} {k} t {start} {h} s n ls lb {starts'} {before'} e =
+    subst (λ (l : List ℕ). Chains file starts' before' l (k + 1)) (sym e.last_is)
+    (subst (λ (b : List ℕ). Chains file starts' b (set last h (k + 1)) (k + 1)) (sym e.before_is)
+    (subst (λ (a : List ℕ). Chains file a (set before k (get_or last h 0)) (set last h (k + 1)) (k + 1)) (sym e.starts_is)
+    (record {
+      chained = entered_chained t.chained t.latest s n.is n.below ls lb;
+      latest = entered_latest t.chained t.latest s n.is n.below ls lb;
+    })))
+
 pub entered : {file : List ℕ} {names : Names} → Table file names → {start h : ℕ} → StartsName file start
     → h ≡ hash_of (name_from file start) → h < 65536 → names.count < length names.starts → names.count < length names.before
     → {names' : Names} → EnteredIs names start h names' → Table file names'
-entered {file} {names} t {start} {h} s n g ls lb {names'} e = record {
-  chained =
-      let P : List ℕ → List ℕ → ℕ → Type 0 = λ a b k. Chained file a b k in
-      subst (λ k. P names'.starts names'.before k) (sym e.count_is)
-      (subst (λ b. P names'.starts b (names.count + 1)) (sym e.before_is)
-      (subst (λ a. P a (set names.before names.count (get_or names.last h 0)) (names.count + 1)) (sym e.starts_is)
-      (entered_chained t.chained t.latest s n g ls lb)));
-  latest =
-      let P : List ℕ → List ℕ → ℕ → Type 0 = λ a l k. Latest file a l k in
-      subst (λ k. P names'.starts names'.last k) (sym e.count_is)
-      (subst (λ l. P names'.starts l (names.count + 1)) (sym e.last_is)
-      (subst (λ a. P a (set names.last h (names.count + 1)) (names.count + 1)) (sym e.starts_is)
-      (entered_latest t.chained t.latest s n g ls lb)));
-}
+entered {file} {names} t {start} {h} s n g ls lb {names'} e = record { chained = both.chained; latest = both.latest }
+  where
+    one_more : EnteredIn names.starts names.before names.last names.count start h names'.starts names'.before names'.last
+    one_more = record { starts_is = e.starts_is; before_is = e.before_is; last_is = e.last_is }
+
+    both : Chains file names'.starts names'.before names'.last names'.count
+    both = subst (λ (k : ℕ). Chains file names'.starts names'.before names'.last k) (sym e.count_is)
+        (entered_in (chains_of t) s (hashed n g) ls lb one_more)
 
 -- An empty one.
-pub no_names : {file : List ℕ} {names : Names} → Empty names → Table file names
-no_names {file} {names} p =
-    let e : names.count ≡ 0 = p.none in
-    let z : (h : ℕ) → get_or names.last h 0 ≡ 0 = λ h. ap (λ (l : List ℕ). get_or l h 0) p.last_is ∙ all_same 65536 h 0 in
+pub none_in : {file starts before last : List ℕ} → length last ≡ 65536 → ((h : ℕ) → get_or last h 0 ≡ 0) → Chains file starts before last 0
+none_in long zeros =
     record {
       chained = record {
         fields = λ i l. absurd (omega arith);
@@ -148,9 +162,17 @@ no_names {file} {names} p =
         between_not = λ i m l. absurd (omega arith);
       };
       latest = record {
-        long = ap length p.last_is ∙ length-replicate {A = ℕ} 65536 0;
-        low = λ h l. omega (arith, z h);
-        alike = λ h l g. absurd (omega (arith, z h));
+        long = long;
+        low = λ h l. omega (arith, zeros h);
+        alike = λ h l g. absurd (omega (arith, zeros h));
         above = λ h m l a b. absurd (omega arith);
       };
     }
+
+pub no_names : {file : List ℕ} {names : Names} → Empty names → Table file names
+no_names {file} {names} p = record { chained = none.chained; latest = none.latest }
+  where
+    none : Chains file names.starts names.before names.last names.count
+    none = subst (λ (k : ℕ). Chains file names.starts names.before names.last k) (sym p.none)
+        (none_in (ap length p.last_is ∙ length-replicate {A = ℕ} 65536 0)
+        (λ h. ap (λ (l : List ℕ). get_or l h 0) p.last_is ∙ all_same 65536 h 0))

@@ -1,5 +1,5 @@
 -- The name in a field, and its hash.
-use Rattle.std.specs.Prelude.{ℕ, ◌+◌, ◌*◌, ◌%◌, ◌≤◌, ◌≡◌, List, [], true, cond, eqb, fold, length, drop}
+use Rattle.std.specs.Prelude.{ℕ, ◌+◌, ◌*◌, ◌%◌, ◌≤◌, ◌<◌, ◌≡◌, List, [], true, cond, eqb, fold, length, drop}
 use Rattle.rules.specs.Lists.{is_some, if_some}
 use Rattle.file_rules.specs.Fields.{field}
 
@@ -17,3 +17,8 @@ add_byte n b = cond (eqb 34 b) n ((n * 31 + b) % 65536)
 
 unfoldable pub hash_of : List ℕ → ℕ
 hash_of s = fold add_byte 0 s
+
+-- `h` is its hash
+pub record Hashed (x : List ℕ) (h : ℕ) : Type 0 where
+  pub is : h ≡ hash_of x
+  pub below : h < 65536

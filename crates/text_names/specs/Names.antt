@@ -32,9 +32,12 @@ pub record Found (file starts : List ℕ) (k : ℕ) (x : List ℕ) (j : ℕ) : T
 pub record Unmet (file starts : List ℕ) (k : ℕ) (x : List ℕ) : Type 0 where
   pub none : (m : ℕ) → m < k → name_from file (get_or starts m 0) ≡ x → ⊥
 
+abbrev pub FoundIn : List ℕ → List ℕ → ℕ → List ℕ → Option ℕ → Type 0
+FoundIn file starts k x (Some j) = Found file starts k x j
+FoundIn file starts k x None = Unmet file starts k x
+
 abbrev pub FoundIs : List ℕ → Names → List ℕ → Option ℕ → Type 0
-FoundIs file names x (Some j) = Found file names.starts names.count x j
-FoundIs file names x None = Unmet file names.starts names.count x
+FoundIs file names x r = FoundIn file names.starts names.count x r
 
 -- by hash, the number of the last name that has it, or 0
 pub record Latest (file starts last : List ℕ) (k : ℕ) : Type 0 where
@@ -44,6 +47,11 @@ pub record Latest (file starts last : List ℕ) (k : ℕ) : Type 0 where
   pub above : (h m : ℕ) → h < 65536 → get_or last h 0 ≤ m → m < k → hash_at file starts m ≡ h → ⊥
 
 -- both together
+pub record Chains (file starts before last : List ℕ) (k : ℕ) : Type 0 where
+  pub chained : Chained file starts before k
+  pub latest : Latest file starts last k
+
+-- those of a table of its own
 pub record Table (file : List ℕ) (names : Names) : Type 0 where
   pub chained : Chained file names.starts names.before names.count
   pub latest : Latest file names.starts names.last names.count
@@ -55,7 +63,20 @@ pub record Empty (names : Names) : Type 0 where
   pub before_long : length names.before ≡ 65535
   pub last_is : names.last ≡ replicate 65536 0
 
+-- a place for name k + 1 with hash h
+pub record Vacant (starts before last : List ℕ) (k h : ℕ) : Type 0 where
+  pub few : k < 65535
+  pub starts_long : k < length starts
+  pub before_long : k < length before
+  pub last_long : h < length last
+
 -- a name more: where its field starts, the one before it with the same hash, and that it is the last with it
+pub record EnteredIn (starts before last : List ℕ) (k start h : ℕ) (starts' before' last' : List ℕ) : Type 0 where
+  pub starts_is : starts' ≡ set starts k start
+  pub before_is : before' ≡ set before k (get_or last h 0)
+  pub last_is : last' ≡ set last h (k + 1)
+
+-- and in a table of its own, which counts it
 pub record EnteredIs (names : Names) (start h : ℕ) (names' : Names) : Type 0 where
   pub count_is : names'.count ≡ names.count + 1
   pub starts_is : names'.starts ≡ set names.starts names.count start

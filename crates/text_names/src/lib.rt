@@ -5,7 +5,8 @@ ghost use Rattle.std.specs.Prelude.{◌≡◌};
 ghost use Rattle.rules.specs.Lists.{same};
 ghost use Rattle.layout.specs.Ensures.{Says};
 ghost use Rattle.fields.specs.Field.{text_of, TextIs};
-ghost use Rattle.text_names.specs.Hashes.{name_from, add_byte, hash_of, StartsName};
+ghost use Rattle.text_names.specs.Hashes.{name_from, add_byte, hash_of, Hashed, StartsName};
+ghost use Rattle.text_names.specs.Names.{Chains, FoundIn, Vacant, EnteredIn};
 
 use fields::content::same_text;
 use fields::field::{Field, field_at};
@@ -37,6 +38,54 @@ fn is_named(file: &[u8], start: usize, line: &[u8], f: Field) -> bool
     same_text(file, name, line, f)
 }
 
+// ---- a table that is lent as its three arrays, with k names in it
+
+// The number of this text's name, which has hash h.
+pub fn find(
+    file: &[u8],
+    starts: &[usize],
+    before: &[u16],
+    last: &[u16],
+    k: usize,
+    h: usize,
+    line: &[u8],
+    f: Field,
+) -> Option<usize>
+    requires table { Chains file.now starts.now before.now last.now k }
+    requires hashed { Hashed (text_of line.now f) h }
+    requires text_is { TextIs line.now f }
+    ensures { FoundIn file.now starts.now k (text_of line.now f) result }
+{
+    let mut number = last[h];
+    while 0 < number {
+        let i = number as usize - 1;
+        if is_named(file, starts[i], line, f) {
+            return Some(number as usize);
+        }
+        number = before[i];
+    }
+    None
+}
+
+// Name k + 1, met first in the field that starts there, with hash h.
+pub fn enter(
+    starts: &mut [usize],
+    before: &mut [u16],
+    last: &mut [u16],
+    k: usize,
+    start: usize,
+    h: usize,
+)
+    requires { Vacant starts.old before.old last.old k h }
+    ensures { EnteredIn starts.old before.old last.old k start h starts.new before.new last.new }
+{
+    starts[k] = start;
+    before[k] = last[h];
+    last[h] = (k + 1) as u16;
+}
+
+// ---- a table of its own
+
 impl Names {
     ghost use Rattle.std.specs.Prelude.{◌<◌, leb};
     ghost use Rattle.text_names.specs.Names.{Table, FoundIs, EnteredIs, Empty};
@@ -66,15 +115,16 @@ impl Names {
         requires text_is { TextIs line.now f }
         ensures { FoundIs file.now self.now (text_of line.now f) result }
     {
-        let mut number = self.last[h as usize];
-        while 0 < number {
-            let i = number as usize - 1;
-            if is_named(file, self.starts[i], line, f) {
-                return Some(number as usize);
-            }
-            number = self.before[i];
-        }
-        None
+        find(
+            file,
+            &self.starts,
+            &self.before,
+            &self.last,
+            self.count,
+            h as usize,
+            line,
+            f,
+        )
     }
 
     // One more, met first in the field that starts there, with hash h.
@@ -83,9 +133,14 @@ impl Names {
         ensures { EnteredIs self.old start h self.new }
     {
         let k = self.count;
-        self.starts[k] = start;
-        self.before[k] = self.last[h as usize];
-        self.last[h as usize] = (k + 1) as u16;
+        enter(
+            &mut self.starts,
+            &mut self.before,
+            &mut self.last,
+            k,
+            start,
+            h as usize,
+        );
         self.count = k + 1;
     }
 }
