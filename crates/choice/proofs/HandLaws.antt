@@ -1,15 +1,17 @@
 -- What a slot keeps: the code's steps are those of the definition's walk over the rows.
 use Prim.Native.Nat.{ℕ, ◌<◌}
-use mathlib.Core.Path.{◌≡◌}
+use mathlib.Core.Path.{◌≡◌, sym}
 use mathlib.Core.Bool.{Bool, true, false, ◌&&◌, ◌||◌}
 use native.Mathlib.Omega.{arith}
 use lib.Dec.{eqb, ltb}
 use borrow.Author.Tests.{eq-eqb, ne_eqb}
+use Rattle.rules.proofs.TestLaws.{or_false}
 use Rattle.layout.specs.Ensures.{Number, Says}
 use Rattle.choice.specs.declared.hands.Hand.{Hand}
 use Rattle.choice.specs.declared.hands.Seen.{Seen}
 use Rattle.choice.specs.declared.hands.Passing.{Passing}
 use Rattle.choice.specs.Hands.{counted, is_empty, limit_of, better_hand, hand_after, seen_after, taken_of, HandAfter, SeenAfter, TakenIs}
+use Rattle.choice.specs.Walk.{uncounted}
 
 -- ---- what the functions compute
 
@@ -54,6 +56,17 @@ seen_is s p a o = record {
     met = s.met || p.asked;
     asked = a.is i;
     other = o.is i;
+  };
+}
+
+-- no row leaves it as it is
+pub seen_none : (s : Seen) → SeenAfter s uncounted s
+unfolding seen_after hand_after
+seen_none s = record {
+  is = λ i. record {
+    met = sym (or_false s.met) i;
+    asked = s.asked;
+    other = s.other;
   };
 }
 

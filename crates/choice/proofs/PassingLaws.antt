@@ -31,7 +31,7 @@ use Rattle.grants.specs.Places.{place_of, PlaceIs}
 use Rattle.grants.specs.Asks.{Asks}
 use Rattle.choice.specs.declared.hands.Passing.{Passing}
 use Rattle.choice.specs.Slots.{level_of, in_slot}
-use Rattle.choice.specs.Walk.{slot_at, slot_of, standing, passing_of, is_own, passing_in, in_asked, Alike, Same, Unread, going, SlotAt, SlotIs, RowPasses, Passes, uncounted}
+use Rattle.choice.specs.Walk.{slot_at, slot_of, standing, passing_of, is_own, passing_in, in_asked, Alike, Same, Unread, going, SlotAt, SlotIs, row_stands, PlacedIs, RowPasses, Passes, uncounted}
 
 -- ---- the slot
 
@@ -98,44 +98,48 @@ in_asked_lem : (o : Option (List ℕ)) (r : Row) → is_asked o r ≡ in_asked o
 in_asked_lem none r = refl
 in_asked_lem (some c) r = refl
 
-module _ (t : List ℕ) (row : PriceRow) (at : ℕ) (table : List ℕ) (terms : Terms) {percent holds : Bool} (p : Says (eqb (letter_of row.level) base && is_percent row.value) percent)
-    (h : Says (is_day row.from && (is_day row.to && between row.from row.to terms.date.0)) holds) where
-  counts : {article : List ℕ} (q : Question) → Asks q article table terms
-      → stands q.date (row_in t row) ≡ (not percent && holds)
-  unfolding row_in
-  counts q a = ap (λ (d : ℕ). stands d (row_in t row)) a.date ∙ (λ i. not (p.is i) && h.is i)
+pub stands_is : (row : PriceRow) (d : ℕ) {percent holds : Bool} → Says (eqb (letter_of row.level) base && is_percent row.value) percent
+    → Says (is_day row.from && (is_day row.to && between row.from row.to d)) holds → Says (row_stands d row) (not percent && holds)
+stands_is row d p h = record { is = λ i. not (p.is i) && h.is i }
 
-  pub row_past : (not percent && holds) ≡ false → RowPasses table terms at (row_in t row) None
+pub placed_is : (row : PriceRow) {at slot : ℕ} {terms : Terms} {asked : Bool} → Says (in_asked (asked_of (letters_of terms.currency)) (letters_of row.currency)) asked
+    → PlacedIs terms at slot row (record {
+      slot = slot;
+      asked = asked;
+      reaches = eqb row.upto 0 || leb terms.quantity row.upto;
+      hand = record { at = at; upto = row.upto; from = row.from; rounding = row.rounding };
+    })
+placed_is row c = record { slot = refl; asked = sym c.is; reaches = refl; hand = refl }
+
+module _ (t : List ℕ) (row : PriceRow) (at : ℕ) (table : List ℕ) (terms : Terms) {b : Bool} (h : Says (row_stands terms.date.0 row) b) where
+  counts : {article : List ℕ} (q : Question) → Asks q article table terms → stands q.date (row_in t row) ≡ b
+  unfolding row_in
+  counts q a = ap (λ (d : ℕ). stands d (row_in t row)) a.date ∙ h.is
+
+  pub row_past : b ≡ false → RowPasses table terms at (row_in t row) None
   unfolding passing_of
   row_past e = record {
     below = tt;
     of = λ q a. Same (ap (λ (x : Bool). cond x (standing q at (row_in t row)) uncounted) (sym (counts q a ∙ e)));
   }
 
-  pub row_passes : (not percent && holds) ≡ true → {slot : ℕ} {asked : Bool} → SlotIs table terms (row_in t row) (Some slot)
-      → Says (in_asked (asked_of (letters_of terms.currency)) (letters_of row.currency)) asked
-      → RowPasses table terms at (row_in t row)
-      (Some (record {
-        slot = slot;
-        asked = asked;
-        reaches = eqb row.upto 0 || leb terms.quantity row.upto;
-        hand = record { at = at; upto = row.upto; from = row.from; rounding = row.rounding };
-      }))
+  pub row_passes : b ≡ true → {slot : ℕ} {p : Passing} → SlotIs table terms (row_in t row) (Some slot) → PlacedIs terms at slot row p → RowPasses table terms at (row_in t row) (Some p)
   unfolding passing_of row_in
   row_passes e s c = record {
-    below = s.below;
+    below = omega (arith, c.slot, s.below);
     of = λ q a.
         let asked-too =
-        sym c.is ∙ ap (λ (o : Option (List ℕ)). in_asked o (letters_of row.currency)) (sym a.currency) ∙ sym (in_asked_lem q.currency (row_in t row)) in
+        c.asked ∙ ap (λ (o : Option (List ℕ)). in_asked o (letters_of row.currency)) (sym a.currency) ∙ sym (in_asked_lem q.currency (row_in t row)) in
         let counts-too : true ≡ stands q.date (row_in t row) = sym (counts q a ∙ e) in
+        let reaches-too = c.reaches ∙ ap (λ (n : ℕ). eqb row.upto 0 || leb n row.upto) (sym a.quantity) in
         Same
         ((λ i.
         record {
-          slot = s.of q a i;
+          slot = (c.slot ∙ s.of q a) i;
           stands = counts-too i;
           asked = asked-too i;
-          reaches = eqb row.upto 0 || leb (sym a.quantity i) row.upto;
-          hand = record { at = at; upto = row.upto; from = row.from; rounding = row.rounding };
+          reaches = reaches-too i;
+          hand = c.hand i;
         })
         ∙ ap (λ (x : Bool). cond x (standing q at (row_in t row)) uncounted) counts-too);
   }

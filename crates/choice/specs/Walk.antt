@@ -1,11 +1,13 @@
 -- What a record that goes by is to the questions that ask so, and what the walk over the records leaves in the slots.
 use Rattle.std.specs.Prelude as Std
-use Rattle.std.specs.Prelude.{ℕ, ◌+◌, ◌*◌, ◌/◌, ◌%◌, ◌<◌, ◌≡◌, Bool, false, ◌&&◌, cond, List, eqb, ltb, length, get_or, Some, None, IfSome, unwrap_or}
+use Rattle.std.specs.Prelude.{ℕ, ◌+◌, ◌*◌, ◌/◌, ◌%◌, ◌<◌, ◌≡◌, Bool, false, not, ◌&&◌, ◌||◌, cond, List, eqb, ltb, leb, length, get_or, Some, None, IfSome, unwrap_or}
 use Rattle.std.proofs.Math.Option.{Option, some, none}
-use Rattle.rules.specs.Lists.{same, keep, if_some}
-use Rattle.rules.specs.Book.{Row, Record, as_row}
-use Rattle.rules.specs.Question.{Question}
-use Rattle.rules.specs.Choice.{reaches}
+use Rattle.rules.specs.Lists.{same, keep, if_some, between}
+use Rattle.rules.specs.Days.{is_day}
+use Rattle.rules.specs.Book.{Row, Record, as_row, base, letter_of}
+use Rattle.rules.specs.Question.{Question, asked_of, letters_of}
+use Rattle.rules.specs.Choice.{is_percent, reaches}
+use Rattle.rules.specs.declared.PriceRow.{PriceRow}
 use Rattle.rules.proofs.ChoiceLaws as Choice
 use Rattle.grants.specs.declared.terms.Terms.{Terms}
 use Rattle.grants.specs.Places.{nowhere, place_of}
@@ -89,6 +91,17 @@ pub record SlotAt (slot : ℕ) (r : Std.Option ℕ) : Type 0 where
 pub record SlotIs (table : List ℕ) (terms : Terms) (r : Row) (i : Std.Option ℕ) : Type 0 where
   pub below : IfSome i (λ s. s < no_slot)
   pub of : {article : List ℕ} (q : Question) → Asks q article table terms → unwrap_or i no_slot ≡ slot_of q r
+
+-- the fields of a row say that it counts on day d
+abbrev pub row_stands : ℕ → PriceRow → Bool
+row_stands d row = not (eqb (letter_of row.level) base && is_percent row.value) && (is_day row.from && (is_day row.to && between row.from row.to d))
+
+-- `p` is the row as one of slot i, to who asks by these terms; its record stands at `at`
+pub record PlacedIs (terms : Terms) (at i : ℕ) (row : PriceRow) (p : Passing) : Type 0 where
+  pub slot : p.slot ≡ i
+  pub asked : p.asked ≡ in_asked (asked_of (letters_of terms.currency)) (letters_of row.currency)
+  pub reaches : p.reaches ≡ (eqb row.upto 0 || leb terms.quantity row.upto)
+  pub hand : p.hand ≡ record { at = at; upto = row.upto; from = row.from; rounding = row.rounding }
 
 -- `p` is what the row r is to it, if it asks for the row's article and sort; the row's record stands at `at`
 pub record RowPasses (table : List ℕ) (terms : Terms) (at : ℕ) (r : Row) (p : Std.Option Passing) : Type 0 where

@@ -6,7 +6,7 @@ ghost use Rattle.records.specs.Ensures.{row_in, RowIs};
 ghost use Rattle.choice.specs.Block.{RowThrough, PassesThrough};
 
 use crate::hands::Passing;
-use crate::passing::{row_passing, slot_of};
+use crate::passing::{counts, placed, slot_of};
 use days::Day;
 use grants::asking::Asking;
 use records::{is_row, row_of};
@@ -20,7 +20,7 @@ pub enum Through {
     Sometimes,
 }
 
-// A row of the asked article and sort, from the day that is asked for to the last day.
+// A row of the asked article and sort, from the day that is asked for to the last day. Its condition is looked for once, whatever it is.
 fn row_through(t: &[u8], row: PriceRow, at: usize, asking: &Asking, last: Day) -> Through
     requires { RowIs t.now row }
     ensures { RowThrough asking.now.table.now asking.now.terms last.0 at (row_in t.now row) result }
@@ -28,15 +28,13 @@ fn row_through(t: &[u8], row: PriceRow, at: usize, asking: &Asking, last: Day) -
     if (last.0 < row.from) | (row.to < asking.terms.date.0) {
         return Through::Never;
     }
-    if last.0 <= row.to {
-        if let Some(passing) = row_passing(t, row, at, asking) {
-            return Through::Always(passing);
-        }
+    let Some(slot) = slot_of(t, row, asking) else {
+        return Through::Never;
+    };
+    if last.0 <= row.to && counts(row, asking.terms.date) {
+        return Through::Always(placed(row, at, slot, asking.terms));
     }
-    match slot_of(t, row, asking) {
-        Some(_) => Through::Sometimes,
-        None => Through::Never,
-    }
+    Through::Sometimes
 }
 
 // The record that stands at `at` and has the body t.

@@ -1,6 +1,7 @@
 // What a slot keeps while the records go by: whether a row in the asked currency was seen, and the best rows so far.
 ghost use Rattle.layout.specs.Ensures.{Number, Says};
-ghost use Rattle.choice.specs.Hands.{is_empty, limit_of, better_hand, HandAfter, counted, SeenAfter, TakenIs};
+ghost use Rattle.choice.specs.Hands.{is_empty, limit_of, better_hand, HandAfter, SeenAfter, TakenIs};
+ghost use Rattle.choice.specs.Walk.{going};
 
 // A row in hand: where its record stands in the book, what it is compared by, and the number of its rounding. It says by itself whether it is
 // one, and not by an `Option`: of 24 bytes, and not 32, two hundred are kept, and every row that goes by is held against them.
@@ -81,13 +82,17 @@ fn in_hand(counts: bool, old: Hand, new: Hand) -> Hand
     }
 }
 
-pub fn see(s: Seen, p: Passing) -> Seen
-    ensures { SeenAfter s (counted p) result }
+// What a slot keeps once a record has gone by, as the row that it is to a question, or as none: none leaves it as it is.
+pub fn see(s: Seen, p: Option<Passing>) -> Seen
+    ensures { SeenAfter s (going p) result }
 {
-    Seen {
-        met: s.met | p.asked,
-        asked: in_hand(p.asked & p.reaches, s.asked, p.hand),
-        other: in_hand(p.reaches, s.other, p.hand),
+    match p {
+        Some(p) => Seen {
+            met: s.met | p.asked,
+            asked: in_hand(p.asked & p.reaches, s.asked, p.hand),
+            other: in_hand(p.reaches, s.other, p.hand),
+        },
+        None => s,
     }
 }
 

@@ -31,7 +31,7 @@ fn take_in(slots: &mut [Seen; SLOTS], p: Option<Passing>)
 {
     if let Some(p) = p {
         let old = slots[p.slot];
-        slots[p.slot] = see(old, p);
+        slots[p.slot] = see(old, Some(p));
     }
 }
 

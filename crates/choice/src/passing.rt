@@ -11,12 +11,13 @@ ghost use Rattle.layout.specs.Ensures.{Says};
 ghost use Rattle.records.specs.Asks.{Accepted};
 ghost use Rattle.records.specs.Ensures.{row_in, RowIs};
 ghost use Rattle.choice.specs.Slots.{level_of};
-ghost use Rattle.choice.specs.Walk.{slot_at, SlotAt, in_asked, SlotIs, RowPasses, Passes};
+ghost use Rattle.choice.specs.Walk.{slot_at, row_stands, SlotAt, in_asked, SlotIs, PlacedIs, RowPasses, Passes};
 
 use crate::hands::{Hand, Passing};
 use crate::slots::{PLACES, level_number};
 use days::Day;
 use grants::asking::Asking;
+use grants::terms::Terms;
 use grants::{NOWHERE, place_of};
 use records::{is_row, row_of};
 use rules::{Currency, Level, PriceRow, Value};
@@ -73,18 +74,18 @@ fn is_asked(asked: Currency, currency: Currency) -> bool
     (asked != Currency(0, 0, 0)) & (currency == asked)
 }
 
-// A row of the asked article and sort, whose record stands at `at`, if it counts that day. Few hold then: only of these the condition is looked for.
-pub fn row_passing(t: &[u8], row: PriceRow, at: usize, asking: &Asking) -> Option<Passing>
-    requires { RowIs t.now row }
-    ensures { RowPasses asking.now.table.now asking.now.terms at (row_in t.now row) result }
+// Whether a row of the asked article and sort counts that day.
+pub fn counts(row: PriceRow, date: Day) -> bool
+    ensures { Says (row_stands date.0 row) result }
 {
-    let terms = asking.terms;
-    let stands = !is_percent_base(row.level, row.value) & holds(row.from, row.to, terms.date);
-    if !stands {
-        return None;
-    }
-    let slot = slot_of(t, row, asking)?;
-    Some(Passing {
+    !is_percent_base(row.level, row.value) & holds(row.from, row.to, date)
+}
+
+// A row that counts that day, once its slot is found; its record stands at `at`.
+pub fn placed(row: PriceRow, at: usize, slot: usize, terms: Terms) -> Passing
+    ensures { PlacedIs terms at slot row result }
+{
+    Passing {
         slot,
         asked: is_asked(terms.currency, row.currency),
         reaches: (row.upto == 0) | (terms.quantity <= row.upto),
@@ -94,7 +95,21 @@ pub fn row_passing(t: &[u8], row: PriceRow, at: usize, asking: &Asking) -> Optio
             from: row.from,
             rounding: row.rounding,
         },
-    })
+    }
+}
+
+// A row of the asked article and sort, whose record stands at `at`, if it counts that day. Few hold then: only of these the condition is looked for.
+// It stays a call of its own, so that the loop of a walk, which passes most records over, has nothing of it in it.
+#[inline(never)]
+pub fn row_passing(t: &[u8], row: PriceRow, at: usize, asking: &Asking) -> Option<Passing>
+    requires { RowIs t.now row }
+    ensures { RowPasses asking.now.table.now asking.now.terms at (row_in t.now row) result }
+{
+    if !counts(row, asking.terms.date) {
+        return None;
+    }
+    let slot = slot_of(t, row, asking)?;
+    Some(placed(row, at, slot, asking.terms))
 }
 
 // The record that stands at `at` and has the body t. Most are no row of the article and sort: of these the kind, the name and one byte are read.
