@@ -8,7 +8,8 @@ ghost use Rattle.std.specs.Prelude.{◌≡◌, true};
 ghost use Rattle.rules.specs.Days.{is_day};
 ghost use Rattle.period.specs.Ensures.{PeriodIs};
 
-use crate::dates::{MOST_DAYS, Period};
+use crate::dates::MOST_DAYS;
+pub use dates::Period;
 use days::Day;
 
 // The days from `start` to `end`, both among them, if they are at most 1,096.
