@@ -38,7 +38,7 @@ use Rattle.calendar.specs.Listing.{ListingIs, Refused}
 
 -- ---- refusals
 
-pub refused_is : (x : Refusal) {number : ℕ} → number ≡ number_for x → {few : 0 ≤ 1096} → Refused (number_for x) (record { stretches = record { list = replicate 1096 no_stretch; n = 0; few = few }; number = number })
+pub refused_is : (x : Refusal) {number : ℕ} → number ≡ number_for x → Refused (number_for x) (record { stretches = record { list = replicate 1096 no_stretch; n = 0 }; number = number })
 refused_is x {number} e = record {
   long = length-replicate 1096 no_stretch;
   few = omega arith;
@@ -79,9 +79,9 @@ module _ (b s : List ℕ) (ask : Ask) (end : ℕ) where
         → {ds : List ℕ} → ds ≡ days → {r : Stretches} → Lists (stretches (outcome (records_left b 5) (ask_in s ask)) ds) r
         → ListingIs listed_within (record { stretches = r; number = 0 })
     unfolding within
-    within_done k f e {r} w = record {
+    within_done k f e w = record {
       long = w.long;
-      few = r.few;
+      few = w.few;
       behind = w.behind;
       empty = λ z. absurd (z refl);
       is =

@@ -117,10 +117,11 @@ module _ {f : ℕ → Outcome} {dates : List ℕ} {marks : List Bool} where
             turned_outcome : (Walk.turned (as_stretch hand) d (f d)).outcome ≡ f d
             turned_outcome = unfold Walk.turned in refl
 
-    go_end : length dates ≤ i → {few : n + 1 ≤ 1096} → Lists (stretches f dates) (record { list = list; n = n + 1; few = few })
+    go_end : length dates ≤ i → Lists (stretches f dates) (record { list = list; n = n + 1 })
     unfolding Walk.walked
     go_end h = record {
       long = g.long;
+      few = omega (arith, g.place, g.most, g.marked.few);
       is =
           front_more list n (omega (arith, g.place, g.most, g.long, g.marked.few))
           ∙ ap (λ ds. map as_stretch (take n list) ++ Walk.walked f (as_stretch hand) ds) (sym (drop_of_length-le dates h))
@@ -171,5 +172,5 @@ module _ (dates : List ℕ) (marks : List Bool) (outcomes : List Coded.Outcome) 
           → GoingBy dates marks outcomes (set list (n + 1) r) (n + 1) (i + 1)
       by_begun w = by_turn w
 
-    pub by_end : length dates ≤ i → {few : n + 1 ≤ 1096} → ListsBy dates marks outcomes (record { list = list; n = n + 1; few = few })
+    pub by_end : length dates ≤ i → ListsBy dates marks outcomes (record { list = list; n = n + 1 })
     by_end h = record { of = λ f k. go_end (g.of f k) h }

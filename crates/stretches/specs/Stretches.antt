@@ -83,6 +83,7 @@ pub record Known (f : ℕ → Outcome) (dates : List ℕ) (marks : List Bool) (o
 -- `r` lists these stretches, and none behind them
 pub record Lists (ss : List Stretch) (r : Stretches) : Type 0 where
   pub long : length r.list ≡ most_days
+  pub few : r.n ≤ most_days
   pub is : map as_stretch (take r.n r.list) ≡ ss
   pub behind : (i : ℕ) → r.n ≤ i → get_or r.list i no_stretch ≡ no_stretch
 

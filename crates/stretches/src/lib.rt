@@ -5,7 +5,7 @@ pub mod asked;
 mod turns;
 mod walk;
 
-ghost use Rattle.std.specs.Prelude.{◌≡◌, ◌≤◌, take};
+ghost use Rattle.std.specs.Prelude.{◌≡◌, take};
 
 use days::Day;
 use rules::{Cents, Currency, Outcome};
@@ -35,13 +35,12 @@ pub const NO_STRETCH: Stretch = Stretch {
 pub struct Stretches {
     pub list: [Stretch; 1096],
     pub n: usize,
-    ghost few: { n ≤ 1096 },
 }
 
 impl Stretches {
     pub fn as_slice(&self) -> &[Stretch]
         ensures { result.now ≡ take self.now.n self.now.list }
     {
-        &self.list[..self.n]
+        &self.list[..self.n.min(self.list.len())]
     }
 }
