@@ -6,9 +6,10 @@ use native.Mathlib.Omega.{arith}
 use lib.ListN.{length, take, get_or, length-map}
 use Rattle.std.specs.Prelude.{Some, None}
 use Rattle.std.specs.Prelude as Std
+use Rattle.std.specs.Option.{unwrap_or}
 use Rattle.rules.specs.Price.{answered}
 use Rattle.rules.specs.Basket.{lines_in}
-use Rattle.layout.specs.Ensures.{Puts, PutsTo}
+use Rattle.layout.specs.Ensures.{PutsTo}
 use Rattle.layout.specs.Records.{records_left}
 use Rattle.layout.proofs.PileLaws.{Piling, pile_start, pile_room, pile_again, pile_end}
 use Rattle.questions.specs.declared.Lent.{Lent}
@@ -62,8 +63,10 @@ module _ {b s : List ℕ} {ls : List Lent} {found : Sights} {old : List ℕ} {fr
               (subst (λ (x : List ℕ). PutsTo out inv.at x new k) (sym (nth inv.basket j h lines_in)) p.put);
         }
 
-    pub lines_end : length ls ≤ j → Puts old from (all_lines b s) out
-    lines_end h = (pile_end old from (map lines_in (outcomes b s)) inv.pile (omega (arith, count))).puts
+    pub lines_end : length ls ≤ j → {r : ℕ} → r ≡ unwrap_or end from → PutsTo old from (all_lines b s) out r
+    lines_end h e =
+        let is : PutsTo old from (all_lines b s) out inv.at = pile_end old from (map lines_in (outcomes b s)) inv.pile (omega (arith, count)) in
+        subst (λ (x : ℕ). PutsTo old from (all_lines b s) out x) (sym (e ∙ ap (λ (x : Std.Option ℕ). unwrap_or x from) inv.is)) is
 
 -- those that were kept
 module _ (kept bytes : List ℕ) {e : ℕ} {end : Std.Option ℕ} (is : end ≡ Some e) (k : Kept kept end bytes) where
@@ -76,5 +79,5 @@ module _ (kept bytes : List ℕ) {e : ℕ} {end : Std.Option ℕ} (is : end ≡ 
   pub kept_room : {out : List ℕ} {at : ℕ} → HasRoom out at bytes → at + length (take e kept) ≤ length out
   kept_room h = omega (arith, ap length kept_to.is, h.fits)
 
-  pub kept_put : {old : List ℕ} {at : ℕ} {new : List ℕ} {r : ℕ} → PutsTo old at (take e kept) new r → Puts old at bytes new
-  kept_put {old} {at} {new} {r} p = subst (λ (x : List ℕ). Puts old at x new) kept_to.is p.puts
+  pub kept_put : {old : List ℕ} {at : ℕ} {new : List ℕ} {r : ℕ} → PutsTo old at (take e kept) new r → PutsTo old at bytes new r
+  kept_put {old} {at} {new} {r} p = subst (λ (x : List ℕ). PutsTo old at x new r) kept_to.is p

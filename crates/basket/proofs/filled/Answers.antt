@@ -7,4 +7,4 @@ pub returns-then-out-size : goal.returns-then-out-size
 returns-then-out-size c = no_room c.requires c.answers_to-answers.ensures c.args.out.now c.if-out-size.true
 
 pub returns : goal.returns
-returns c = all_written c.requires c.answers_to-answers.ensures _ (omega (arith, c.if-out-size.false)) c.put_bytes.ensures c.put_lines.ensures
+returns c = all_written c.requires c.answers_to-answers.ensures _ (omega (arith, c.if-out-size.false)) c.put_bytes.ensures c.put_lines.ensures.puts

@@ -7,4 +7,4 @@ pub loop-j-preserved : goal.loop-j-preserved
 loop-j-preserved c = lines_again c.loop-j.invariant (omega arith) c.answer-told.ensures
 
 pub returns : goal.returns
-returns c = lines_end c.loop-j.invariant (omega arith)
+returns c = lines_end c.loop-j.invariant (omega arith) c.unwrap_or.ensures
