@@ -13,11 +13,11 @@ ghost use Rattle.survey.specs.Window.{Windows};
 ghost use Rattle.choice.specs.Hands.{RowStands};
 ghost use Rattle.picks.specs.Picks.{RoundingsIn, RowFound, RowPicked, Filled, PicksFrom, PickedFor};
 
-use crate::chosen::Picks;
 use crate::held::held_in;
 use choice::hands::Seen;
 use choice::rows::row_at;
 use choice::{SLOTS, Shared, slots_for, slots_on};
+pub use chosen::Picks;
 use grants::asking::Asking;
 use grants::factor_at;
 use lines::Pick;
