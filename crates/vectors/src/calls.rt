@@ -1,6 +1,4 @@
 // One vector through its call. What a call may write is lent filled, and is printed whole afterwards, with some bytes behind it.
-ghost use Rattle.std.specs.Prelude.{◌≤◌};
-
 use crate::told::{Told, hex};
 use rules::TextAnswer;
 use std::io;
@@ -8,6 +6,9 @@ use std::io::Write;
 
 // The byte that stands where nothing was written.
 const FILL: u8 = 165;
+
+// So many bytes are lent at most, however many a vector asks for.
+const MOST_LENT: usize = 2000;
 
 // The calls, in the order of their bytes.
 #[derive(Clone, Copy, PartialEq, Eq)]
@@ -49,21 +50,21 @@ impl Call {
     }
 }
 
-// A call that is lent so many bytes to write to.
+// A call that is lent so many bytes to write to, or the most that are lent.
 fn with_room<W: Write, A: Told + Drop, F: FnOnce(&mut [u8]) -> A>(
     to: &mut W,
     name: &[u8],
     room: usize,
     call: F,
 ) -> io::Result<()>
-    requires room_bound { room ≤ 2000 }
-    requires callable { F.IsAlwaysCallable call }
+    requires { F.IsAlwaysCallable call }
 {
     let mut out = [FILL; 2048];
-    let answer = call(&mut out[..room]);
+    let lent = room.min(MOST_LENT);
+    let answer = call(&mut out[..lent]);
     to.write_all(name)?;
     answer.tell(to)?;
-    hex(to, &out[..room + 8])
+    hex(to, &out[..lent + 8])
 }
 
 // A call on two parts.
@@ -74,9 +75,7 @@ pub fn run<W: Write>(
     room: usize,
     a: &[u8],
     b: &[u8],
-) -> io::Result<()>
-    requires { room ≤ 2000 }
-{
+) -> io::Result<()> {
     match call {
         Call::Price => with_room(to, b"price", room, |out| plugin::rafttwine_price(a, b, out)),
         Call::Calendar => with_room(to, b"calendar", room, |out| {
@@ -114,9 +113,7 @@ pub fn derive_names<W: Write>(
     question: &[u8],
     properties: &[u8],
     relation: &[u8],
-) -> io::Result<()>
-    requires { room ≤ 2000 }
-{
+) -> io::Result<()> {
     if call == Call::PriceDerived {
         return with_room(to, b"price_derived", room, |out| {
             plugin::rafttwine_price_derived(book, question, properties, relation, out)

@@ -7,28 +7,51 @@ mod calls;
 mod rest;
 mod told;
 
-ghost use Rattle.std.specs.Prelude.{◌≤◌, ◌<◌, length, OnOk};
+ghost use Rattle.std.specs.Prelude.{◌≡◌, ◌≤◌, ◌<◌, length, IfOk, OnOk};
 
 use crate::calls::Call;
 use crate::rest::Rest;
 use std::io;
-use std::io::{BufWriter, Read, Write};
+use std::io::{Read, Write};
 
 // So many bytes are read at most.
-const MOST_READ: u64 = 524_288;
+const MOST_READ: usize = 524_288;
 
 // A call and its four numbers.
 const HEAD_SIZE: usize = 17;
 
+// Reads until what is lent is full or the input ends, and returns how many bytes it put in front.
+fn read_full(from: &mut impl Read, input: &mut [u8]) -> io::Result<usize>
+    ensures { IfOk result (λ n. n ≤ length input.new) }
+{
+    let mut n = 0;
+    while n < input.len() {
+        let more = from.read(&mut input[n..])?;
+        if more == 0 {
+            break;
+        }
+        n += more;
+    }
+    Ok(n)
+}
+
+// As many bytes as are read.
+fn zeros() -> [u8; MOST_READ]
+    ensures { length result ≡ 524_288 }
+{
+    [0; MOST_READ]
+}
+
+// Nothing is taken from the heap, and each answer is printed before the next call is made.
 fn main(rt: HostRuntime) -> io::Result<()> {
-    let mut input = Vec::new(rt.alloc());
-    rt.reader().take(MOST_READ).read_to_end(&mut input)?;
-    let mut to = BufWriter::new(rt.alloc(), io::writer(&rt))?;
-    let mut rest = Rest { bytes: &input };
+    let mut input = zeros();
+    let n = read_full(&mut rt.reader(), &mut input)?;
+    let mut to = io::writer(&rt);
+    let mut rest = Rest { bytes: &input[..n] };
     while rest.bytes.len() >= HEAD_SIZE {
         one(&mut to, &mut rest)?;
     }
-    to.flush()
+    Ok(())
 }
 
 // The next vector.
@@ -38,7 +61,7 @@ fn one(to: &mut impl Write, rest: &mut Rest<'_>) -> io::Result<()>
 {
     let call = Call::from(rest.part(1)[0]);
     let number = rest.number() as u32;
-    let room = rest.number().min(2000);
+    let room = rest.number();
     let first_size = rest.number();
     let second_size = rest.number();
     let a = rest.part(first_size);

@@ -9,11 +9,23 @@ pub trait Told {
     fn tell(&self, to: &mut impl Write) -> io::Result<()>;
 }
 
+// So many bytes are put into hexadecimal at once.
+const AT_ONCE: usize = 2048;
+
+fn digits_of(b: u8) -> [u8; 2] {
+    let digits = b"0123456789abcdef";
+    [digits[(b / 16) as usize], digits[(b % 16) as usize]]
+}
+
 // Bytes in hexadecimal.
 pub fn hex(to: &mut impl Write, bytes: &[u8]) -> io::Result<()> {
     to.write_all(b" ")?;
-    for b in bytes {
-        write!(to, "{b:02x}")?;
+    let mut text = [[0; 2]; AT_ONCE];
+    for part in bytes.chunks(AT_ONCE) {
+        for (digits, b) in text.iter_mut().zip(part) {
+            *digits = digits_of(*b);
+        }
+        to.write_all(text[..part.len()].as_flattened())?;
     }
     Ok(())
 }
