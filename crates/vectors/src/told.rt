@@ -30,11 +30,20 @@ pub fn hex(to: &mut impl Write, bytes: &[u8]) -> io::Result<()> {
     Ok(())
 }
 
+// A currency or a unit in hexadecimal: for three bytes, no room is made for more.
+fn three(to: &mut impl Write, bytes: &[u8]) -> io::Result<()> {
+    to.write_all(b" ")?;
+    for b in bytes {
+        to.write_all(&digits_of(*b))?;
+    }
+    Ok(())
+}
+
 impl Told for PriceAnswer {
     fn tell(&self, to: &mut impl Write) -> io::Result<()> {
         write!(to, " {} {} {}", self.number, self.unit, self.total)?;
         write!(to, " {} {} {}", self.lines, self.unused, self.unused_count)?;
-        hex(to, &self.currency)
+        three(to, &self.currency)
     }
 }
 
@@ -43,7 +52,7 @@ impl Told for DerivedAnswer {
         write!(to, " {} {} {}", self.number, self.unit, self.total)?;
         write!(to, " {} {}", self.lines, self.place)?;
         write!(to, " {} {}", self.unused, self.unused_count)?;
-        hex(to, &self.currency)
+        three(to, &self.currency)
     }
 }
 
@@ -72,7 +81,7 @@ impl Told for PackagingAnswer {
             write!(to, " {value}")?;
         }
         for unit in self.units.chunks(3) {
-            hex(to, unit)?;
+            three(to, unit)?;
         }
         Ok(())
     }
