@@ -173,4 +173,4 @@ module _ (dates : List ℕ) (marks : List Bool) (outcomes : List Coded.Outcome) 
       by_begun w = by_turn w
 
     pub by_end : length dates ≤ i → ListsBy dates marks outcomes (record { list = list; n = n + 1 })
-    by_end h = record { of = λ f k. go_end (g.of f k) h }
+    by_end h = record { few = omega (arith, g.few, g.place, g.most); of = λ f k. go_end (g.of f k) h }

@@ -101,6 +101,7 @@ pub record Going (f : ℕ → Outcome) (dates : List ℕ) (marks : List Bool) (l
 -- ---- whatever the outcomes of days are, as long as they are known
 
 pub record ListsBy (dates : List ℕ) (marks : List Bool) (outcomes : List Coded.Outcome) (r : Stretches) : Type 0 where
+  pub few : r.n ≤ most_days
   pub of : (f : ℕ → Outcome) → Known f dates marks outcomes → Lists (stretches f dates) r
 
 -- the days before i have gone by
