@@ -47,6 +47,16 @@ refused_is x {number} e = record {
   is = rw (e, ne_eqb (number_for x) 0 (has_number x));
 }
 
+-- by any number but 0
+pub refused_by : {number : ℕ} → (number ≡ 0 → ⊥) → {r : Stretches} → r.list ≡ replicate 1096 no_stretch → r.n ≡ 0 → Refused number (record { stretches = r; number = number })
+refused_by {number} h {r} list n = record {
+  long = ap length list ∙ length-replicate 1096 no_stretch;
+  few = omega (arith, n);
+  behind = λ i l. rw list (all_same 1096 i no_stretch);
+  empty = λ z. n;
+  is = rw (ne_eqb number 0 h);
+}
+
 -- ---- an accepted book and question
 
 module _ (b s : List ℕ) (ask : Ask) (end : ℕ) where

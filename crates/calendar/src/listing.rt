@@ -1,4 +1,5 @@
 // The stretches that a call asks for, or its refusal: 1, 2, 9 and 3, in this order.
+ghost use Rattle.std.specs.Prelude.{◌<◌};
 ghost use Rattle.layout.specs.Records.{records_left};
 ghost use Rattle.question.specs.Asked.{ask_in, AskIs};
 ghost use Rattle.survey.specs.Survey.{FoundIs};
@@ -20,6 +21,18 @@ use survey::entrance::enter;
 pub struct Listing {
     pub stretches: Stretches,
     pub number: u8,
+}
+
+// Nothing listed, beside the number of a refusal.
+pub fn refused(number: u8) -> Listing
+    requires { 0 < number }
+    ensures { Refused number result }
+{
+    let stretches = Stretches {
+        list: [NO_STRETCH; 1096],
+        n: 0,
+    };
+    Listing { stretches, number }
 }
 
 impl From<Refusal> for Listing {
