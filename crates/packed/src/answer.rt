@@ -11,7 +11,6 @@ use crate::sums::Sums;
 use rules::{PackagingAnswer, Refusal};
 
 // Zeros beside the number of a refusal.
-#[tactic(auto, using(crate::proofs::AnswerLaws::refusal_is))]
 pub fn refusal(number: u8) -> PackagingAnswer
     ensures { result ≡ shown (refused number) }
 {

@@ -112,7 +112,6 @@ fn values_after(held: [i64; 8], new: [i64; 8]) -> [i64; 8]
 }
 
 // Whatever its units: `agree` says whether they went with those held.
-#[tactic(auto, using(crate::proofs::SumLaws::added))]
 pub fn add_pack(s: Sums, p: Packing) -> Sums
     requires { AddableValues s.values p.values }
     ensures { Added s p result }

@@ -81,11 +81,11 @@ module _ {s : List ℕ} {n : ℕ} {found : Option Part} {at : ℕ} (inv : Lookin
     unfolding after
     look_broken h g = record { is = sym inv.rest ∙ ap (after found n) (entries_broken s at p h g) }
 
-    pub look_again : {next found' : Option Part} → 1 ≤ e → next ≡ seen (entry_of n (entry_at s at e ∷ [])) → found' ≡ option_or found next → Looking s n found' e
-    look_again {next} g q r =
+    pub look_again : {found' : Option Part} → 1 ≤ e → found' ≡ option_or found (seen (entry_of n (entry_at s at e ∷ []))) → Looking s n found' e
+    look_again g r =
         record {
           fits = (p.inside g).fits;
-          rest = ap (λ (x : Option Part). after x n (entries_from s e)) (r ∙ ap (option_or found) q)
+          rest = ap (λ (x : Option Part). after x n (entries_from s e)) r
               ∙ (sym (after_more found n (entry_at s at e) (entries_from s e)) ∙ (ap (after found n) (sym (entries_step s at p g)) ∙ inv.rest));
         }
 

@@ -2,6 +2,7 @@
 #![tactic(auto)]
 
 ghost use Rattle.std.specs.Prelude.{◌≡◌, [], ◌∷◌, ◌+◌, ◌≤◌, length};
+ghost use Rattle.std.specs.Option.{option_or};
 ghost use Rattle.rules.specs.Lists.{is_some};
 ghost use Rattle.rules.specs.Refusals.{refused};
 ghost use Rattle.rules.specs.Reasons.{number_for};
@@ -40,6 +41,17 @@ fn hit(s: &[u8], at: usize, end: usize, number: u32) -> Option<Part>
     None
 }
 
+// What was found stays: an entry that comes later is looked at only where nothing was.
+fn first_of(found: Option<Part>, s: &[u8], at: usize, end: usize, number: u32) -> Option<Part>
+    requires { EntryIn s.now at end }
+    ensures { result ≡ option_or found (seen (entry_of number (entry_at s.now at end ∷ []))) }
+{
+    match found {
+        Some(text) => Some(text),
+        None => hit(s, at, end, number),
+    }
+}
+
 // The first text that has the number, if one has it. One pass both looks for it and judges the whole book: a book that is broken behind the
 // text found is broken.
 fn look(s: &[u8], number: u32) -> Result<Option<Part>, Refusal>
@@ -54,7 +66,7 @@ fn look(s: &[u8], number: u32) -> Result<Option<Part>, Refusal>
         let Some(end) = entry_end(s, at) else {
             return Err(Refusal::BrokenBook);
         };
-        found = found.or(hit(s, at, end, number));
+        found = first_of(found, s, at, end, number);
         at = end;
     }
     Ok(found)

@@ -15,7 +15,7 @@ pub returns-in_default : goal.returns-in_default
 returns-in_default c = look_broken c.loop-at.invariant c.in_default.ensures c.loop-at-test.true (search rules)
 
 pub loop-at-preserved : goal.loop-at-preserved
-loop-at-preserved c = look_again c.loop-at.invariant c.in-Some.ensures.0 c.in-Some.ensures.1 c.hit.ensures c.or-found.ensures
+loop-at-preserved c = look_again c.loop-at.invariant c.in-Some.ensures.0 c.in-Some.ensures.1 c.first_of-found.ensures
 
 pub returns : goal.returns
 returns c = search laws
