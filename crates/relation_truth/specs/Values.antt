@@ -1,5 +1,6 @@
 -- The values of operands as code has them.
-use Rattle.std.specs.Prelude.{ℕ, zero, suc, ◌+◌, ◌-◌, ◌≤◌, ◌<◌, ◌≡◌, Bool, true, false, List, [], ◌∷◌, map, length, Option, None, Some}
+use Rattle.std.specs.Prelude.{ℕ, zero, suc, ◌+◌, ◌-◌, ◌≤◌, ◌<◌, ◌≡◌, Bool, true, false, List, [], ◌∷◌, map, length, Option, None, Some, FitsSigned, ⊤}
+use Rattle.std.specs.Int.{Width}
 use Rattle.std.proofs.Math.Option as Maths
 use Rattle.rules.specs.Lists.{if_some}
 use Rattle.rules.specs.Bytes.{raise}
@@ -67,6 +68,12 @@ constant_in (Number z) = Grammar.Number z
 abbrev pub value_in : Option Constant → Maths.Option Grammar.Constant
 value_in None = Maths.none
 value_in (Some c) = Maths.some (constant_in c)
+
+-- where it is a number, it fits so wide a number with a sign
+abbrev pub NumberFits : Width → Option Constant → Type 0
+NumberFits w None = ⊤
+NumberFits w (Some (Text v)) = ⊤
+NumberFits w (Some (Number z)) = FitsSigned w z
 
 -- r is this value
 pub record ConstantIs (o : Maths.Option Grammar.Constant) (r : Option Constant) : Type 0 where

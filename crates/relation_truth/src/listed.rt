@@ -1,9 +1,10 @@
 // A value as the list of properties has it, behind its kind byte: 0 none, 1 a string, 2 a number of eight bytes.
 ghost use Rattle.std.specs.Prelude.{◌≡◌, ◌+◌, ◌≤◌, length, take, drop, get_or};
+ghost use Rattle.std.specs.Int.{w64};
 ghost use Rattle.rules.specs.Bytes.{big, signed_of};
 ghost use Rattle.layout.specs.Ensures.{Number};
 ghost use Rattle.property_list.specs.Listed.{ValueStands, value_at};
-ghost use Rattle.relation_truth.specs.Values.{ConstantIs};
+ghost use Rattle.relation_truth.specs.Values.{ConstantIs, NumberFits};
 
 use crate::values::Constant;
 use layout::numbers::four_at;
@@ -32,7 +33,8 @@ fn number_at(p: &[u8], at: usize) -> i64
 // The value whose kind byte stands at `at`.
 pub fn listed_value<'a>(p: &'a [u8], at: usize) -> Option<Constant<'a>>
     requires { ValueStands p.now at }
-    ensures { ConstantIs (value_at (get_or p.now at 0) p.now (at + 1)) result }
+    ensures constant_is { ConstantIs (value_at (get_or p.now at 0) p.now (at + 1)) result }
+    ensures number_fits { NumberFits w64 result }
 {
     match p[at] {
         0 => None,

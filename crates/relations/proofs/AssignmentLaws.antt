@@ -35,7 +35,7 @@ use Rattle.relations.specs.declared.told.Refused.{Refused}
 use Rattle.relations.specs.Told.{bad_relation}
 use Rattle.relations.specs.Expected.{wants_variable, wants_becomes, wants_string, wants_if, word_in}
 use Rattle.relations.specs.Reading.{OrOver, OrStop, DepthAt}
-use Rattle.relations.specs.Assignments.{part_in, AssignmentStop, HeadOver, BehindIs, BehindOver, IfOver, IfStop, AssignmentOver}
+use Rattle.relations.specs.Assignments.{part_in, AssignmentStop, HeadOver, BehindIs, BehindOver, IfOver, IfStop, IfRefused, AssignmentOver}
 use Rattle.relations.proofs.ExpectedLaws.{through, heard_ahead, word_least, word_last, word_token, here_least, here_last, here_token}
 use Rattle.relations.proofs.JoinLaws.{join_end}
 
@@ -125,14 +125,16 @@ pub if_end : {s : List ℕ} {at i : ℕ} → Gap s at i → length s ≤ i → B
 if_end g l = record { is = record { joined = join_end g l; no_and = λ e. cc; no_or = λ e. cc } }
 
 module _ {s : List ℕ} {at i : ℕ} (g : Gap s at i) where
-  pub if_none : {e : Stop} → NothingHeard wants_if s i e → IfStop s at (bad_relation e.at)
+  pub if_none : {e : Stop} → NothingHeard wants_if s i e → IfRefused s at (bad_relation e.at)
   unfolding wanted_by next
   if_none h =
       record {
+        stop = record {
+          on = through g.on h.on;
+          most = h.most;
+          wrong = λ d p v. gap_moves g deepest (AtValue d p v) ∙ (h.wrong refl).stops deepest (AtValue d p v) refl (and_false (eqb (get_or s i 0) (letter "(")));
+        };
         reason = refl;
-        on = through g.on h.on;
-        most = h.most;
-        wrong = λ d p v. gap_moves g deepest (AtValue d p v) ∙ (h.wrong refl).stops deepest (AtValue d p v) refl (and_false (eqb (get_or s i 0) (letter "(")));
       }
 
   module _ {t : Found} (h : TokenHeard wants_if s i t) {k : ℕ} (told : k ≡ word_in t.kind) where

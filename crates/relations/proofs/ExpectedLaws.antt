@@ -1,7 +1,7 @@
 -- What comes at a position is one of the things that may, and where nothing does the reader stops.
 use Prim.Native.Nat.{ℕ, zero, suc, ◌-◌, ◌≤◌, ◌<◌}
 use mathlib.Core.Path.{◌≡◌, refl, sym, ◌∙◌, ap, subst}
-use mathlib.Core.Bool.{true, false≢true}
+use mathlib.Core.Bool.{true, false, false≢true}
 use mathlib.Core.List.{List, [], ◌∷◌, ◌++◌, map}
 use mathlib.Core.Option.{some}
 use native.Mathlib.Omega.{arith}
@@ -18,7 +18,7 @@ use Rattle.relation_words.specs.declared.tokens.Token.{Token as Found}
 use Rattle.relation_words.specs.declared.tokens.Stop.{Stop}
 use Rattle.relation_words.specs.Words.{word_of}
 use Rattle.relation_words.specs.Wanted.{Wanted, wanted_by, TokenHere}
-use Rattle.relation_words.specs.Heard.{whole_of, may_hear, TokenHeard, TokenHeardOn, NothingHeardOn}
+use Rattle.relation_words.specs.Heard.{whole_of, some_word, may_hear, TokenHeard, TokenHeardOn, NothingHeardOn}
 use Rattle.relation_truth.specs.Values.{operand_of, operand_by, OperandIn, sign_in}
 use Rattle.relations.specs.Expected.{wants_name, wants_operand, wants_constant, wants_open, wants_mark, wants_sign, only_words, word_in, is_named}
 use Rattle.relations.specs.Reading.{OperandAt}
@@ -99,6 +99,10 @@ module _ {ws : List (List ℕ)} {s : List ℕ} {at : ℕ} {t : Found} (h : Token
   pub here_token : (k : ℕ) → word_in t.kind ≡ k → (u : Token) → token_of (suc at) (word_of ws k) ≡ some u → TokenHere s at u t.to
   here_token k e u f = h.word (word_in t.kind) (is_word ws t.kind h.asked) u (ap (λ j. token_of (suc at) (word_of ws j)) e ∙ f)
 
+-- where no word may come, none came
+pub no_word_heard : {w : Wanted} {s : List ℕ} {at : ℕ} {t : Found} → some_word w.words ≡ false → TokenHeardOn w s at t → (k : ℕ) → t.kind ≡ Word k → ⊥
+no_word_heard {w} f h k e = false≢true (sym f ∙ (ap (may_hear w) (sym e) ∙ h.asked))
+
 -- it stands inside the text
 pub heard_inside : {w : Wanted} {s : List ℕ} {at : ℕ} {t : Found} → TokenHeardOn w s at t → OperandIn s t
 heard_inside h = record { on = h.further; most = h.most; closed = h.closed; small = h.small }
@@ -125,7 +129,7 @@ module _ {s : List ℕ} {at : ℕ} {t : Found} where
   is_constant h = go t.kind refl
     where
       go : (k : Kind) → t.kind ≡ k → ConstantAt s at t
-      go (Word j) e = absurd (false≢true (ap (may_hear wants_constant) (sym e) ∙ h.asked))
+      go (Word j) e = absurd (no_word_heard refl h j e)
       go AName e = absurd (false≢true (ap (may_hear wants_constant) (sym e) ∙ h.asked))
       go AString e = record { constant = Text (part s (suc t.from) (t.to - 1)); is = by_kind s t e; token = h.quoted e }
       go (Figure below size) e = record { constant = Number (whole_of below size); is = by_kind s t e; token = h.whole below size e }
@@ -134,7 +138,7 @@ module _ {s : List ℕ} {at : ℕ} {t : Found} where
   is_operand h = record { token = go t.kind refl; begins = h.begins; inside = heard_inside h }
     where
       go : (k : Kind) → t.kind ≡ k → TokenAt (suc at) (drop at s) (operand_token (operand_of s t)) (suc t.to) (drop t.to s)
-      go (Word j) e = absurd (false≢true (ap (may_hear wants_operand) (sym e) ∙ h.asked))
+      go (Word j) e = absurd (no_word_heard refl h j e)
       go AName e = operand_at_lem s t AName e (h.name e)
       go AString e = operand_at_lem s t AString e (h.quoted e)
       go (Figure below size) e = operand_at_lem s t (Figure below size) e (h.whole below size e)

@@ -20,7 +20,7 @@ use Rattle.relation_words.proofs.TokenLaws.{gap_moves, gap_token}
 use Rattle.relations.specs.declared.conditions.Next.TheVariants.{And, Or, Closed, End}
 use Rattle.relations.specs.Told.{bad_relation}
 use Rattle.relations.specs.Expected.{only_words, closes, wants_join, word_in}
-use Rattle.relations.specs.Reading.{Joined, JoinStop}
+use Rattle.relations.specs.Reading.{Joined, JoinRefused}
 use Rattle.relations.proofs.ExpectedLaws.{through, here_least, here_last, here_token}
 
 pub byte_behind : {s : List ℕ} {at i : ℕ} → Gap s at i → i < length s → ByteAt s i
@@ -61,17 +61,19 @@ closes_token zero n = refl
 closes_token (suc d) n = refl
 
 module _ (d : ℕ) {s : List ℕ} {at i : ℕ} (g : Gap s at i) where
-  pub join_none : {e : Stop} → NothingHeard (wants_join d) s i e → JoinStop d s at (bad_relation e.at)
+  pub join_none : {e : Stop} → NothingHeard (wants_join d) s i e → JoinRefused d s at (bad_relation e.at)
   unfolding next
   join_none h =
       record {
+        stop = record {
+          on = through g.on h.on;
+          most = h.most;
+          wrong =
+              λ w os a k.
+              gap_moves g deepest (AtSingle w os a)
+              ∙ (h.wrong (plain_join d)).stops deepest (AtSingle w os a) (join_wants w os a d k) (and_false (eqb (get_or s i 0) (letter "(")));
+        };
         reason = refl;
-        on = through g.on h.on;
-        most = h.most;
-        wrong =
-            λ w os a k.
-            gap_moves g deepest (AtSingle w os a)
-            ∙ (h.wrong (plain_join d)).stops deepest (AtSingle w os a) (join_wants w os a d k) (and_false (eqb (get_or s i 0) (letter "(")));
       }
 
   module _ {t : Found} (h : TokenHeard (wants_join d) s i t) {k : ℕ} (told : k ≡ word_in t.kind) where

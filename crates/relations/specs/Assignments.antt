@@ -64,14 +64,18 @@ pub record BehindOver (s : List ℕ) (at : ℕ) (r : Behind) : Type 0 where
   pub is : BehindIs s at r
 
 pub record IfStop (s : List ℕ) (at : ℕ) (e : Refused) : Type 0 where
-  pub reason : e.refusal ≡ BadRelation
   pub on : at ≤ e.at
   pub most : e.at ≤ length s
   pub wrong : (d : Option (Chain Assignment)) (p : ℕ) (v : List ℕ) → run deepest (suc at) (Between (AtValue d p v)) (drop at s) ≡ refused_as e
 
+-- and 14 is why
+pub record IfRefused (s : List ℕ) (at : ℕ) (e : Refused) : Type 0 where
+  pub stop : IfStop s at e
+  pub reason : e.refusal ≡ BadRelation
+
 abbrev pub IfRead : List ℕ → ℕ → Result Behind Refused → Type 0
 IfRead s at (Ok r) = BehindOver s at r
-IfRead s at (Err e) = IfStop s at e
+IfRead s at (Err e) = IfRefused s at e
 
 -- to its end; and whether it grants its name
 pub record AssignmentOver (ps : List Held) (s : List ℕ) (at : ℕ) (r : Assigned) : Type 0 where

@@ -148,14 +148,18 @@ pub record Joined (d : ℕ) (s : List ℕ) (at : ℕ) (next : Next) (after : ℕ
   pub further : (next ≡ End → ⊥) → at < after
 
 pub record JoinStop (d : ℕ) (s : List ℕ) (at : ℕ) (e : Refused) : Type 0 where
-  pub reason : e.refusal ≡ BadRelation
   pub on : at ≤ e.at
   pub most : e.at ≤ length s
   pub wrong : (w : Around) (os : Option OrChain) (a : AndChain) → length w.outer ≡ d → run deepest (suc at) (Between (AtSingle w os a)) (drop at s) ≡ refused_as e
 
+-- and 14 is why
+pub record JoinRefused (d : ℕ) (s : List ℕ) (at : ℕ) (e : Refused) : Type 0 where
+  pub stop : JoinStop d s at e
+  pub reason : e.refusal ≡ BadRelation
+
 abbrev pub JoinRead : ℕ → List ℕ → ℕ → Result Join Refused → Type 0
 JoinRead d s at (Ok j) = Joined d s at j.next j.after
-JoinRead d s at (Err e) = JoinStop d s at e
+JoinRead d s at (Err e) = JoinRefused d s at e
 
 pub record AndOver (ps : List Held) (d : ℕ) (s : List ℕ) (at : ℕ) (r : Chain) : Type 0 where
   pub on : at ≤ r.to
